@@ -10,7 +10,7 @@ use Rattle.dp_conf.specs.Words.{same_text}
 use Rattle.dp_commands.specs.Script.{number_within}
 use Rattle.dp_conf.specs.Numbers.{most_priority}
 use Rattle.dp_program.specs.Entries.{fault_named, fault_numbered}
-use Rattle.dp_program.specs.Requests.{RequestOf, joined, check, check_queues, check_both, listing, auditing, auditing_by, matching, explaining, run, run_wide, debug, reaching, QuestionOf}
+use Rattle.dp_program.specs.Requests.{RequestOf, joined, check, check_files, check_queues, check_both, listing, auditing, auditing_by, matching, explaining, run, run_wide, debug, reaching, QuestionOf}
 use Rattle.dp_program.specs.Texts.{OfRun}
 use Rattle.dp_wide_runs.specs.Kinds.{KindsTold, all, only, except, are_kinds}
 
@@ -69,9 +69,13 @@ with_lookup app =
     with_rule (with_rule (with_rule app (required_word (codes "CONTEXT"))) (required_word (codes "TEXT")))
     (word_or (codes "PRIORITY") (codes "1"))
 
--- `check [--queues QUEUES] [--explain] [FILE]`
+-- a command with the flag that asks for the wide table, and for files as people have them
+abbrev pub with_asterisk : App → App
+with_asterisk app = with_rule app (flag (codes "asterisk") (codes "asterisk"))
+
+-- `check [--asterisk] [--queues QUEUES] [--explain] [FILE]`
 abbrev pub check_app : App
-check_app = with_explain (with_rule (with_queues (new_app (codes "check"))) (free_word (codes "FILE")))
+check_app = with_explain (with_rule (with_queues (with_asterisk (new_app (codes "check")))) (free_word (codes "FILE")))
 
 -- `list [--explain] FILE`
 abbrev pub list_app : App
@@ -89,10 +93,6 @@ explain_app = with_explain (with_rule (new_app (codes "explain")) (required_word
 -- a command with the flag that asks for more above the lines of a run
 abbrev pub with_verbose : App → App
 with_verbose app = with_rule app (flag (codes "verbose") (codes "verbose"))
-
--- a command with the flag that asks for the wide table
-abbrev pub with_asterisk : App → App
-with_asterisk app = with_rule app (flag (codes "asterisk") (codes "asterisk"))
 
 -- a command with the words that name kinds of findings: those that are told, and those that are not
 abbrev pub with_kinds : App → App
@@ -176,9 +176,23 @@ check_request None (Some queues) = Some (check_queues queues)
 check_request (Some file) None = Some (check file)
 check_request (Some file) (Some queues) = Some (check_both file queues)
 
--- the same, by its words
+-- whether a file of queues is named, which cannot stand beside `--asterisk` of `check`
+abbrev pub has_queues : List Row → Bool
+has_queues words = is_some (first_of (codes "QUEUES") words)
+
+-- what `check --asterisk` asks for, by whether a file of queues is named too
+abbrev pub check_files_in : List Row → Bool → Option RequestOf
+check_files_in words true = None
+check_files_in words false = option_map check_files (first_of (codes "FILE") words)
+
+-- what `check` asks for, by its words and by whether files are read as people have them
+abbrev pub check_over : List Row → Bool → Option RequestOf
+check_over words true = check_files_in words (has_queues words)
+check_over words false = check_request (first_of (codes "FILE") words) (first_of (codes "QUEUES") words)
+
+-- what `check` asks for, by its words
 abbrev pub check_asked : List Row → Option RequestOf
-check_asked words = check_request (first_of (codes "FILE") words) (first_of (codes "QUEUES") words)
+check_asked words = check_over words (is_set (codes "asterisk") words)
 
 -- what `list` asks for, by its words
 abbrev pub list_asked : List Row → Option RequestOf

@@ -9,7 +9,7 @@ use Rattle.clap.specs.declared.error.kind.ErrorKind.TheVariants.{ArgumentConflic
 use Rattle.dp_conf.specs.Words.{same_text}
 use Rattle.dp_program.specs.Requests.{RequestOf}
 use Rattle.dp_wide_runs.specs.Kinds.{are_kinds}
-use Rattle.dp_cli.specs.CommandLine.{pbx_app, asked_by, fault_in, has_threads, is_set, priority_in, threads_in}
+use Rattle.dp_cli.specs.CommandLine.{pbx_app, asked_by, fault_in, has_queues, has_threads, is_set, priority_in, threads_in}
 
 -- the kind of an invalid value where there is no number
 abbrev pub unless_number : Option ℕ → Kinds
@@ -25,6 +25,15 @@ number_kinds number_in (Some word) = unless_number (number_in word)
 abbrev pub conflict_kinds : Bool → Kinds
 conflict_kinds true = ArgumentConflict ∷ []
 conflict_kinds false = []
+
+-- those of `check`, by whether files are read as people have them
+abbrev pub check_kinds_over : List Row → Bool → Kinds
+check_kinds_over words true = conflict_kinds (has_queues words)
+check_kinds_over words false = []
+
+-- those of `check`
+abbrev pub check_kinds : List Row → Kinds
+check_kinds words = check_kinds_over words (is_set (codes "asterisk") words)
 
 -- those of `run`, by whether the wide table is asked for
 abbrev pub run_kinds_over : List Row → Bool → Kinds
@@ -51,11 +60,11 @@ audit_kinds_by words (Some wanted) (Some unwanted) = ArgumentConflict ∷ []
 abbrev pub audit_kinds : List Row → Kinds
 audit_kinds words = audit_kinds_by words (first_of (codes "KINDS") words) (first_of (codes "UNWANTED") words)
 
--- those of a command: of the priority of `match`, of the words of `run` beside each other and its threads, of the kinds of `audit`, and of
--- the number of `explain`
+-- those of a command: of the words of `check` beside each other, of the priority of `match`, of the words of `run` beside each other and its
+-- threads, of the kinds of `audit`, and of the number of `explain`
 abbrev pub command_kinds : List ℕ → List Row → Kinds
 command_kinds name words =
-    if same_text name (codes "check") then []
+    if same_text name (codes "check") then check_kinds words
     else if same_text name (codes "list") then []
     else if same_text name (codes "match") then number_kinds priority_in (first_of (codes "PRIORITY") words)
     else if same_text name (codes "run") then run_kinds words

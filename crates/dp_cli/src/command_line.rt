@@ -17,6 +17,7 @@ ghost use Rattle.dp_cli.specs.CommandLine as spec;
 ghost use Rattle.dp_cli.specs.Refusals as refusals;
 
 use crate::audit_words::audit_request;
+use crate::check_words::check_request;
 use crate::commands::{
     check_of_dialplan, explain_command, match_command, pbx_command, run_command,
 };
@@ -24,7 +25,7 @@ use clap::error::ErrorKind;
 use clap::{ArgMatches, Command, Error};
 use dp_commands::number_within;
 use dp_plan::{MOST_PRIORITY, NoMemory, Priority};
-use dp_program::{CheckFiles, FaultNumber, Lookup, ReachQuestion, Request, RunFiles};
+use dp_program::{FaultNumber, Lookup, ReachQuestion, Request, RunFiles};
 use std::alloc::Global;
 
 /// What a command line asks for.
@@ -147,20 +148,6 @@ pub(crate) fn is_set(given: &ArgMatches<'_>, name: &str) -> bool
     match word_of(given, name) {
         Some(word) => word == "true",
         None => false,
-    }
-}
-
-/// What the words of `check` ask for, or None where they name no file.
-fn check_request<'a>(given: &ArgMatches<'a>) -> Option<Request<'a>>
-    ensures { option_map request_asked result ≡ spec.check_asked (rows_of (found_of given.now)) }
-{
-    match (word_of(given, "FILE"), word_of(given, "QUEUES")) {
-        (None, None) => None,
-        (None, Some(queues)) => Some(Request::CheckQueues { queues }),
-        (Some(file), None) => Some(Request::Check { file }),
-        (Some(plan), Some(queues)) => Some(Request::CheckBoth {
-            files: CheckFiles { plan, queues },
-        }),
     }
 }
 
@@ -348,7 +335,7 @@ fn command_request<'a>(
     ensures kinds { FailsBy (refusals.command_kinds name.now (rows_of (found_of given.now))) result }
 {
     match name {
-        "check" => Ok(check_request(given)),
+        "check" => check_request(alloc, given),
         "list" => Ok(list_request(given)),
         "match" => match_request(alloc, given),
         "run" => run_request(alloc, given),

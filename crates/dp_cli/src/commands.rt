@@ -228,7 +228,7 @@ fn with_command<'a>(
 }
 
 /// The command `check`.
-fn check_command<'a>(alloc: Global) -> Result<Command<'a>, NoMemory>
+pub(crate) fn check_command<'a>(alloc: Global) -> Result<Command<'a>, NoMemory>
     ensures { Makes spec.check_app result }
 {
     let check = command_of(
@@ -236,6 +236,11 @@ fn check_command<'a>(alloc: Global) -> Result<Command<'a>, NoMemory>
         "check",
         "Load a dialplan, queues or both, and print notes and counts",
         CHECK_NOTES,
+    );
+    let check = with_asterisk(
+        alloc,
+        check,
+        "Read the files that the dialplan includes, templates and block comments, and print every fault",
     );
     let check = with_queues(alloc, check, "The queues, as queues.conf");
     let file = free_word(alloc, "FILE", "The dialplan, as extensions.conf");

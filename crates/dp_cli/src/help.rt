@@ -28,6 +28,10 @@ Prints `note LINE KIND` for each line that is dropped and for each include that 
 --queues a line with the count of queues follows; without FILE it stands alone. A file that does not load has its first fault
 on standard error, with its line, and the status 1.
 
+With --asterisk the file is read as Asterisk reads it: with the files that it includes, templates, block comments, and
+priorities such as `n+1`. Each note and each fault is printed with the line of the file that it is about, and not only the
+first fault. The last line is the counts, or `N faults` with the status 1.
+
 Example:
   $ pbx check extensions.conf
   note 13 UnknownContext

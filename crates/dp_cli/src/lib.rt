@@ -2,6 +2,7 @@
 #![tactic(auto)]
 
 mod audit_words;
+mod check_words;
 mod command_line;
 mod commands;
 mod help;

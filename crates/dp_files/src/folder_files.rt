@@ -99,8 +99,8 @@ fn beside(alloc: Global, folder: Option<&[u8]>, name: &[u8]) -> Result<Text, NoM
     Ok(Text::new(path))
 }
 
-/// The path of a name.
-fn path_of(alloc: Global, first: &[u8], name: &[u8]) -> Result<Text, NoMemory>
+/// The path at which the file of a name is opened, by the path of the first file. The error comes only where a growth was refused.
+pub fn path_of(alloc: Global, first: &[u8], name: &[u8]) -> Result<Text, NoMemory>
     ensures { IfOk result (λ path. path ≡ spec.path_of first.now name.now) }
 {
     if is_path(first, name) {

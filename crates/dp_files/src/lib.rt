@@ -36,7 +36,7 @@ pub use dialplan_text::{make_dialplan, text_of};
 pub use directive::included_name;
 pub use dp_conf::NoMemory;
 pub use file_map::{FileMap, NamedText};
-pub use folder_files::{FolderFiles, read_folder_dialplan};
+pub use folder_files::{FolderFiles, path_of, read_folder_dialplan};
 pub use general_text::read_general;
 pub use header::{SectionHeader, header_text, read_header};
 pub use known_text::{KnownText, NameList};

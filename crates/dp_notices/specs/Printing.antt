@@ -4,6 +4,7 @@ use Rattle.std.specs.List.{flat_map}
 use Rattle.std.specs.Option.{option_map_or}
 use Rattle.dp_conf.specs.Lines.{content_of}
 use Rattle.dp_files.specs.Directives.{directive_of, included_name}
+use Rattle.dp_files.specs.FolderFiles.{path_of}
 use Rattle.dp_files.specs.declared.remark.Fault.{Fault}
 use Rattle.dp_files.specs.declared.remark.Fault.TheVariants.{IncludeDepth, NotFound, TooLong, Line, OldForm, NoClock}
 use Rattle.dp_files.specs.declared.source_line.SourceFile.{SourceFile}
@@ -21,6 +22,10 @@ use Rattle.dp_notices.specs.declared.printing.Shown.TheVariants.{All, Faults}
 -- the name of the file of a number
 abbrev pub file_name : List SourceFile → ℕ → List ℕ
 file_name files number = option_map_or (λ file. file.name) (slice_get files number) []
+
+-- the path at which it is opened, by that of the first file
+abbrev pub file_path : List SourceFile → ℕ → List ℕ
+file_path files number = path_of (file_name files 0) (file_name files number)
 
 -- where a line stands, `FILE:LINE: `
 abbrev pub place_text : List ℕ → ℕ → List ℕ
@@ -84,7 +89,7 @@ notice_lines shown file line notices =
 
 -- the same of a line of some files
 abbrev pub noted_text : Shown → List SourceFile → NotedLine → List ℕ
-noted_text shown files noted = notice_lines shown (file_name files noted.line.file) noted.line noted.notices
+noted_text shown files noted = notice_lines shown (file_path files noted.line.file) noted.line noted.notices
 
 -- those of all lines
 unfoldable pub notices_text : Shown → PlanFilesOf → List ℕ

@@ -7,11 +7,11 @@ use crate::line_notices::NotedLine;
 use crate::notice::{Notice, NoticeFault};
 use crate::plan_files::PlanFiles;
 use dp_conf::{NoMemory, line_content};
-use dp_files::{Fault, SourceFile, SourceLine, included_name};
+use dp_files::{Fault, SourceFile, SourceLine, included_name, path_of};
 use itoa::Buffer;
 use std::alloc::Global;
 
-/// The name of the file of a number, as it was opened.
+/// The name of the file of a number, as a line writes it.
 fn file_name(files: &[SourceFile], number: usize) -> &[u8]
     ensures { result.now ≡ spec.file_name files.now number }
 {
@@ -169,11 +169,20 @@ fn push_noted(
 ) -> Result<(), NoMemory>
     ensures { OnOk result (out.new.items ≡ out.old.items ++ spec.noted_text shown files.now noted.now) }
 {
+    let notices = noted.notices.as_slice();
+    if notices.is_empty() {
+        return Ok(());
+    }
+    let path = path_of(
+        alloc,
+        file_name(files, 0),
+        file_name(files, noted.line.file),
+    )?;
     let named = NamedLine {
-        file: file_name(files, noted.line.file),
+        file: path.bytes(),
         line: &noted.line,
     };
-    push_line(alloc, out, shown, named, noted.notices.as_slice())
+    push_line(alloc, out, shown, named, notices)
 }
 
 /// Adds the lines of the notices on each line that are printed.
@@ -193,7 +202,7 @@ fn push_lines(
 }
 
 /// The lines of the notices on a dialplan that is read from files, in the order of the lines that they are on: `FILE:LINE: note KIND`,
-/// `FILE:LINE: fault CODE NAME`, or `FILE:LINE: fault NAME` of a fault that has no number. FILE is the name of the file as it was opened.
+/// `FILE:LINE: fault CODE NAME`, or `FILE:LINE: fault NAME` of a fault that has no number. FILE is the path at which the file was opened.
 /// Behind a file that is not there stands its name, and behind what this program leaves out its kind. The error comes only where a growth
 /// was refused.
 pub fn print_notices(alloc: Global, shown: Shown, plan: &PlanFiles) -> Result<Vec<u8>, NoMemory>

@@ -2,6 +2,7 @@ mod ChecksLemmas
 mod EntriesLemmas
 mod HintsLemmas
 mod NearestLemmas
+mod PathsLemmas
 mod ReachesLemmas
 mod ReadsLemmas
 mod RunLemmas

@@ -11,12 +11,16 @@ use Rattle.dp_commands.specs.Run.{Files, Run, Writes, files_of}
 use Rattle.dp_commands.specs.Verbose.{InForce, WritesVerbose, WritesVerboseDebug}
 use Rattle.dp_commands.specs.declared.fault.PbxFault.{PbxFault}
 use Rattle.dp_commands.specs.declared.fault.PbxFault.TheVariants.{Coded, NoMemory}
+use Rattle.dp_files.specs.FolderFiles.{nothing_known}
+use Rattle.dp_files.specs.declared.reading.ReadingFault.{ReadingFault}
+use Rattle.dp_notices.specs.PlanFiles.{PlanFilesOf, plan_of as read_plan_of}
+use Rattle.dp_program.specs.Including.{WritesCheck, checked, place_of_plan}
 use Rattle.dp_program.specs.Checks.{both_report}
 use Rattle.dp_program.specs.Faulted.{StandsIn, in_none, nowhere, place_by, place_in_file, place_in_files, place_in_two, place_of, place_of_report, place_of_run, place_of_two, place_unread, without_place, unread_fault, unread_path, unread_place}
 use Rattle.dp_program.specs.Files.{Source, Reads}
 use Rattle.dp_program.specs.Hints.{Tells, audit_hint_of, match_hint_of, status_in}
 use Rattle.dp_program.specs.Reaches.{Reaches, place_of_files}
-use Rattle.dp_program.specs.Requests.{RequestOf, LookupOf, QuestionOf, joined, check, check_queues, check_both, listing, auditing, auditing_by, matching, explaining, run, run_wide, debug, reaching}
+use Rattle.dp_program.specs.Requests.{RequestOf, LookupOf, QuestionOf, joined, check, check_files, check_queues, check_both, listing, auditing, auditing_by, matching, explaining, run, run_wide, debug, reaching}
 use Rattle.dp_program.specs.Entries.{explanation_of}
 use Rattle.dp_program.specs.Serves.{AuditsFile, AuditsFileBy, ChecksBoth, DebugsAsked, DebugsFiles, DebugsFilesVerbosely, DebugsVerbosely, LooksUp, ReportsOn, Runs, RunsAsked, RunsFiles, RunsFilesVerbosely, RunsFilesWide, RunsVerbosely, RunsWide, Serves, SharesSome, debug_of_texts, in_force_at_first, look_up, run_of_texts, wide_run_of_texts, RunsFilesWideVerbosely, RunsTextsWideVerbosely, RunsWideAsked, RunsWideVerbosely}
 use Rattle.dp_program.specs.Texts.{OfRun, ReadsTexts, all_texts, some_text, sources_of}
@@ -491,10 +495,17 @@ debug_asked_lacks paths sources held false old =
     ReadsTexts-any sources (λ read. WritesDebug old old (all_texts read >>= debug_of_texts held) (Err NoMemory) × (in_none ≡ place_of_run paths read NoMemory))
     (λ read. (debug_lacks old (all_texts read >>= debug_of_texts held), lacks_place_by paths (unread_path paths read) (all_texts read)))
 
+check_lacks : (path : List ℕ) (old : Option (List ℕ)) (plan : Result PlanFilesOf ReadingFault)
+    → WritesCheck old old (checked plan) (Err NoMemory) × (in_none ≡ place_of_plan path plan NoMemory)
+check_lacks path old (Ok plan) = (Appends-nil old, refl)
+check_lacks path old (Err fault) = (Appends-nil old, refl)
+
 -- a request may find no memory before it does anything
 pub Serves-lacks : (files : List ℕ → Source) (input : Source) (want : RequestOf) (explains : Bool) (old : Option (List ℕ)) → Serves files input want explains old old (Err (nowhere NoMemory))
 Serves-lacks files input joined explains old = ((Reads-any input _ (λ text. writes_lacks old _), refl), tt)
 Serves-lacks files input (check file) explains old = (Reads-any (files file) _ (λ text. (reports_lacks old _, lacks_report_place file text)), tt)
+Serves-lacks files input (check_files file) explains old =
+    ((nothing_known, record { texts = λ name. tt; names = λ pattern. tt }, λ has agrees. check_lacks file old (read_plan_of has file)), tt)
 Serves-lacks files input (check_queues queues) explains old = (Reads-any (files queues) _ (λ text. (reports_lacks old _, lacks_report_place queues text)), tt)
 Serves-lacks files input (check_both file queues) explains old =
     (Reads-any (files file) _ (λ plan. Reads-any (files queues) _ (λ held. (reports_lacks old _, lacks_two_place file queues plan held))), tt)

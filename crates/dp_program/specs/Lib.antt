@@ -3,6 +3,7 @@ pub mod Entries
 pub mod Faulted
 pub mod Files
 pub mod Hints
+pub mod Including
 pub mod Nearest
 pub mod Reaches
 pub mod Requests

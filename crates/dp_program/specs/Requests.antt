@@ -7,7 +7,7 @@ use Rattle.dp_wide_runs.specs.Kinds.{ChoiceOf, choice_of}
 use Rattle.dp_program.specs.declared.request.Lookup.{Lookup}
 use Rattle.dp_program.specs.declared.request.ReachQuestion.{ReachQuestion}
 use Rattle.dp_program.specs.declared.request.Request.{Request}
-use Rattle.dp_program.specs.declared.request.Request.TheVariants.{Joined, Check, CheckQueues, CheckBoth, Listing, Audit, AuditBy, Match, Explain, Run, RunWide, Debug, Reach}
+use Rattle.dp_program.specs.declared.request.Request.TheVariants.{Joined, Check, CheckIncluding, CheckQueues, CheckBoth, Listing, Audit, AuditBy, Match, Explain, Run, RunWide, Debug, Reach}
 
 -- what is looked up in the dialplan of a file, with its texts
 pub record LookupOf : Type 0 where
@@ -45,6 +45,7 @@ question_of question = record {
 pub data RequestOf : Type 0 where
   joined : RequestOf
   check : List ℕ → RequestOf
+  check_files : List ℕ → RequestOf
   check_queues : List ℕ → RequestOf
   check_both : List ℕ → List ℕ → RequestOf
   listing : List ℕ → RequestOf
@@ -61,6 +62,7 @@ pub data RequestOf : Type 0 where
 abbrev pub request_asked : Request → RequestOf
 request_asked Joined = joined
 request_asked (Check file) = check file.now
+request_asked (CheckIncluding file) = check_files file.now
 request_asked (CheckQueues queues) = check_queues queues.now
 request_asked (CheckBoth files) = check_both files.plan.now files.queues.now
 request_asked (Listing file) = listing file.now

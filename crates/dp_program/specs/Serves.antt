@@ -16,8 +16,9 @@ use Rattle.dp_program.specs.Entries.{entry_of, explanation_of}
 use Rattle.dp_program.specs.Faulted.{StandsIn, in_none, place_of_report, place_of_run, place_of_two, without_place}
 use Rattle.dp_program.specs.Files.{Source, Reads, has_read_failed}
 use Rattle.dp_program.specs.Hints.{Tells, TellsNothing, audit_hint_of, match_hint_of, status_in}
+use Rattle.dp_program.specs.Including.{ChecksIncluding}
 use Rattle.dp_program.specs.Reaches.{ReachesFiles}
-use Rattle.dp_program.specs.Requests.{RequestOf, LookupOf, joined, check, check_queues, check_both, listing, auditing, auditing_by, matching, explaining, run, run_wide, debug, reaching}
+use Rattle.dp_program.specs.Requests.{RequestOf, LookupOf, joined, check, check_files, check_queues, check_both, listing, auditing, auditing_by, matching, explaining, run, run_wide, debug, reaching}
 use Rattle.dp_program.specs.Texts.{OfRun, ReadsTexts, all_texts, sources_of}
 use Rattle.dp_program.specs.declared.faulted.Faulted.{Faulted}
 use Rattle.dp_program.specs.declared.hints.Served.{Served}
@@ -184,6 +185,7 @@ Quietly serves answered = serves (status_in answered) × TellsNothing answered
 abbrev pub Serves : (List ℕ → Source) → Source → RequestOf → Bool → Option (List ℕ) → Option (List ℕ) → Result Served Faulted → Type 0
 Serves files input joined explains old new answered = Quietly (RunsJoined input old new) answered
 Serves files input (check file) explains old new answered = Quietly (ReportsOn file (files file) (check_by explains file) old new) answered
+Serves files input (check_files file) explains old new answered = Quietly (ChecksIncluding file files old new) answered
 Serves files input (check_queues queues) explains old new answered = Quietly (ReportsOn queues (files queues) queues_report old new) answered
 Serves files input (check_both file queues) explains old new answered = Quietly (ChecksBoth files file queues explains old new) answered
 Serves files input (listing file) explains old new answered = Quietly (ReportsOn file (files file) list_of old new) answered
@@ -203,6 +205,7 @@ Serves files input (reaching question) explains old new answered = ReachesFiles 
 abbrev pub fails_on_input : {X : Type 0} → RequestOf → Result X PbxFault → Bool
 fails_on_input joined result = has_read_failed result
 fails_on_input (check file) result = false
+fails_on_input (check_files file) result = false
 fails_on_input (check_queues queues) result = false
 fails_on_input (check_both file queues) result = false
 fails_on_input (listing file) result = false

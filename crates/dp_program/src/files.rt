@@ -7,7 +7,9 @@ ghost use Rattle.dp_program.specs.Files.{Reads, Source, has_read_failed, is_read
 
 use dp_commands::{Code, PbxFault};
 use dp_conf::{ReadTold, Told, read_whole};
-use std::alloc::Global;
+use dp_plan::{NoMemory, Text};
+use std::alloc::{AllocGlobal, Global};
+use std::fs::DirEntry;
 use std::io::Read;
 use std::rt::Files;
 use std::{fs, io};
@@ -22,6 +24,10 @@ pub trait ReadFiles {
         ensures read { Reads (source_at self.now path.now)
             (λ text. Answers (λ read. read.items) reason_of result text) }
         ensures fault { IfErr result (λ fault. is_read_fault fault ≡ true) };
+
+    /// The names of what a folder holds, in any order, and none where it cannot be read. They are known to no contract. The error comes
+    /// only where a growth was refused.
+    fn list_folder(&self, alloc: Global, path: &str) -> Result<Vec<Text>, NoMemory>;
 }
 
 /// Why a file could not be opened.
@@ -57,8 +63,43 @@ fn read_open<R: Read + Drop>(alloc: Global, file: R) -> Result<Vec<u8>, PbxFault
     read_source(alloc, &mut Told::new(file))
 }
 
+/// Adds the name of an entry of a folder. One that cannot be read, or that is not UTF-8, is passed over.
+fn push_name<R: Files + Drop>(
+    alloc: Global,
+    names: &mut Vec<Text>,
+    entry: io::Result<DirEntry<R>>,
+) -> Result<(), NoMemory> {
+    match entry {
+        Ok(entry) => {
+            names.push(Text::copy_of(alloc, entry.file_name().as_bytes())?)?;
+            Ok(())
+        }
+        Err(error) if error.kind() == io::ErrorKind::OutOfMemory => Err(NoMemory),
+        Err(_) => Ok(()),
+    }
+}
+
+/// The names of the entries of a folder.
+fn names_in<R: Files + AllocGlobal + Clone + Drop>(
+    rt: &R,
+    alloc: Global,
+    path: &str,
+) -> Result<Vec<Text>, NoMemory> {
+    let mut names = Vec::new(alloc);
+    match fs::read_dir(rt, path) {
+        Ok(entries) => {
+            for entry in entries {
+                push_name(alloc, &mut names, entry)?;
+            }
+            Ok(names)
+        }
+        Err(error) if error.kind() == io::ErrorKind::OutOfMemory => Err(NoMemory),
+        Err(_) => Ok(names),
+    }
+}
+
 /// The files of the system. What they hold is known to no contract, and each read of them may fail.
-impl<R: Files> ReadFiles for R {
+impl<R: Files + AllocGlobal + Clone + Drop> ReadFiles for R {
     ghost use Rattle.std.specs.Prelude.{None, true};
     ghost use Rattle.dp_program.specs.Files.{source};
 
@@ -69,5 +110,9 @@ impl<R: Files> ReadFiles for R {
             Ok(file) => read_open(alloc, file),
             Err(error) => Err(opening_fault(&error)),
         }
+    }
+
+    fn list_folder(&self, alloc: Global, path: &str) -> Result<Vec<Text>, NoMemory> {
+        names_in(self, alloc, path)
     }
 }

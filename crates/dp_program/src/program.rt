@@ -10,6 +10,7 @@ use crate::checks::{serve_check, serve_check_both, serve_check_queues};
 use crate::faulted::Faulted;
 use crate::files::ReadFiles;
 use crate::hints::{Served, without_hint};
+use crate::including::serve_check_including;
 use crate::reaches::serve_reach;
 use crate::reports::{Manner, serve_audit, serve_explain, serve_list, serve_match};
 use crate::request::Request;
@@ -47,6 +48,9 @@ pub fn serve<'a, F: ReadFiles, I: ReadTold, W: WriteTold, R: Threads + Wait + Sy
         Request::Joined => without_hint(alloc, serve_joined(alloc, input, output)),
         Request::Check { file } => {
             without_hint(alloc, serve_check(files, alloc, file, explains, output))
+        }
+        Request::CheckIncluding { file } => {
+            without_hint(alloc, serve_check_including(files, alloc, file, output))
         }
         Request::CheckQueues { queues } => {
             without_hint(alloc, serve_check_queues(files, alloc, queues, output))

@@ -83,6 +83,10 @@ pub enum Request<'a> {
     Check {
         file: &'a str,
     },
+    /// `check --asterisk FILE`: to load a dialplan from a file and from those that it includes, and to tell each fault.
+    CheckIncluding {
+        file: &'a str,
+    },
     /// `check --queues QUEUES`: to load a file of queues.
     CheckQueues {
         queues: &'a str,

@@ -82,6 +82,12 @@ notes→[globals]¶=x¶[main]¶exten => s,1,NoOp()¶exten => s,1,Hangup()¶exten
 sections→[a]¶exten => 1,1,A¶[b]¶[a]¶exten => 2,1,A¶include => b¶[c]¶include => a¶include => b¶
 empty→
 near→[min]¶exten => s,1,NoOp()¶[mien]¶[mainn]¶[ax]¶[mmmmmmmmmmmmmmmmmmmmmmmmmmmmmmmmmmmmmmmmmmmmmmmmmmmmmmmmmmmmmmmmmmmmmmmmmmmmmmmmm]¶
+# A dialplan in two files, and one in those of a pattern.
+parted→[main]¶#include \"inner\"¶exten => s,1,NoOp()¶exten => s,0,NoOp()¶#include nowhere.conf¶
+inner→exten => 100,hint,Line/1¶exten => 100,1,Hangup(¶
+folded→[main]¶#include *.part¶#include *.none¶
+second.part→exten => 2,0,NoOp()¶
+first.part→exten => 1,0,NoOp()¶
 dashed→[-in-]¶exten => 1,1,NoOp¶
 ";
 
@@ -126,7 +132,7 @@ fn words_of(alloc: Global, folder: &str, line: &str) -> Result<Vec<String>, NoMe
 
 /// The status of a command line, and all that it prints on the standard output and on standard error, as
 /// `STATUS→OUTPUT→ERRORS`.
-fn output_of<R: Files + Threads + Wait + Sync + AllocGlobal>(
+fn output_of<R: Files + Threads + Wait + Sync + AllocGlobal + Clone + Drop>(
     rt: &R,
     folder: &str,
     line: &str,
@@ -169,7 +175,7 @@ fn with_names(alloc: Global, folder: &str, text: &str) -> Result<String, NoMemor
 
 /// Whether a command line has this status and prints this, all of it in one line, with `@NAME` for the path of a file. After a `←` stands the
 /// standard input.
-pub fn check_line<R: Files + Threads + Wait + Sync + AllocGlobal>(
+pub fn check_line<R: Files + Threads + Wait + Sync + AllocGlobal + Clone + Drop>(
     rt: &R,
     folder: &str,
     asked: &str,
@@ -183,7 +189,7 @@ pub fn check_line<R: Files + Threads + Wait + Sync + AllocGlobal>(
 }
 
 /// Whether each case of a table is so.
-pub fn check_table<R: Files + Threads + Wait + Sync + AllocGlobal>(
+pub fn check_table<R: Files + Threads + Wait + Sync + AllocGlobal + Clone + Drop>(
     rt: &R,
     folder: &str,
     table: &str,

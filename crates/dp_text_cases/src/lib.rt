@@ -10,6 +10,8 @@ mod expr;
 #[cfg(test)]
 mod files;
 #[cfg(test)]
+mod folders;
+#[cfg(test)]
 mod pattern;
 #[cfg(test)]
 mod readings;

@@ -299,6 +299,125 @@ end 9
 $ pbx debug --break phones,123 sample/extensions.conf sample/calls.script
 fault 71 BadBreak
 ? 1
+@ office.conf
+[closing](!)
+exten => h,1,NoOp(call over)
+
+[main](closing)
+exten => 100,hint,SIP/100
+exten => 100,1,Dial(SIP/100,20)
+ same => n,Playback(sorry
+#include evening.conf
+#include holidays.conf
+@
+@ evening.conf
+[night]
+exten => s,1,Playback(closed)
+ same => 0,Hangup()
+@
+$ pbx check --asterisk office.conf
+office.conf:5: note Hint
+office.conf:7: fault 23 BadApplication
+evening.conf:3: fault 20 BadPriority
+office.conf:9: fault 7 ReadFailed holidays.conf
+3 faults
+? 1
+@ sample/office/extensions.conf
+; The dialplan of a small office. The other files stand beside this one.
+
+[general]
+static=yes
+autofallthrough=yes
+
+[globals]
+OPERATOR=SIP/100
+TRUNK=SIP/outside
+
+; What happens when a call is over. A context that has this template begins with these lines.
+[closing](!)
+exten => h,1,NoOp(call over: ${DIALSTATUS})
+
+#include phones.conf
+#include incoming.conf
+#include helpdesk.conf
+#include outgoing.conf
+@
+@ sample/office/phones.conf
+; The phones of the office, and what they may dial.
+
+[phones](closing)
+include => outgoing
+exten => 100,hint,SIP/100
+exten => 100,1,Gosub(ring,s,1(SIP/100,100))
+ same => n,Hangup()
+exten => 101,hint,SIP/101
+exten => 101,1,Gosub(ring,s,1(SIP/101,101))
+ same => n,Hangup()
+exten => 200,1,Goto(helpdesk,s,1)
+
+;-- The night switch: *28 turns it on, and once more off.
+    The value stands in the database, so that it outlives a restart. --;
+exten => *28,1,ExecIf($["${DB(office/night)}" = "1"]?Set(DB(office/night)=0):Set(DB(office/night)=1))
+ same => n,Playback(office/night-${DB(office/night)})
+ same => n,Hangup()
+
+; Rings a phone for 20 seconds. ARG1: the device, ARG2: the mailbox.
+[ring]
+exten => s,1,Dial(${ARG1},20)
+ same => n,GotoIf($["${DIALSTATUS}" = "BUSY"]?busy)
+ same => n,VoiceMail(${ARG2}@office,u)
+ same => n,Return()
+ same => n(busy),VoiceMail(${ARG2}@office,b)
+ same => n,Return()
+@
+@ sample/office/incoming.conf
+; Calls from the outside.
+
+[incoming](closing)
+exten => 5550100,1,Answer()
+ same => n,GotoIf($["${DB(office/night)}" = "1"]?night,s,1)
+ same => n,GotoIfTime(08:00-18:00,mon-fri,*,*?menu,s,1)
+ same => n,Goto(night,s,1)
+
+[menu](closing)
+exten => s,1,Set(TRIES=0)
+ same => n(ask),Background(office/welcome)
+ same => n,WaitExten(5)
+exten => 0,1,Gosub(ring,s,1(${OPERATOR},100))
+ same => n,Hangup()
+exten => 1,1,Goto(helpdesk,s,1)
+exten => i,1,Playback(invalid)
+ same => n,Set(TRIES=$[${TRIES} + 1])
+ same => n,GotoIf($[${TRIES} < 3]?s,ask:0,1)
+exten => t,1,Goto(0,1)
+
+[night]
+exten => s,1,Playback(office/closed)
+ same => n,VoiceMail(100@office,u)
+ same => n,Hangup()
+@
+@ sample/office/helpdesk.conf
+; The queue of the help desk.
+
+[helpdesk](closing)
+exten => s,1,Queue(helpdesk,,,,60)
+ same => n,VoiceMail(200@office,u)
+ same => n,Hangup()
+@
+@ sample/office/outgoing.conf
+; Calls to the outside: 9, and then the number.
+
+[outgoing]
+ignorepat => 9
+exten => _9XXXXXX.,1,Dial(${TRUNK}/${EXTEN:1},60)
+ same => n,Hangup()
+@
+$ pbx check --asterisk sample/office/extensions.conf
+sample/office/phones.conf:5: note Hint
+sample/office/phones.conf:8: note Hint
+sample/office/outgoing.conf:4: note IgnorePat
+ok 7 contexts 40 entries
+? 0
 @ sample/faulty.conf
 ; The menu of a shop, with mistakes that no load tells.
 [globals]

@@ -9,7 +9,7 @@ use crate::manual::wide::WIDE;
 use dp_case_tables::is_heading;
 use dp_cli::answer;
 use dp_commands::{Code, PbxFault};
-use dp_conf::{NoMemory, Told};
+use dp_conf::{NoMemory, Text, Told};
 use dp_program::ReadFiles;
 use std::alloc::Global;
 use std::process::Abort;
@@ -57,6 +57,11 @@ impl<'a> ReadFiles for Shelf<'a> {
                 line: None,
             }),
         }
+    }
+
+    // No example includes a pattern.
+    fn list_folder(&self, alloc: Global, _path: &str) -> Result<Vec<Text>, NoMemory> {
+        Ok(Vec::new(alloc))
     }
 }
 

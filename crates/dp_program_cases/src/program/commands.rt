@@ -26,6 +26,13 @@ check @sample/extensions.conf→1→→fault 7 ReadFailed¶
 check @xxxxxxxxxxxxxxxxxxxxxxxxxxxxxxxxxxxxxxxxxxxxxxxxxxxxxxxxxxxxxxxxxxxxxxxxxxxxxxxxxxxxxxxxxxxxxxxxxxxxxxxxxxxxxxxxxxxxxxxxxxxxxxxxxxxxxxxxxxxxxxxxxxxxxxxxxxxxxxxxxxxxxxxxxxxxxxxxxxxxxxxxxxxxxxxxxxxxxxxxxxxxxxxxxxxxxxxxxxxxxxxxxxxxxxxxxxxxxxxxxxxxxxxxxxxxxxxx→1→→fault 7 ReadFailed¶
 check ''→1→→fault 7 ReadFailed¶
 check @long→1→→fault 8 TooLong¶
+# With the files that it includes: each note and each fault at its line, and the counts where there is no fault.
+check --asterisk @calls→0→ok 1 contexts 4 entries¶→
+check --asterisk @parted→1→@inner:1: note Hint¶@inner:2: fault 23 BadApplication¶@parted:4: fault 20 BadPriority¶@parted:5: fault 7 ReadFailed nowhere.conf¶3 faults¶→
+check --asterisk @folded→1→@first.part:1: fault 20 BadPriority¶@second.part:1: fault 20 BadPriority¶@folded:3: fault 7 ReadFailed *.none¶3 faults¶→
+check --asterisk --explain @missing→1→→fault 7 ReadFailed¶  @missing¶  a file could not be opened or read¶
+check --asterisk @folder→1→→fault 7 ReadFailed¶
+check --asterisk @long→1→→fault 8 TooLong¶
 # Queues alone: no section `[general]` is one.
 check --queues @help→0→ok 1 queues¶→
 check --queues @queues→0→ok 2 queues¶→
@@ -498,7 +505,7 @@ const TABLES: [&str; 14] = [
     INPUTS,
 ];
 
-fn check_all<R: Files + Threads + Wait + Sync + AllocGlobal>(
+fn check_all<R: Files + Threads + Wait + Sync + AllocGlobal + Clone + Drop>(
     rt: &R,
     folder: &str,
 ) -> Result<(), Fail> {

@@ -35,7 +35,7 @@ run @first @tall.script→1→→fault 70 BadScript line 70002¶
 ";
 
 /// Files of more than 70,000 bytes, which are read to their ends.
-fn check_tall<R: Files + Threads + Wait + Sync + AllocGlobal>(
+fn check_tall<R: Files + Threads + Wait + Sync + AllocGlobal + Clone + Drop>(
     rt: &R,
     folder: &str,
 ) -> Result<(), Fail> {
@@ -49,7 +49,7 @@ fn check_tall<R: Files + Threads + Wait + Sync + AllocGlobal>(
 }
 
 /// 65,600 contexts and entries, in 131,200 lines.
-fn check_many<R: Files + Threads + Wait + Sync + AllocGlobal>(
+fn check_many<R: Files + Threads + Wait + Sync + AllocGlobal + Clone + Drop>(
     rt: &R,
     folder: &str,
 ) -> Result<(), Fail> {
@@ -84,7 +84,7 @@ ran 1 main,{name},1 Hangup -> ended¶started 2¶no entry 2 -> ended¶→"
 }
 
 /// Arguments of 300 bytes, an extension of as many, and one of 301 that is missing.
-fn check_wide<R: Files + Threads + Wait + Sync + AllocGlobal>(
+fn check_wide<R: Files + Threads + Wait + Sync + AllocGlobal + Clone + Drop>(
     rt: &R,
     folder: &str,
 ) -> Result<(), Fail> {
@@ -97,7 +97,7 @@ fn check_wide<R: Files + Threads + Wait + Sync + AllocGlobal>(
     check_line(rt, folder, "run @wide @wide.script", &want)
 }
 
-fn check_all<R: Files + Threads + Wait + Sync + AllocGlobal>(
+fn check_all<R: Files + Threads + Wait + Sync + AllocGlobal + Clone + Drop>(
     rt: &R,
     folder: &str,
 ) -> Result<(), Fail> {

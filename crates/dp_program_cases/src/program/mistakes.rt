@@ -15,6 +15,8 @@ check --explain→the following required arguments were not provided:¶  <FILE>�
 check --→the following required arguments were not provided:¶  <FILE>→pbx check <FILE>
 check --queues @help --queues @help→the argument '--queues <QUEUES>' cannot be used multiple times→pbx check [OPTIONS] [FILE]
 check --queues @help a b→unexpected argument 'b' found→pbx check [OPTIONS] [FILE]
+check --asterisk→the following required arguments were not provided:¶  <FILE>→pbx check <FILE>
+check --asterisk --queues @help @usual→the argument '--asterisk' cannot be used with '--queues <QUEUES>'→pbx check [OPTIONS] [FILE]
 check @usual more→unexpected argument 'more' found→pbx check [OPTIONS] [FILE]
 check --loud x→unexpected argument '--loud' found¶¶  tip: to pass '--loud' as a value, use '-- --loud'→pbx check [OPTIONS] [FILE]
 check --reload @usual @usual→unexpected argument '--reload' found¶¶  tip: to pass '--reload' as a value, use '-- --reload'→pbx check [OPTIONS] [FILE]
@@ -69,7 +71,7 @@ check --version→unexpected argument '--version' found¶¶  tip: to pass '--ver
 help dial→unrecognized subcommand 'dial'→pbx [COMMAND]
 ";
 
-fn check_mistake<R: Files + Threads + Wait + Sync + AllocGlobal>(
+fn check_mistake<R: Files + Threads + Wait + Sync + AllocGlobal + Clone + Drop>(
     rt: &R,
     folder: &str,
     words: &str,
@@ -83,7 +85,7 @@ fn check_mistake<R: Files + Threads + Wait + Sync + AllocGlobal>(
 }
 
 /// Asserts all that the command lines that are refused print, and their statuses.
-pub(super) fn check_mistakes<R: Files + Threads + Wait + Sync + AllocGlobal>(
+pub(super) fn check_mistakes<R: Files + Threads + Wait + Sync + AllocGlobal + Clone + Drop>(
     rt: &R,
     folder: &str,
 ) -> Result<(), Fail> {
@@ -145,6 +147,7 @@ Arguments:
   [FILE]  The dialplan, as extensions.conf
 
 Options:
+      --asterisk         Read the files that the dialplan includes, templates and block comments, and print every fault
       --queues <QUEUES>  The queues, as queues.conf
       --explain          Print below each fault, and below each note of `check`, where it stands and what the manual says of it
   -h, --help             Print help
@@ -152,6 +155,10 @@ Options:
 Prints `note LINE KIND` for each line that is dropped and for each include that finds nothing, and then the counts. With
 --queues a line with the count of queues follows; without FILE it stands alone. A file that does not load has its first fault
 on standard error, with its line, and the status 1.
+
+With --asterisk the file is read as Asterisk reads it: with the files that it includes, templates, block comments, and
+priorities such as `n+1`. Each note and each fault is printed with the line of the file that it is about, and not only the
+first fault. The last line is the counts, or `N faults` with the status 1.
 
 Example:
   $ pbx check extensions.conf
@@ -429,7 +436,7 @@ const HELPS: [(&str, &str); 15] = [
     ("-V", VERSION),
 ];
 
-fn check_help<R: Files + Threads + Wait + Sync + AllocGlobal>(
+fn check_help<R: Files + Threads + Wait + Sync + AllocGlobal + Clone + Drop>(
     rt: &R,
     folder: &str,
     words: &str,
@@ -441,7 +448,7 @@ fn check_help<R: Files + Threads + Wait + Sync + AllocGlobal>(
 }
 
 /// Asserts all that the command lines that ask for help print, and their statuses.
-pub(super) fn check_helps<R: Files + Threads + Wait + Sync + AllocGlobal>(
+pub(super) fn check_helps<R: Files + Threads + Wait + Sync + AllocGlobal + Clone + Drop>(
     rt: &R,
     folder: &str,
 ) -> Result<(), Fail> {
