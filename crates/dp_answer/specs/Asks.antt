@@ -1,4 +1,4 @@
--- What is asked of a dialplan about the calls that come in at a context.
+-- The question on a dialplan about phone calls that come in at a context.
 use Rattle.std.specs.Prelude.{ℕ, Bool, List, [], ◌∷◌, ◌++◌, Option, Some, None, is_none, codes, map}
 use Rattle.std.specs.List.{list_any}
 use Rattle.std.specs.Option.{option_map, option_map_or, unwrap_or}
@@ -9,8 +9,8 @@ use Rattle.dp_plan.specs.Lookup.{number_of}
 use Rattle.dp_plan.specs.Plan.{PlanOf}
 use Rattle.dp_reach.specs.Audits.{Outside}
 
--- the context, and the one that a call from there must not reach, where one is named; at which contexts calls come in, and the bytes
--- of extensions and of callers' numbers, where these are given
+-- the context, optionally one that a call from there must not reach, and optionally the contexts where calls come in and the bytes of
+-- extensions and of callers' numbers
 pub record AskOf : Type 0 where
   pub context : List ℕ
   pub target : Option (List ℕ)
@@ -27,18 +27,18 @@ ask_of ask = record {
   caller = option_map (λ text. text.now) ask.caller;
 }
 
--- the bytes of a dialled extension and of a caller's number, unless others are given
+-- the bytes of a dialled extension and of a caller's number by default
 abbrev pub usual_exten : List ℕ
 usual_exten = codes "0-9A-Za-z*#+_."
 
 abbrev pub usual_caller : List ℕ
 usual_caller = codes "0-9+"
 
--- the contexts where calls come in: the one that is asked of and those that are given, parted by commas, else each of the dialplan
+-- the contexts where calls come in: that of the question and the given ones, separated by commas, else every context of the dialplan
 abbrev pub starts_of : PlanOf → AskOf → List (List ℕ)
 starts_of plan ask = option_map_or (λ starts. ask.context ∷ arguments_of starts) ask.starts (map (λ context. context.name) plan.contexts)
 
--- what may come in
+-- everything that may come in
 abbrev pub outside_of : PlanOf → AskOf → Outside
 outside_of plan ask = record {
   exten = ranges (unwrap_or ask.exten usual_exten);
@@ -46,7 +46,7 @@ outside_of plan ask = record {
   contexts = starts_of plan ask;
 }
 
--- the names of contexts that are asked of
+-- the names of contexts in the question
 abbrev pub target_names : Option (List ℕ) → List (List ℕ)
 target_names None = []
 target_names (Some target) = target ∷ []
@@ -54,6 +54,6 @@ target_names (Some target) = target ∷ []
 abbrev pub names_asked : PlanOf → AskOf → List (List ℕ)
 names_asked plan ask = ask.context ∷ target_names ask.target ++ starts_of plan ask
 
--- the dialplan lacks a context of one of the names
+-- whether the dialplan lacks a context with one of the names
 abbrev pub is_lacking : PlanOf → AskOf → Bool
 is_lacking plan ask = list_any (λ name. is_none (number_of plan name)) (names_asked plan ask)

@@ -1,7 +1,7 @@
--- What private functions say of ranges. No public clause rests on it.
+-- Ranges in the steps of private functions. No public clause depends on them.
 use Rattle.std.specs.Prelude.{ℕ, ◌==◌, List, [], ◌∷◌, Option, Some, None, if◌then◌else◌}
 
--- the byte after a hyphen with which the text begins, and what stands after it
+-- the byte after a hyphen at the start of the text, and the rest
 abbrev pub upper : List ℕ → Option (ℕ × List ℕ)
 upper [] = None
 upper (next ∷ []) = None

@@ -1,4 +1,4 @@
--- Sets of bytes as a text of ranges names them.
+-- Sets of bytes, written as a text of ranges.
 use Rattle.std.specs.Prelude.{ℕ, ◌==◌, ◌&&◌, nat_le, List, [], ◌∷◌, if◌then◌else◌}
 use Rattle.dp_pieces.specs.Bytes.{Bytes, either, none}
 
@@ -9,7 +9,7 @@ only byte b = b == byte
 abbrev pub between : ℕ → ℕ → Bytes
 between low high b = nat_le low b && nat_le b high
 
--- `a-b` is each byte from a to b, and any other byte is itself
+-- the set that a text of ranges names: `a-b` means each byte from a to b, and any other byte means itself
 abbrev pub ranges : List ℕ → Bytes
 ranges [] = none
 ranges (low ∷ []) = only low

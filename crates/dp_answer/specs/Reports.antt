@@ -1,5 +1,5 @@
--- What is told of the calls that come in at a context: what is assumed stands first, each entry that one may run stands there, and of a
--- context it is told whether one may run an entry of it. How a call gets there is told besides, and nothing is claimed of that.
+-- The report on phone calls that come in at a context. It begins with the assumptions, then lists each entry that such a call may run, or
+-- says of a context whether a call may run one of its entries. It also shows how a call gets there, but claims nothing of that.
 use Rattle.std.specs.Prelude.{◌≡◌, ℕ, Bool, true, false, List, [], ◌∷◌, ◌++◌, length, slice_get, Option, Some, None, is_some, unwrap_or, codes, decimal, if◌then◌else◌}
 use Rattle.std.specs.Global.{Vec}
 use Rattle.std.specs.List.{flat_map, list_any, range_with_len}
@@ -15,11 +15,11 @@ use Rattle.dp_queue.specs.declared.settings.Settings.{Settings}
 use Rattle.dp_reach.specs.Audits.{RunsOnly}
 use Rattle.dp_table.specs.Standard.{standard_rows}
 
--- the name of the context of a number
+-- the name of the context with a number
 abbrev pub name_at : PlanOf → ℕ → List ℕ
 name_at plan number = option_map_or (λ context. context.name) (slice_get plan.contexts number) []
 
--- how many entries the context of a number has
+-- the number of entries of the context with a number
 abbrev pub count_at : PlanOf → ℕ → ℕ
 count_at plan number = option_map_or (λ context. length context.entries) (slice_get plan.contexts number) 0
 
@@ -33,7 +33,7 @@ entry_by context (Some entry) =
 abbrev pub entry_text : PlanOf → EntryId → List ℕ
 entry_text plan id = entry_by (name_at plan id.context) (entry_at plan id)
 
--- the entry of these numbers
+-- the numbers of an entry
 abbrev pub id_at : ℕ → ℕ → EntryId
 id_at context entry = record { context = context; entry = entry }
 
@@ -41,72 +41,72 @@ id_at context entry = record { context = context; entry = entry }
 abbrev pub line_of : PlanOf → (EntryId → Bool) → EntryId → List ℕ
 line_of plan answers id = if answers id then entry_text plan id ++ 10 ∷ [] else []
 
--- those of the context of a number
+-- the lines of the entries of the context with a number that are among the answers
 abbrev pub lines_of : PlanOf → (EntryId → Bool) → ℕ → List ℕ
 lines_of plan answers number = flat_map (λ entry. line_of plan answers (id_at number entry)) (range_with_len 0 (count_at plan number))
 
--- a name of a context where calls come in
+-- the name of a context where calls come in
 abbrev pub start_text : List ℕ → List ℕ
 start_text name = codes " " ++ name
 
--- where calls come in: at these contexts, where any are given
+-- where calls come in: at the given contexts, if there are any
 abbrev pub entrances : Option (List ℕ) → List (List ℕ) → List ℕ
 entrances None starts = codes " every context"
 entrances (Some given) starts = flat_map start_text starts
 
--- a text, and the bytes that are given or else the usual ones
+-- a text followed by the given bytes, or else by the default ones
 abbrev pub bytes_text : List ℕ → Option (List ℕ) → List ℕ → List ℕ
 bytes_text text given usual = text ++ unwrap_or given usual
 
--- what is assumed: the bytes of extensions and of callers' numbers as they are given, and where calls come in
+-- the assumptions: the bytes of extensions and of callers' numbers as given, and the contexts where calls come in
 abbrev pub assumptions : AskOf → List (List ℕ) → List ℕ
 assumptions ask starts =
     bytes_text (codes "assumed: extensions of {") ask.exten usual_exten
     ++ (bytes_text (codes "}*, callers' numbers of {") ask.caller usual_caller
     ++ (codes "}*, calls come in at" ++ (entrances ask.starts starts ++ codes "\n")))
 
--- that no proof was found, where none was
+-- the line that says that no proof was found, if there is none
 abbrev pub no_proof_line : Bool → List ℕ
 no_proof_line true = []
 no_proof_line false = codes "no proof was found within the bounds: a call may run each entry\n"
 
--- what is told before an answer; where no proof was found, each entry is among the answers
+-- the text before an answer; without a proof each entry is among the answers
 abbrev pub head_text : PlanOf → AskOf → Option (List (Vec Bool)) → List ℕ
 head_text plan ask marks = assumptions ask (starts_of plan ask) ++ no_proof_line (is_some marks)
 
--- what is told besides: for each context how a call gets there, and what follows the answer
+-- the further text: for each context how a call gets there, and the text after the answer
 pub record Told : Type 0 where
   pub chains : List (Vec ℕ)
   pub tail : List ℕ
 
--- how a call gets to the context of a number
+-- how a call gets to the context with a number
 abbrev pub chain_at : List (Vec ℕ) → ℕ → List ℕ
 chain_at chains number = option_map_or (λ chain. chain.items) (slice_get chains number) []
 
--- all entries that a call may run, by contexts
+-- all entries that a call may run, by context
 abbrev pub all_lines : PlanOf → (EntryId → Bool) → List (Vec ℕ) → List ℕ
 all_lines plan answers chains =
     flat_map (λ number. lines_of plan answers number ++ chain_at chains number) (range_with_len 0 (length plan.contexts))
 
--- an entry of the context of a number is among the answers
+-- whether an entry of the context with a number is among the answers
 abbrev pub has_answer : PlanOf → (EntryId → Bool) → ℕ → Bool
 has_answer plan answers number = list_any (λ entry. answers (id_at number entry)) (range_with_len 0 (count_at plan number))
 
--- an entry of the context of a name is
+-- whether an entry of the context with a name is among the answers
 abbrev pub may_reach : PlanOf → (EntryId → Bool) → List ℕ → Bool
 may_reach plan answers name = option_map_or (has_answer plan answers) (number_of plan name) false
 
--- what is told of a context that a call may reach, or never reaches
+-- the text on a context that a call may reach, or that it never reaches
 abbrev pub verdict : List ℕ → Bool → List ℕ
 verdict name true = codes "may reach: "
 verdict name false = codes "unreachable: " ++ name ++ codes "\n"
 
--- what is told of the answers, by what stands besides
+-- the text of the answers, given the further text
 abbrev pub answer_text : PlanOf → (EntryId → Bool) → Option (List ℕ) → Told → List ℕ
 answer_text plan answers None told = all_lines plan answers told.chains ++ told.tail
 answer_text plan answers (Some target) told = verdict target (may_reach plan answers target) ++ told.tail
 
--- the status: 1 where a call may reach the context that is named
+-- the status: 1 if a call may reach the named context
 abbrev pub status_by : Bool → ℕ
 status_by true = 1
 status_by false = 0
@@ -120,9 +120,9 @@ pub record ReportOf : Type 0 where
   pub text : List ℕ
   pub status : ℕ
 
--- a report is right: it begins with what is assumed; in each run of the dialplan with queues of these settings, in which calls come in as
--- it is asked and no other dialplan is loaded, a call that comes in at the context runs none but the entries that are answered; and it
--- tells of these
+-- a report is correct: it begins with the assumptions; a call that comes in at the context runs only entries among the answers, in each run
+-- of the dialplan with queues of these settings in which calls come in as the question says and no other dialplan is loaded; and it reports
+-- these entries
 pub record IsRight (plan : PlanOf) (settings : List Settings) (ask : AskOf) (report : ReportOf) : Type 0 where
   pub marks : Option (List (Vec Bool))
   pub runs : RunsOnly standard_rows (outside_of plan ask) ask.context plan settings (answers_in marks)
@@ -130,11 +130,11 @@ pub record IsRight (plan : PlanOf) (settings : List Settings) (ask : AskOf) (rep
   pub text : report.text ≡ head_text plan ask marks ++ answer_text plan (answers_in marks) ask.target told
   pub status : report.status ≡ answer_status plan (answers_in marks) ask.target
 
--- nothing is told of names that the dialplan lacks, with the status 1
+-- the report for names that the dialplan lacks: empty, with status 1
 abbrev pub nothing_told : ReportOf
 nothing_told = record { text = []; status = 1 }
 
--- a report, by whether the dialplan lacks a name that is asked of
+-- a report, given whether the dialplan lacks a name in the question
 abbrev pub IsReportBy : Bool → PlanOf → List Settings → AskOf → ReportOf → Type 0
 IsReportBy true plan settings ask report = report ≡ nothing_told
 IsReportBy false plan settings ask report = IsRight plan settings ask report

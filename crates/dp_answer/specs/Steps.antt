@@ -1,4 +1,4 @@
--- What private functions say of their steps. No public clause rests on it.
+-- The steps of private functions. No public clause depends on them.
 use Rattle.std.specs.Prelude.{◌≡◌, ℕ, Bool, true, false, List, ◌++◌, Option, Some, None}
 use Rattle.std.specs.Global.{Vec}
 use Rattle.dp_answer.specs.Reports.{ReportOf, Told, answer_status, answer_text}
@@ -12,12 +12,12 @@ use Rattle.dp_queue.specs.declared.settings.Settings.{Settings}
 use Rattle.dp_reach.specs.Audits.{RunsOnly}
 use Rattle.dp_table.specs.Standard.{standard_rows}
 
--- a call that the question is of runs none but the entries of these marks, whatever queues have the ways out of the question
+-- a call of the question runs only marked entries, with any queues that have the question's ways out
 abbrev pub IsProvedBy : OutsideQuestion → List (Vec Bool) → Type 0
 IsProvedBy question marks = (settings : List Settings) → AreWays settings question.ways.now
     → RunsOnly standard_rows (shown_outside question.outside.now) question.context.now question.plan.now settings (answers_in (Some marks))
 
--- the marks of what is answered: those that were found, where they are proved
+-- the marks of the answer: those that were found, if they are proved
 abbrev pub answers_by : Bool → List (Vec Bool) → Option (List (Vec Bool))
 answers_by true marks = Some marks
 answers_by false marks = None
@@ -25,11 +25,11 @@ answers_by false marks = None
 abbrev pub answers_of : Found → Option (List (Vec Bool))
 answers_of found = answers_by found.is_proved found.search.marks
 
--- a report by its text and status
+-- a report, as its text and status
 abbrev pub shown_report : Report → ReportOf
 shown_report report = record { text = report.text.items; status = report.status }
 
--- the report tells these answers behind a text
+-- the report has these answers after a text
 pub record IsTold (plan : PlanOf) (head : List ℕ) (marks : Option (List (Vec Bool))) (target : Option (List ℕ)) (report : ReportOf) : Type 0 where
   pub told : Told
   pub text : report.text ≡ head ++ answer_text plan (answers_in marks) target told

@@ -1,4 +1,4 @@
-//! The answer: which entries a call may run, and how a call gets to them.
+//! The answer: which entries a phone call may run, and how a call gets to them.
 ghost use Rattle.std.specs.Prelude.{◌≡◌, false, IfOk, IsTrue};
 ghost use Rattle.dp_answer.specs.Steps.{IsProvedBy};
 
@@ -12,11 +12,11 @@ use dp_pieces::{NameTable, Piece};
 use dp_plan::Dialplan;
 use std::alloc::Global;
 
-/// What is asked: of calls that the outside allows, what one may run that comes in at the context.
+/// The question: of the calls that the outside allows, what a call that comes in at the context may run.
 #[derive(Clone, Copy)]
 pub(crate) struct OutsideQuestion<'a> {
     pub(crate) plan: &'a Dialplan,
-    /// The contexts of the ways out of the queues, each as the pieces of its name.
+    /// The contexts of the queues' ways out, each as the pieces of its name.
     pub(crate) ways: &'a [Vec<Piece>],
     pub(crate) outside: &'a Outside,
     pub(crate) context: &'a [u8],
@@ -36,7 +36,7 @@ fn enter_all(
     Ok(())
 }
 
-/// What was found for calls of each context where they come in: what names may have, and the areas. None where there were too many.
+/// The findings for calls of each context where they come in: the bytes of names, and the areas. None if there were too many.
 fn find_all(
     alloc: Global,
     question: OutsideQuestion<'_>,
@@ -50,7 +50,7 @@ fn find_all(
     Ok(if is_whole { Some(found) } else { None })
 }
 
-/// What was found for a call of the context alone, and whether that was all.
+/// The findings for a call of the context alone, and whether they are complete.
 fn find_one<'a>(
     alloc: Global,
     question: OutsideQuestion<'a>,
@@ -64,7 +64,7 @@ fn find_one<'a>(
     Ok((search, is_whole))
 }
 
-/// Whether what was found is proved, with the areas of all calls.
+/// Whether the findings are proved, with the areas of all calls.
 fn is_proved(
     alloc: Global,
     question: OutsideQuestion<'_>,
@@ -87,7 +87,7 @@ fn is_proved(
     audit.is_closed(alloc, Some(&search.marks))
 }
 
-/// Nothing found, and nothing proved.
+/// No findings, and nothing proved.
 fn nothing_proved<'a>(alloc: Global, question: OutsideQuestion<'a>) -> Result<Found<'a>, NoMemory>
     ensures { IfOk result (λ found. found.is_proved ≡ false) }
 {
@@ -99,7 +99,7 @@ fn nothing_proved<'a>(alloc: Global, question: OutsideQuestion<'a>) -> Result<Fo
     })
 }
 
-/// Whether all was found and that is proved.
+/// Whether the findings are complete and proved.
 fn is_found(
     alloc: Global,
     question: OutsideQuestion<'_>,

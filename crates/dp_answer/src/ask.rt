@@ -1,16 +1,16 @@
-//! What is asked.
+//! The question.
 
-/// What is asked of a dialplan about the calls that come in at a context.
+/// The question on a dialplan about phone calls that come in at a context.
 #[derive(Clone, Copy, Debug, PartialEq, Eq)]
 pub struct Ask<'a> {
     /// The context where the call comes in.
     pub context: &'a [u8],
-    /// The context of which it is asked whether the call may run an entry of it; without one all entries are told.
+    /// The context for which the question is whether the call may run one of its entries; without one all entries are reported.
     pub target: Option<&'a [u8]>,
-    /// The contexts where other calls come in, parted by commas; without them, each context of the dialplan.
+    /// The contexts where other calls come in, separated by commas; by default every context of the dialplan.
     pub starts: Option<&'a [u8]>,
-    /// The bytes of a dialled extension, as ranges; without them `0-9A-Za-z*#+_.`.
+    /// The bytes of a dialled extension, as ranges; by default `0-9A-Za-z*#+_.`.
     pub exten: Option<&'a [u8]>,
-    /// The bytes of a caller's number, as ranges; without them `0-9+`.
+    /// The bytes of a caller's number, as ranges; by default `0-9+`.
     pub caller: Option<&'a [u8]>,
 }

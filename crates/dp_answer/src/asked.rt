@@ -1,4 +1,4 @@
-//! What is asked, by the names and the bytes that it names.
+//! The question, with the names and the bytes that it names.
 ghost use Rattle.std.specs.Prelude.{◌≡◌, ◌∷◌, ◌++◌, [], IfOk, OnOk, is_none, map, option_map, unwrap_or};
 ghost use Rattle.std.specs.List.{list_any};
 ghost use Rattle.dp_answer.specs.Asks.{ask_of, is_lacking, outside_of, starts_of, target_names};
@@ -13,10 +13,10 @@ use dp_conf::{NoMemory, split_args};
 use dp_plan::{Dialplan, Text};
 use std::alloc::Global;
 
-/// The bytes of a dialled extension, unless others are given.
+/// The bytes of a dialled extension by default.
 pub(crate) const USUAL_EXTEN: &[u8] = b"0-9A-Za-z*#+_.";
 
-/// The bytes of a caller's number, unless others are given.
+/// The bytes of a caller's number by default.
 pub(crate) const USUAL_CALLER: &[u8] = b"0-9+";
 
 /// Adds a copy of a name.
@@ -38,7 +38,7 @@ fn all_names(alloc: Global, plan: &Dialplan) -> Result<Vec<Vec<u8>>, NoMemory>
     Ok(names)
 }
 
-/// The name of a context, and those of others, which commas part.
+/// The name of a context, and those of others, separated by commas.
 fn given_names(alloc: Global, context: &[u8], starts: &[u8]) -> Result<Vec<Vec<u8>>, NoMemory>
     ensures { IfOk result (λ names. map (λ name. name.items) names.items ≡ context.now ∷ arguments_of starts.now) }
 {
@@ -61,7 +61,7 @@ fn starts_of(alloc: Global, plan: &Dialplan, ask: &Ask<'_>) -> Result<Vec<Vec<u8
     }
 }
 
-/// The bytes that are given, else the usual ones.
+/// The given bytes, else the default ones.
 pub(crate) fn given_or<'a>(given: Option<&'a [u8]>, usual: &'a [u8]) -> &'a [u8]
     ensures { result.now ≡ unwrap_or (option_map (λ text. text.now) given.entry) usual.now }
 {
@@ -71,7 +71,7 @@ pub(crate) fn given_or<'a>(given: Option<&'a [u8]>, usual: &'a [u8]) -> &'a [u8]
     }
 }
 
-/// What may come in.
+/// Everything that may come in.
 pub(crate) fn outside_of(alloc: Global, plan: &Dialplan, ask: &Ask<'_>) -> Result<Outside, NoMemory>
     ensures { IfOk result (λ outside. shown_outside outside ≡ outside_of plan.now (ask_of ask.now)) }
 {
@@ -83,7 +83,7 @@ pub(crate) fn outside_of(alloc: Global, plan: &Dialplan, ask: &Ask<'_>) -> Resul
     })
 }
 
-/// Whether the dialplan lacks a context of the name.
+/// Whether the dialplan lacks a context with the name.
 fn lacks(alloc: Global, plan: &Dialplan, name: &[u8]) -> Result<bool, NoMemory>
     ensures { IfOk result (λ yes. yes ≡ is_none (number_of plan.now name.now)) }
 {
@@ -91,7 +91,7 @@ fn lacks(alloc: Global, plan: &Dialplan, name: &[u8]) -> Result<bool, NoMemory>
     Ok(plan.number_of(&name).is_none())
 }
 
-/// Whether the dialplan lacks a context of one of the names.
+/// Whether the dialplan lacks a context with one of the names.
 fn lacks_one(alloc: Global, plan: &Dialplan, names: &[Vec<u8>]) -> Result<bool, NoMemory>
     ensures { IfOk result (λ yes. yes ≡ list_any (λ name. is_none (number_of plan.now name)) (map (λ name. name.items) names.now)) }
 {
@@ -103,7 +103,7 @@ fn lacks_one(alloc: Global, plan: &Dialplan, names: &[Vec<u8>]) -> Result<bool, 
     Ok(false)
 }
 
-/// Whether the dialplan lacks the target, where one is named.
+/// Whether the dialplan lacks the target, if one is named.
 fn lacks_target(alloc: Global, plan: &Dialplan, target: Option<&[u8]>) -> Result<bool, NoMemory>
     ensures { IfOk result (λ yes. yes
         ≡ list_any (λ name. is_none (number_of plan.now name)) (target_names (option_map (λ text. text.now) target.entry))) }
@@ -114,8 +114,8 @@ fn lacks_target(alloc: Global, plan: &Dialplan, target: Option<&[u8]>) -> Result
     }
 }
 
-/// Whether the dialplan lacks a context of one of the names that are asked of: the context's, the target's, and those where calls come
-/// in.
+/// Whether the dialplan lacks a context with one of the names in the question: that of the context, that of the target, and those where
+/// calls come in.
 pub(crate) fn is_lacking(
     alloc: Global,
     plan: &Dialplan,

@@ -31,7 +31,7 @@ fn way_back(alloc: Global, routes: &[Route], route: usize) -> Result<Vec<usize>,
     Ok(way)
 }
 
-/// Adds the line of a route by which a call comes in.
+/// Adds the line of a route on which a call comes in.
 fn push_entrance(out: &mut Vec<u8>, plan: &Dialplan, route: &Route) -> Result<(), NoMemory> {
     push_area(out, context_name(plan, route.context), &route.exten)?;
     out.extend_from_slice(b"  a call comes in\n")?;
@@ -67,7 +67,7 @@ fn push_route(out: &mut Vec<u8>, plan: &Dialplan, route: &Route) -> Result<(), N
     Ok(())
 }
 
-/// Adds the lines of the way to a route, from where the call comes in.
+/// Adds the lines of the way to a route, starting where the call comes in.
 pub(crate) fn push_chain(
     alloc: Global,
     out: &mut Vec<u8>,

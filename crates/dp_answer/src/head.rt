@@ -1,4 +1,4 @@
-//! What is told before an answer: what of the outside is assumed, and whether a proof was found.
+//! The text before an answer: the assumptions about the outside, and whether a proof was found.
 ghost use Rattle.std.specs.Prelude.{◌≡◌, ◌++◌, OnOk, map, option_map};
 ghost use Rattle.std.specs.List.{flat_map};
 ghost use Rattle.dp_answer.specs.Asks.{ask_of};
@@ -8,7 +8,7 @@ use crate::ask::Ask;
 use crate::asked::{USUAL_CALLER, USUAL_EXTEN, given_or};
 use dp_conf::NoMemory;
 
-/// Adds a name behind a blank.
+/// Adds a name after a blank.
 fn push_start(out: &mut Vec<u8>, name: &[u8]) -> Result<(), NoMemory>
     ensures { OnOk result (out.new.items ≡ out.old.items ++ spec.start_text name.now) }
 {
@@ -27,7 +27,7 @@ fn push_starts(out: &mut Vec<u8>, starts: &[Vec<u8>]) -> Result<(), NoMemory>
     Ok(())
 }
 
-/// Adds where calls come in, by whether contexts are given.
+/// Adds where calls come in, given whether contexts are given.
 fn push_entrances(
     out: &mut Vec<u8>,
     given: Option<&[u8]>,
@@ -45,7 +45,7 @@ fn push_entrances(
     }
 }
 
-/// Adds a text, and the bytes that are given or else the usual ones.
+/// Adds a text followed by the given bytes, or else by the default ones.
 fn push_bytes(
     out: &mut Vec<u8>,
     text: &[u8],
@@ -60,7 +60,7 @@ fn push_bytes(
     Ok(())
 }
 
-/// Adds what of the outside is assumed: the bytes as they are given, and where calls come in.
+/// Adds the assumptions about the outside: the bytes as given, and where calls come in.
 fn push_assumed(out: &mut Vec<u8>, ask: &Ask<'_>, starts: &[Vec<u8>]) -> Result<(), NoMemory>
     ensures { OnOk result (out.new.items ≡ out.old.items ++ spec.assumptions (ask_of ask.now) (map (λ name. name.items) starts.now)) }
 {
@@ -72,7 +72,7 @@ fn push_assumed(out: &mut Vec<u8>, ask: &Ask<'_>, starts: &[Vec<u8>]) -> Result<
     Ok(())
 }
 
-/// Adds that no proof was found, where none was.
+/// Adds that no proof was found, if there is none.
 fn push_unproved(out: &mut Vec<u8>, is_proved: bool) -> Result<(), NoMemory>
     ensures { OnOk result (out.new.items ≡ out.old.items ++ spec.no_proof_line is_proved) }
 {
@@ -83,7 +83,7 @@ fn push_unproved(out: &mut Vec<u8>, is_proved: bool) -> Result<(), NoMemory>
     Ok(())
 }
 
-/// Adds what is told before an answer.
+/// Adds the text before an answer.
 pub(crate) fn push_head(
     out: &mut Vec<u8>,
     ask: &Ask<'_>,

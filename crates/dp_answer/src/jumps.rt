@@ -1,4 +1,4 @@
-//! The jumps by which a call first gets to where an entry of a context may be found.
+//! The jumps by which a call first gets to a place where an entry of a context may be found.
 use crate::names::{TELEPHONE_DIGITS, set_in};
 use crate::search::{Search, pieces_in};
 use crate::turned_orders::TurnedOrders;
@@ -8,17 +8,17 @@ use dp_pieces::{Piece, may_fit};
 use dp_plan::{Dialplan, Entry, EntryId};
 use std::alloc::Global;
 
-/// A context to which calls may get, and which contexts search it.
+/// A context that calls may reach, and the contexts that search it.
 #[derive(Drop)]
 struct JumpTarget<'a> {
     plan: &'a Dialplan,
     entries: &'a [Entry],
     searching: Vec<bool>,
-    /// The contexts of the ways out of the queues, each as the pieces of its name.
+    /// The contexts of the queues' ways out, each as the pieces of its name.
     ways: &'a [Vec<Piece>],
 }
 
-/// Whether each context of the dialplan searches the context of this number.
+/// Whether each context of the dialplan searches the context with this number.
 fn searching(alloc: Global, plan: &Dialplan, target: usize) -> Result<Vec<bool>, NoMemory> {
     let mut order = TurnedOrders::room(alloc, plan)?;
     let mut searching = Vec::new(alloc);
@@ -30,7 +30,7 @@ fn searching(alloc: Global, plan: &Dialplan, target: usize) -> Result<Vec<bool>,
 }
 
 impl JumpTarget<'_> {
-    /// Whether the context of this number searches the target.
+    /// Whether the context with this number searches the target.
     fn is_searched(&self, number: usize) -> bool {
         match self.searching.get(number) {
             Some(is_searched) => *is_searched,
@@ -78,7 +78,7 @@ impl JumpTarget<'_> {
         }
     }
 
-    /// Whether one of the duties does.
+    /// Whether one of the duties leads to such an area.
     fn is_led_to(&self, alloc: Global, duties: &[Duty]) -> Result<bool, NoMemory> {
         for duty in duties {
             if self.is_led_by(alloc, duty)? {
@@ -89,7 +89,7 @@ impl JumpTarget<'_> {
     }
 }
 
-/// The marks of the entries that lead from an area where no entry of a target may be found to one where one may.
+/// The marks of the entries that lead from an area where no entry of a target may be found to an area where one may.
 #[derive(Drop)]
 struct Jumps<'a> {
     search: &'a Search<'a>,
@@ -98,7 +98,7 @@ struct Jumps<'a> {
 }
 
 impl Jumps<'_> {
-    /// Marks the entry, where it is found from an area and is such a jump.
+    /// Marks the entry, if it is found from an area and is such a jump.
     fn take_entry(
         &mut self,
         alloc: Global,
@@ -174,7 +174,7 @@ impl Jumps<'_> {
     }
 }
 
-/// The entries that lead from an area where no entry of the context of this number may be found to one where one may.
+/// The entries that lead from an area where no entry of the context with this number may be found to an area where one may.
 pub(crate) fn jumps_to(
     alloc: Global,
     search: &Search<'_>,

@@ -1,4 +1,4 @@
-//! Which entries a call may run that comes in at a context: the search for them, what is proved of them, and how they are told.
+//! Which entries a phone call that comes in at a context may run: the search for them, the proof about them, and the report on them.
 #![tactic(auto)]
 
 mod answer;

@@ -15,7 +15,7 @@ pub(crate) fn set_in(text: &[u8]) -> ByteSet {
 /// The digits of a telephone.
 pub(crate) const TELEPHONE_DIGITS: &[u8] = b"0123456789*#ABCD";
 
-/// The names that the machine sets, each with a text of the bytes that their values may have.
+/// The names that the machine sets, each with a text of the bytes that its values may have.
 const MACHINE_NAMES: &[(&str, &str)] = &[
     ("PRIORITY", "0123456789"),
     ("CHANNEL", "Channel/0123456789"),
@@ -26,7 +26,7 @@ const MACHINE_NAMES: &[(&str, &str)] = &[
     ),
 ];
 
-/// What names may have before any entry runs, with these bytes in the caller's number.
+/// The bytes that names may have before any entry runs, with these bytes in the caller's number.
 pub(crate) fn opening_names(alloc: Global, caller: &ByteSet) -> Result<NameTable, NoMemory> {
     let mut names = NameTable::new(alloc);
     names.hold_anywhere(&set_in(b"0123456789"));

@@ -1,4 +1,4 @@
-//! Sets of bytes as a text of ranges names them.
+//! Sets of bytes, written as a text of ranges.
 ghost use Rattle.std.specs.Prelude.{◌≡◌, ◌<◌, ◌||◌, ℕ, IfSome, length, option_map};
 ghost use Rattle.dp_answer.specs.Ranges as spec;
 ghost use Rattle.dp_answer.specs.RangeSteps.{upper as upper_of};
@@ -6,7 +6,7 @@ ghost use Rattle.dp_pieces.specs.Sets.{set_by};
 
 use dp_pieces::ByteSet;
 
-/// Puts each byte from one to another in the set.
+/// Puts each byte from one to another into the set.
 fn put_between(set: &mut ByteSet, low: u8, high: u8)
     ensures { (b : ℕ) → set_by set.new b ≡ (spec.between low high b || set_by set.old b) }
 {
@@ -18,7 +18,7 @@ fn put_between(set: &mut ByteSet, low: u8, high: u8)
     }
 }
 
-/// The byte after a hyphen with which the text begins, and what stands after it.
+/// The byte after a hyphen at the start of the text, and the rest.
 fn upper(text: &[u8]) -> Option<(u8, &[u8])>
     ensures upper { option_map (λ found. (found.0, found.1.now)) result ≡ upper_of text.now }
     ensures shorter { IfSome result (λ found. length found.1.now < length text.now) }
@@ -31,7 +31,7 @@ fn upper(text: &[u8]) -> Option<(u8, &[u8])>
     Some((*high, after))
 }
 
-/// The set of the bytes that a text names: `a-b` is each byte from a to b, and any other byte is itself, as in the function `FILTER` of
+/// The set of bytes that a text names: `a-b` means each byte from a to b, and any other byte means itself, as in the function `FILTER` of
 /// the Asterisk documentation.
 pub(crate) fn set_of_ranges(text: &[u8]) -> ByteSet
     ensures { (b : ℕ) → set_by result b ≡ spec.ranges text.now b }

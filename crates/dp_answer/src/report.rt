@@ -1,4 +1,4 @@
-//! What is told of the calls that come in at a context.
+//! The report on phone calls that come in at a context.
 ghost use Rattle.std.specs.Prelude.{◌≡◌, ◌++◌, None, Some, false, IfOk, OnOk, map, option_map};
 ghost use Rattle.std.specs.Option.{option_map_or};
 ghost use Rattle.dp_answer.specs.Asks.{ask_of};
@@ -19,14 +19,14 @@ use dp_plan::{Dialplan, EntryId, Text};
 use dp_queue::Queues;
 use std::alloc::Global;
 
-/// What is told: its text, and the status.
+/// A report: its text, and the status.
 #[derive(Debug, Drop)]
 pub struct Report {
     pub text: Vec<u8>,
     pub status: u8,
 }
 
-/// Whether the entry is among the answers, which are those that are marked, or without marks all.
+/// Whether the entry is among the answers, which are the marked entries, or all without marks.
 fn is_answer(answers: Option<&Marks>, id: EntryId) -> bool
     ensures { result ≡ answers_in (option_map (λ marks. marks.now) answers.entry) id }
 {
@@ -36,7 +36,7 @@ fn is_answer(answers: Option<&Marks>, id: EntryId) -> bool
     }
 }
 
-/// How many entries the context of a number has.
+/// The number of entries of the context with a number.
 fn count_at(plan: &Dialplan, number: usize) -> usize
     ensures { result ≡ spec.count_at plan.now number }
 {
@@ -46,7 +46,7 @@ fn count_at(plan: &Dialplan, number: usize) -> usize
     }
 }
 
-/// Adds the line of an entry, where it is among the answers.
+/// Adds the line of an entry, if it is among the answers.
 fn push_line(
     out: &mut Vec<u8>,
     plan: &Dialplan,
@@ -62,7 +62,7 @@ fn push_line(
     Ok(())
 }
 
-/// Adds the lines of the answers in the context of a number.
+/// Adds the lines of the answers in the context with a number.
 fn push_lines(
     out: &mut Vec<u8>,
     plan: &Dialplan,
@@ -81,7 +81,7 @@ fn push_lines(
     Ok(())
 }
 
-/// How a call gets to the context of a number.
+/// How a call gets to the context with a number.
 fn chain_at(chains: &[Vec<u8>], number: usize) -> &[u8]
     ensures { result.now ≡ spec.chain_at chains.now number }
 {
@@ -107,7 +107,7 @@ fn push_all(
     Ok(())
 }
 
-/// Whether an entry of the context of a number is among the answers.
+/// Whether an entry of the context with a number is among the answers.
 fn has_answer(plan: &Dialplan, answers: Option<&Marks>, number: usize) -> bool
     ensures { result ≡ spec.has_answer plan.now (answers_in (option_map (λ marks. marks.now) answers.entry)) number }
 {
@@ -123,7 +123,7 @@ fn has_answer(plan: &Dialplan, answers: Option<&Marks>, number: usize) -> bool
     false
 }
 
-/// Adds what is told of a context that a call may reach, or never reaches.
+/// Adds the text on a context that a call may reach, or that it never reaches.
 fn push_verdict(out: &mut Vec<u8>, name: &[u8], may_reach: bool) -> Result<(), NoMemory>
     ensures { OnOk result (out.new.items ≡ out.old.items ++ spec.verdict name.now may_reach) }
 {
@@ -137,7 +137,7 @@ fn push_verdict(out: &mut Vec<u8>, name: &[u8], may_reach: bool) -> Result<(), N
     Ok(())
 }
 
-/// Whether an entry of the context of a number is among the answers, where there is such a context.
+/// Whether an entry of the context with a number is among the answers, if there is such a context.
 fn may_reach(plan: &Dialplan, answers: Option<&Marks>, number: Option<usize>) -> bool
     ensures { result ≡ option_map_or (spec.has_answer plan.now (answers_in (option_map (λ marks. marks.now) answers.entry))) number false }
 {
@@ -147,7 +147,7 @@ fn may_reach(plan: &Dialplan, answers: Option<&Marks>, number: Option<usize>) ->
     }
 }
 
-/// Adds all answers, and what is told besides.
+/// Adds all answers, and the further text.
 fn push_answers(
     out: &mut Vec<u8>,
     plan: &Dialplan,
@@ -162,7 +162,7 @@ fn push_answers(
     Ok(())
 }
 
-/// Adds what is told of a context that a call may reach or not, and what is told besides.
+/// Adds the text on a context that a call may or may not reach, and the further text.
 fn push_target(out: &mut Vec<u8>, name: &[u8], may_reach: bool, tail: &[u8]) -> Result<(), NoMemory>
     ensures { OnOk result (out.new.items ≡ out.old.items ++ (spec.verdict name.now may_reach ++ tail.now)) }
 {
@@ -171,7 +171,7 @@ fn push_target(out: &mut Vec<u8>, name: &[u8], may_reach: bool, tail: &[u8]) -> 
     Ok(())
 }
 
-/// The report on all entries that a call may run, whose text begins so.
+/// The report on all entries that a call may run, given the start of its text.
 fn report_all(
     alloc: Global,
     mut text: Vec<u8>,
@@ -185,7 +185,7 @@ fn report_all(
     Ok(Report { text, status: 0 })
 }
 
-/// The report on a context that a call may reach or not, whose text begins so.
+/// The report on a context that a call may or may not reach, given the start of its text.
 fn report_target(
     alloc: Global,
     mut text: Vec<u8>,
@@ -206,7 +206,7 @@ fn report_target(
     })
 }
 
-/// The report by what was found.
+/// The report, given the findings.
 fn report_found(
     alloc: Global,
     plan: &Dialplan,
@@ -226,11 +226,11 @@ fn report_found(
     }
 }
 
-/// Tells which entries a call may run that comes in at a context, or whether it may run one of a target: whatever is dialled, pressed,
-/// answered, waited for or done by other calls. Nothing is told, with the status 1, where the dialplan lacks a context that is named.
+/// Reports which entries a phone call that comes in at a context may run, or whether it may run one of a target: whatever is dialled,
+/// pressed, answered, waited for or done by other calls. If the dialplan lacks a context that is named the report is empty, with status 1.
 ///
-/// That an entry is not told, or that a context is unreachable, is proved of every run: see the clause. Of what is told nothing is proved:
-/// conditions are not followed. It fails only when out of memory.
+/// It is proved for every run that an entry is not in the report, or that a context is unreachable: see the clause. Nothing is proved of
+/// the entries in the report: conditions are not followed. It fails only if memory runs out.
 pub fn report_on(
     alloc: Global,
     plan: &Dialplan,

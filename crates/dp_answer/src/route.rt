@@ -2,7 +2,7 @@
 use dp_pieces::Piece;
 use dp_plan::EntryId;
 
-/// An area that a call may be in: the number of its context and the shape of its extension, and how the call gets there.
+/// An area in which a call may be: the number of its context and the shape of its extension, and how the call gets there.
 #[derive(Drop)]
 pub struct Route {
     pub context: usize,
@@ -15,10 +15,10 @@ pub struct Route {
 pub enum Cause {
     /// A call comes in.
     Entrance,
-    /// The entry runs in the area of the route of this number.
+    /// The entry runs in the area of the route with this number.
     Jump(usize, EntryId),
-    /// The call ends in the area of the route of this number.
+    /// The call ends in the area of the route with this number.
     End(usize),
-    /// In the area of the route of this number digits are dialled that no extension matches.
+    /// In the area of the route with this number digits are dialled that no extension matches.
     Invalid(usize),
 }

@@ -1,4 +1,4 @@
-//! The search for what a call may run. Nothing is claimed of what it finds.
+//! The search for what a phone call may run. It claims nothing of its findings.
 ghost use Rattle.std.specs.Prelude.{◌≡◌, IfOk};
 ghost use Rattle.dp_pieces.specs.Pieces.{exactly};
 ghost use Rattle.dp_pieces.specs.Shown.{shown_all};
@@ -15,16 +15,16 @@ use dp_plan::{Dialplan, Entry, EntryId, Text};
 use dp_vars::has_opening;
 use std::alloc::Global;
 
-/// The most areas that a search has.
+/// The greatest number of areas in a search.
 pub(crate) const MOST_AREAS: usize = 10_000;
 
-/// The most shapes of a context that stand beside one another; where there would be more, one shape has all their bytes.
+/// The greatest number of shapes of a context that are kept separately; if there were more, one shape gets all their bytes.
 const MOST_SHAPES: usize = 8;
 
-/// The most times that a search goes through its areas.
+/// The greatest number of times that a search goes through its areas.
 const MOST_ROUNDS: usize = 100;
 
-/// A search: what names may have, the areas found so far, and how a call gets to each.
+/// A search: the bytes that names may have, the areas found so far, and how a call gets to each.
 #[derive(Drop)]
 pub(crate) struct Search<'a> {
     pub(crate) plan: &'a Dialplan,
@@ -34,26 +34,26 @@ pub(crate) struct Search<'a> {
     pub(crate) routes: Vec<Route>,
     /// The entries that were found.
     pub(crate) marks: Marks,
-    /// By contexts, where an entry of it was found first.
+    /// For each context, where one of its entries was first found.
     pub(crate) firsts: Vec<Option<First>>,
-    /// The entries that may jump to contexts of which the name is not known.
+    /// The entries that may jump to contexts whose names are unknown.
     pub(crate) computed: Marks,
     /// Whether a name has more bytes than before.
     pub(crate) has_grown: bool,
-    /// How many of the routes were gone through.
+    /// The number of routes that were gone through.
     pub(crate) taken: usize,
-    /// How many of the first routes were gone through before a name had more bytes.
+    /// The number of first routes that were gone through before a name got more bytes.
     pub(crate) stale: usize,
 }
 
-/// Where an entry of a context was found first.
+/// Where an entry of a context was first found.
 #[derive(Clone, Copy)]
 pub(crate) struct First {
     pub(crate) route: usize,
     pub(crate) entry: EntryId,
 }
 
-/// For each context of the dialplan that none of its entries was found.
+/// For each context of the dialplan, that none of its entries was found.
 fn no_firsts(alloc: Global, plan: &Dialplan) -> Result<Vec<Option<First>>, NoMemory> {
     let mut firsts = Vec::new(alloc);
     for _context in plan.contexts() {
@@ -116,7 +116,7 @@ impl<'a> Search<'a> {
         })
     }
 
-    /// What names may have, and the areas.
+    /// The bytes that names may have, and the areas.
     pub(crate) fn into_parts(self) -> (NameTable, Reach) {
         let Search {
             plan: _,
@@ -152,7 +152,7 @@ impl<'a> Search<'a> {
         Ok(any)
     }
 
-    /// Adds an area, in a context of this number.
+    /// Adds an area in a context with this number.
     fn push(
         &mut self,
         alloc: Global,
@@ -184,7 +184,7 @@ impl<'a> Search<'a> {
         Ok(())
     }
 
-    /// Adds an area, where its context has this number and it is not there yet.
+    /// Adds an area, if its context has this number and it is not there yet.
     fn lead_to(
         &mut self,
         alloc: Global,
@@ -304,7 +304,7 @@ impl<'a> Search<'a> {
         Ok(())
     }
 
-    /// What an entry owes that is found in an area.
+    /// The duties of an entry that is found in an area.
     pub(crate) fn duties_of(
         &self,
         alloc: Global,
@@ -325,7 +325,7 @@ impl<'a> Search<'a> {
         )
     }
 
-    /// Notes that an entry is found from the area of a route.
+    /// Records that an entry is found from the area of a route.
     fn note(&mut self, route: usize, id: EntryId) {
         self.marks.mark(id);
         if let Some(first) = self.firsts.get_mut(id.context) {
@@ -349,8 +349,8 @@ impl<'a> Search<'a> {
         self.meet_all(alloc, &duties, Cause::Jump(route, id))
     }
 
-    /// Goes through the entries of a context that is searched from an area. In a later round those whose arguments have no group owe
-    /// nothing new.
+    /// Goes through the entries of a context that is searched from an area. In a later round those whose arguments have no group have no
+    /// new duties.
     fn take_context(&mut self, alloc: Global, seen: &Seen, number: usize) -> Result<(), NoMemory> {
         let plan = self.plan;
         let Some(context) = plan.contexts().get(number) else {
@@ -378,7 +378,7 @@ impl<'a> Search<'a> {
         Ok(())
     }
 
-    /// Goes through what a call may do in an area besides the entries.
+    /// Goes through what a call may do in an area apart from the entries.
     fn take_area(&mut self, alloc: Global, seen: &Seen) -> Result<(), NoMemory> {
         let set = bytes_of(&seen.area.exten);
         self.hold(alloc, b"INVALID_EXTEN", &set)?;
@@ -433,7 +433,7 @@ impl<'a> Search<'a> {
         Ok(())
     }
 
-    /// Lets the name of each global have the bytes of its value. Where a name has more bytes then, all routes have to be gone through.
+    /// Lets the name of each global have the bytes of its value. If a name gets more bytes by that, all routes have to be gone through.
     fn take_globals(&mut self, alloc: Global) -> Result<(), NoMemory> {
         let plan = self.plan;
         self.has_grown = false;
@@ -452,8 +452,8 @@ impl<'a> Search<'a> {
         Ok(())
     }
 
-    /// Goes once through each area, those that it finds on the way too, but for those that it has gone through since a name had more
-    /// bytes: these lead to nothing new. It answers whether there are not too many.
+    /// Goes once through each area, including areas that it finds on the way, except for those that it has gone through since a name got
+    /// more bytes: these lead to nothing new. It returns whether there are not too many.
     fn take_routes(
         &mut self,
         alloc: Global,
@@ -480,7 +480,7 @@ impl<'a> Search<'a> {
         Ok(self.routes.len() <= MOST_AREAS)
     }
 
-    /// Goes on until nothing more is found. It answers whether that came within the bounds.
+    /// Continues until nothing more is found. It returns whether that happened within the limits.
     pub(crate) fn go(&mut self, alloc: Global) -> Result<bool, NoMemory> {
         let mut order = TurnedOrders::room(alloc, self.plan)?;
         for _ in 0..MOST_ROUNDS {

@@ -19,7 +19,7 @@ pub(crate) fn push_number(out: &mut Vec<u8>, number: u64) -> Result<(), NoMemory
     Ok(())
 }
 
-/// The byte at a place of the order in which a set is printed: digits, letters, those that may be dialled besides, and then all others from
+/// The byte at a place in the order in which a set is printed: digits, letters, other bytes that may be dialled, and then all others from
 /// the lowest.
 fn printed_at(place: u8) -> u8 {
     match place {
@@ -42,7 +42,7 @@ fn printed_at(place: u8) -> u8 {
     }
 }
 
-/// A digit of 16.
+/// A hexadecimal digit.
 fn hex_digit(digit: u8) -> u8 {
     match digit {
         0..10 => b'0' + digit,
@@ -50,7 +50,7 @@ fn hex_digit(digit: u8) -> u8 {
     }
 }
 
-/// Adds a byte: as it stands where it can be printed, else as `\xHH`.
+/// Adds a byte: as it is if it can be printed, else as `\xHH`.
 fn push_byte(out: &mut Vec<u8>, byte: u8) -> Result<(), NoMemory> {
     if byte > b' ' && byte < 127 {
         out.push(byte)?;
@@ -62,14 +62,14 @@ fn push_byte(out: &mut Vec<u8>, byte: u8) -> Result<(), NoMemory> {
     Ok(())
 }
 
-/// Bytes of a set that follow one another.
+/// Consecutive bytes of a set.
 #[derive(Clone, Copy)]
 struct Run {
     first: u8,
     last: u8,
 }
 
-/// Adds the bytes of a run, where there is one: three or more as a range.
+/// Adds the bytes of a run, if there is one: three or more as a range.
 fn push_run(out: &mut Vec<u8>, run: Option<Run>) -> Result<(), NoMemory> {
     let Some(run) = run else {
         return Ok(());
@@ -84,7 +84,7 @@ fn push_run(out: &mut Vec<u8>, run: Option<Run>) -> Result<(), NoMemory> {
     push_byte(out, run.last)
 }
 
-/// Adds a set of bytes in braces, as `{0-9A-D*#}`.
+/// Adds a set of bytes in braces, such as `{0-9A-D*#}`.
 fn push_set(out: &mut Vec<u8>, set: &ByteSet) -> Result<(), NoMemory> {
     let mut run: Option<Run> = None;
     out.push(b'{')?;
@@ -114,7 +114,7 @@ fn push_set(out: &mut Vec<u8>, set: &ByteSet) -> Result<(), NoMemory> {
     Ok(())
 }
 
-/// Adds a piece: its byte, a set of which there is one byte, or one of which there may be any.
+/// Adds a piece: its byte, a set for exactly one byte, or a set for any number of bytes.
 fn push_piece(out: &mut Vec<u8>, piece: &Piece) -> Result<(), NoMemory> {
     match piece {
         Piece::Known(byte) => push_byte(out, *byte),
@@ -146,7 +146,7 @@ pub(crate) fn push_area(
     push_pieces(out, exten)
 }
 
-/// The name of the context of the number.
+/// The name of the context with the number.
 pub(crate) fn context_name(plan: &Dialplan, number: usize) -> &[u8]
     ensures { result.now ≡ name_at plan.now number }
 {
@@ -156,7 +156,7 @@ pub(crate) fn context_name(plan: &Dialplan, number: usize) -> &[u8]
     }
 }
 
-/// Adds where an entry of the context of the name stands, as `CONTEXT,NAME,PRIORITY`.
+/// Adds the position of an entry of the context with the name, as `CONTEXT,NAME,PRIORITY`.
 fn push_spot(out: &mut Vec<u8>, context: &[u8], entry: &Entry) -> Result<(), NoMemory>
     ensures { OnOk result (out.new.items
         ≡ out.old.items ++ context.now ++ codes "," ++ spelling entry.now.name ++ codes "," ++ decimal entry.now.priority) }
@@ -192,7 +192,7 @@ pub(crate) fn push_entry(out: &mut Vec<u8>, plan: &Dialplan, id: EntryId) -> Res
     push_call(out, entry)
 }
 
-/// The byte that an example has for one of a set: 1 where it may be, else the first that is printed.
+/// The byte that an example has for one of a set: 1 if the set has it, else the first that is printed.
 fn example_of(set: &ByteSet) -> Option<u8> {
     if set.has(b'1') {
         return Some(b'1');
@@ -205,7 +205,7 @@ fn example_of(set: &ByteSet) -> Option<u8> {
     None
 }
 
-/// An extension of the shape, where it has one, with so many bytes where there may be any.
+/// An extension of the shape, if it has one, with this number of bytes where any number may be.
 fn example_with(alloc: Global, exten: &[Piece], any: usize) -> Result<Option<Vec<u8>>, NoMemory> {
     let mut text = Vec::new(alloc);
     for piece in exten {
@@ -226,7 +226,7 @@ fn example_with(alloc: Global, exten: &[Piece], any: usize) -> Result<Option<Vec
     Ok(Some(text))
 }
 
-/// The first of some extensions of the shape that matches the name, with none, one and more bytes where there may be any.
+/// The first of some extensions of the shape that matches the name, with none, one and more bytes where any number may be.
 pub(crate) fn example(
     alloc: Global,
     exten: &[Piece],

@@ -1,4 +1,4 @@
-//! What is told besides of an answer: how a call gets to each context, and what an engineer may have to mend. Nothing is claimed of it.
+//! The further text of an answer: how a call gets to each context, and what an engineer may have to fix. Nothing is claimed of it.
 ghost use Rattle.std.specs.Prelude.{◌≡◌, option_map};
 ghost use Rattle.dp_answer.specs.Steps.{answers_of};
 
@@ -13,14 +13,14 @@ use dp_plan::{Dialplan, Entry, EntryId};
 use dp_table::StandardApps;
 use std::alloc::Global;
 
-/// For each context how a call gets there, and what is told after the answer.
+/// For each context how a call gets there, and the text after the answer.
 #[derive(Drop)]
 pub(crate) struct Trails {
     pub(crate) chains: Vec<Vec<u8>>,
     pub(crate) tail: Vec<u8>,
 }
 
-/// What was found, and whether it is proved; else a call may run each entry.
+/// The findings, and whether they are proved; else a call may run each entry.
 #[derive(Drop)]
 pub(crate) struct Found<'a> {
     pub(crate) search: Search<'a>,
@@ -33,7 +33,7 @@ impl Found<'_> {
         !self.is_proved || self.search.marks.has(id)
     }
 
-    /// The marks of the entries that are answered, or none where each is.
+    /// The marks of the entries in the answer, or none if every entry is in it.
     pub(crate) fn answers(&self) -> Option<&Marks>
         ensures { option_map (λ marks. marks.now) result ≡ answers_of self.now }
     {
@@ -49,7 +49,7 @@ impl Found<'_> {
     }
 }
 
-/// How a call gets to a context of which an entry was found, where one was.
+/// How a call gets to a context of which an entry was found, if there is one.
 fn chain_to(alloc: Global, search: &Search<'_>, first: Option<First>) -> Result<Vec<u8>, NoMemory> {
     let mut chain = Vec::new(alloc);
     if let Some(first) = first {
@@ -68,7 +68,7 @@ fn chains_of(alloc: Global, search: &Search<'_>) -> Result<Vec<Vec<u8>>, NoMemor
     Ok(chains)
 }
 
-/// How many entries or contexts there are, and how many of them a call may reach.
+/// The number of entries or contexts, and the number of those that a call may reach.
 #[derive(Clone, Copy)]
 struct Count {
     all: u64,
@@ -94,7 +94,7 @@ impl Count {
     }
 }
 
-/// Counts the entries of a context beside those before.
+/// Counts the entries of a context in addition to earlier ones.
 fn with_entries(before: Count, found: &Found<'_>, context: usize, entries: &[Entry]) -> Count {
     let mut count = before;
     for entry in 0..entries.len() {
@@ -196,7 +196,7 @@ fn push_lacking(out: &mut Vec<u8>, found: &Found<'_>) -> Result<(), NoMemory> {
     Ok(())
 }
 
-/// Adds what an engineer may have to mend: jumps to a context that is not known, and applications that the table lacks.
+/// Adds what an engineer may have to fix: jumps to an unknown context, and applications that the table lacks.
 fn push_remarks(out: &mut Vec<u8>, found: &Found<'_>) -> Result<(), NoMemory> {
     let search = &found.search;
     push_marked(
@@ -208,7 +208,7 @@ fn push_remarks(out: &mut Vec<u8>, found: &Found<'_>) -> Result<(), NoMemory> {
     push_lacking(out, found)
 }
 
-/// What is told besides of all entries that a call may run.
+/// The further text on all entries that a call may run.
 pub(crate) fn told_of_all(alloc: Global, found: &Found<'_>) -> Result<Trails, NoMemory> {
     let chains = chains_of(alloc, &found.search)?;
     let mut tail = Vec::new(alloc);
@@ -217,7 +217,7 @@ pub(crate) fn told_of_all(alloc: Global, found: &Found<'_>) -> Result<Trails, No
     Ok(Trails { chains, tail })
 }
 
-/// Adds an extension with which an entry is found from an area, where the area gives one.
+/// Adds an extension with which an entry is found from an area, if the area gives one.
 fn push_example(
     alloc: Global,
     out: &mut Vec<u8>,
@@ -243,7 +243,7 @@ fn push_example(
     Ok(())
 }
 
-/// Adds every jump that lets a call in to the context of a number, where there is one.
+/// Adds every jump that lets a call in to the context with a number, if there is one.
 fn push_jumps(
     alloc: Global,
     out: &mut Vec<u8>,
@@ -261,7 +261,7 @@ fn push_jumps(
     Ok(())
 }
 
-/// Adds the entry that a call may run first, how it gets there, and every jump that lets one in.
+/// Adds the entry that a call may run first, how it gets there, and every jump that lets a call in.
 fn push_way(
     alloc: Global,
     out: &mut Vec<u8>,
@@ -275,7 +275,7 @@ fn push_way(
     push_jumps(alloc, out, search, first.entry.context)
 }
 
-/// Adds how a call gets to the context of this number, where it may; where nothing is proved, the context's name.
+/// Adds how a call gets to the context with this number, if it may; if nothing is proved, the context's name.
 fn push_reached(
     alloc: Global,
     out: &mut Vec<u8>,
@@ -292,7 +292,7 @@ fn push_reached(
     Ok(())
 }
 
-/// What is told besides of a context that a call may reach or not.
+/// The further text on a context that a call may or may not reach.
 pub(crate) fn told_of_target(
     alloc: Global,
     found: &Found<'_>,

@@ -7,7 +7,7 @@ use dp_lookup::SearchOrder;
 use dp_plan::{Dialplan, Text};
 use std::alloc::Global;
 
-/// The search orders of the contexts of a dialplan, one at a time.
+/// The search orders of a dialplan's contexts, one at a time.
 #[derive(Drop)]
 pub(crate) struct TurnedOrders<'a> {
     plan: &'a Dialplan,
@@ -22,14 +22,14 @@ impl<'a> TurnedOrders<'a> {
         Ok(TurnedOrders { plan, order })
     }
 
-    /// Makes this the order of the context of the name.
+    /// Makes this the order of the context with the name.
     pub(crate) fn fill(&mut self, context: &Text)
         ensures { self.new.order.contexts ≡ search_order self.old.plan.now context.now }
     {
         self.order.fill(self.plan, context);
     }
 
-    /// The numbers of the contexts in their order.
+    /// The numbers of the contexts, in order.
     pub(crate) fn contexts(&self) -> &[usize]
         ensures { result.now ≡ self.now.order.contexts }
     {

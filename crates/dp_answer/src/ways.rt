@@ -8,7 +8,7 @@ use dp_pieces::Piece;
 use dp_queue::Queues;
 use std::alloc::Global;
 
-/// The contexts of the ways out of the queues, in their order, each as the pieces of its name.
+/// The contexts of the queues' ways out, in order, each as the pieces of its name.
 pub(crate) fn ways_of(alloc: Global, queues: &Queues) -> Result<Vec<Vec<Piece>>, NoMemory>
     ensures { IfOk result (λ ways. AreWays (map (λ queue. queue.settings) queues.now.queues) ways.items) }
 {

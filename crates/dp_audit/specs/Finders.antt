@@ -1,10 +1,10 @@
--- What look-ups in a dialplan search in.
+-- The tables that look-ups in a dialplan search.
 use Rattle.std.specs.Prelude.{ℕ, Bool, List, is_some}
 use Rattle.dp_lookup.specs.FoundEntry.{found_entry, found_label}
 use Rattle.dp_lookup.specs.SearchOrder.{search_order}
 use Rattle.dp_plan.specs.Plan.{PlanOf}
 
--- whether an entry answers for the extension of the context at the priority
+-- whether an entry answers for an extension of the context at the priority
 unfoldable pub answers : PlanOf → List ℕ → List ℕ → ℕ → Bool
 answers plan context exten priority = is_some (found_entry plan (search_order plan context) exten priority)
 

@@ -18,30 +18,30 @@ use std::alloc::Global;
 pub enum Verdict {
     /// It has the entry that a look-up finds.
     Answers,
-    /// It has an entry of the priority, and one of the same context with a more specific name answers.
+    /// It has an entry with the priority, but an entry of the same context with a more specific name answers.
     LessSpecific,
-    /// It has an entry of the priority, and one of an earlier context of the search order answers.
+    /// It has an entry with the priority, but an entry of an earlier context in the search order answers.
     LaterContext,
-    /// It has no entry of the priority.
+    /// It has no entry with the priority.
     NoSuchPriority,
 }
 
 /// An extension whose name matches a dialled text, and what decides about it.
 #[derive(Clone, Copy, Debug, PartialEq, Eq)]
 pub struct Candidate {
-    /// The extension's entry of the priority or, where it has none, its entry of the lowest priority.
+    /// The extension's entry with the priority or, if it has none, its entry with the lowest priority.
     pub id: EntryId,
     pub verdict: Verdict,
 }
 
-/// An extension whose name matches, by its entry of the priority or, where it has none, its first entry.
+/// An extension whose name matches, represented by its entry with the priority or, if it has none, by its first entry.
 #[derive(Clone, Copy)]
 struct Matching {
     id: EntryId,
     has_priority: bool,
 }
 
-/// Whether the entries have one name.
+/// Whether the entries have the same name.
 fn have_one_name(plan: &Dialplan, left: EntryId, right: EntryId) -> bool
     ensures { result ≡ spec.have_one_name plan.now left right }
 {
@@ -71,7 +71,7 @@ fn has_number(plan: &Dialplan, priority: u32, id: EntryId) -> bool
     }
 }
 
-/// How many of the ranked entries, from the first on, are of the first's extension.
+/// The number of ranked entries, from the first on, that belong to the first entry's extension.
 fn first_size(plan: &Dialplan, ids: &[EntryId]) -> usize
     ensures { result ≡ spec.first_size plan.now ids.now }
 {
@@ -104,7 +104,7 @@ fn entry_of_number(plan: &Dialplan, priority: u32, ids: &[EntryId]) -> Option<En
     None
 }
 
-/// The extension of these entries, where its name matches.
+/// The extension of these entries, if its name matches.
 fn matching_of(
     plan: &Dialplan,
     text: &[u8],
@@ -129,7 +129,7 @@ fn matching_of(
     }
 }
 
-/// Adds the extensions of ranked entries whose name matches.
+/// Adds the extensions of ranked entries whose names match.
 fn push_matching(
     list: &mut Vec<Matching>,
     plan: &Dialplan,
@@ -150,7 +150,7 @@ fn push_matching(
     Ok(())
 }
 
-/// Adds the extensions of the context of this number whose name matches.
+/// Adds the extensions of the context with this number whose names match.
 fn push_context(
     list: &mut Vec<Matching>,
     plan: &Dialplan,
@@ -165,7 +165,7 @@ fn push_context(
     push_matching(list, plan, plan.ranked_at(number), text, priority)
 }
 
-/// The extensions of the contexts of these numbers whose name matches.
+/// The extensions of the contexts with these numbers whose names match.
 fn all_matching(
     alloc: Global,
     plan: &Dialplan,
@@ -182,7 +182,7 @@ fn all_matching(
     Ok(list)
 }
 
-/// The entry of the first of these that has the priority.
+/// The entry of the first of these extensions that has the priority.
 fn answer_of(list: &[Matching]) -> Option<EntryId>
     ensures { result ≡ spec.answer_of list.now }
 {
@@ -194,7 +194,7 @@ fn answer_of(list: &[Matching]) -> Option<EntryId>
     None
 }
 
-/// What decides about an extension, by the entry that answers.
+/// What decides about an extension, given the entry that answers.
 fn verdict_of(answer: Option<EntryId>, matching: Matching) -> Verdict
     ensures { result ≡ spec.verdict_of answer matching }
 {
@@ -206,7 +206,7 @@ fn verdict_of(answer: Option<EntryId>, matching: Matching) -> Verdict
     }
 }
 
-/// Each of these with what decides about it.
+/// Each of these extensions, with what decides about it.
 fn judge(
     alloc: Global,
     answer: Option<EntryId>,
@@ -222,13 +222,12 @@ fn judge(
         .collect(alloc)
 }
 
-/// The extensions of the order's contexts whose name matches the dialled text, in the order in which a look-up asks them,
-/// each with what decides about it.
+/// The extensions of the order's contexts whose names match the dialled text, in the order in which a look-up tries them, each with what
+/// decides about it.
 ///
-/// An extension is a context and a name (dialplan, pattern matching). The contexts are in their order; in each, the more
-/// specific name stands first. A number in the order that no context of the dialplan has gives none. It costs time in
-/// proportion to the entries of the order's contexts, and matches each name once. The error comes only where a growth was
-/// refused.
+/// An extension is a context and a name (dialplan, pattern matching). The contexts are in their order; in each, the more specific name
+/// comes first. A number in the order that no context of the dialplan has gives no extension. The cost is proportional to the number of
+/// entries in the order's contexts, and each name is matched once. It fails only if memory runs out.
 pub fn candidates(
     alloc: Global,
     plan: &Dialplan,
@@ -248,8 +247,8 @@ pub fn candidates(
     judge(alloc, answer_of(&list), &list)
 }
 
-/// The order in which a look-up asks the entries of a context, in any dialplan of whose entries no two of a context have
-/// the same name and priority, as in every loaded one.
+/// The order in which a look-up tries the entries of a context, in any dialplan in which no two entries of a context have the same name and
+/// priority, as in every loaded one.
 pub fn ranked_is_the_ranking()
     ensures { (plan : PlanOf) → All (λ context. AreApart context.entries) plan.contexts
         → (number : ℕ) → IsRankedAt plan number (spec.ranked_of plan number) }

@@ -1,4 +1,4 @@
-//! The places of entries: two entries of one place in different contexts have names of one meaning, and the same priority.
+//! The places of entries: two entries in different contexts with the same place have names with the same meaning, and the same priority.
 ghost use Rattle.std.specs.Prelude.{◌≡◌, IfOk, OnOk};
 ghost use Rattle.std.specs.List.{list_any};
 ghost use Rattle.dp_audit.specs.steps.Hiding as spec;

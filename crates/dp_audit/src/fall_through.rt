@@ -1,4 +1,4 @@
-//! Entries after which a call goes on in another extension: `100` has two priorities, and behind it `_X.` has a third.
+//! Entries after which a phone call goes on in another extension: for example `100` has two priorities, and `_X.` after it has a third.
 ghost use Rattle.std.specs.Prelude.{◌≡◌, ◌+◌, ◌<◌, ◌↔◌, ◌++◌, Contains, IfOk, OnOk, Some};
 ghost use Rattle.std.specs.Option.{option_map, option_to_list};
 ghost use Rattle.dp_audit.specs.FallThroughs as spec;
@@ -14,16 +14,16 @@ use dp_pattern::{Name, Parts};
 use dp_plan::{Dialplan, Entry, EntryId, NoMemory, SharedName, Text};
 use std::alloc::Global;
 
-/// An entry after which a call goes on in another extension, as one with `_X.` does after the last priority of `100`.
+/// An entry after which a phone call goes on in another extension, as with `_X.` after the last priority of `100`.
 #[derive(Clone, Copy, Debug, PartialEq, Eq)]
 pub struct FallThrough {
     /// The entry, whose name is plain.
     pub entry: EntryId,
-    /// The entry that a call meets after it which dialled that name. It has another name.
+    /// The entry that a call which dialled that name meets after it. It has another name.
     pub next: EntryId,
 }
 
-/// Whether the entry of these numbers has a name of this meaning.
+/// Whether the entry with these numbers has a name with this meaning.
 fn has_name(plan: &Dialplan, name: &SharedName, id: EntryId) -> bool
     ensures { result ≡ spec.has_name plan.now name.now id }
 {
@@ -33,7 +33,7 @@ fn has_name(plan: &Dialplan, name: &SharedName, id: EntryId) -> bool
     }
 }
 
-/// The entry that a call meets at the priority which dialled the plain name in the context. A pattern is not dialled.
+/// The entry that a call which dialled the plain name in the context meets at the priority. A pattern is never dialled.
 fn meet(finder: &mut PlanFinder<'_>, context: &Text, name: &Name, priority: u32) -> Option<EntryId>
     ensures found { result ≡ spec.entry_met finder.old (search_order finder.old context.now) name.now priority }
     ensures same { finder.new ≡ finder.old }
@@ -44,7 +44,7 @@ fn meet(finder: &mut PlanFinder<'_>, context: &Text, name: &Name, priority: u32)
     }
 }
 
-/// The entry, where it has another name.
+/// The entry, if it has another name.
 fn keep_other(plan: &Dialplan, name: &SharedName, next: Option<EntryId>) -> Option<EntryId>
     ensures { result ≡ spec.if_other plan.now name.now next }
 {
@@ -65,7 +65,7 @@ fn next_of(finder: &mut PlanFinder<'_>, context: &Text, entry: &Entry) -> Option
     keep_other(finder.plan(), &entry.name, next)
 }
 
-/// Adds the entry with what follows it, where something does.
+/// Adds the entry with the one that follows it, if there is one.
 fn push_next(
     list: &mut Vec<FallThrough>,
     id: EntryId,
@@ -79,7 +79,7 @@ fn push_next(
     Ok(())
 }
 
-/// Adds the entry of these numbers, where a call goes on after it in another extension.
+/// Adds the entry with these numbers, if a call goes on after it in another extension.
 fn push_of_id(
     list: &mut Vec<FallThrough>,
     finder: &mut PlanFinder<'_>,
@@ -97,7 +97,7 @@ fn push_of_id(
     push_next(list, id, next)
 }
 
-/// Adds those of the entries of the context of the number after which a call goes on in another extension.
+/// Adds the entries of the context with the number after which a call goes on in another extension.
 #[tactic(auto, using(crate::proofs::FindingsLemmas::entries_more))]
 fn push_of_context(
     list: &mut Vec<FallThrough>,
@@ -119,11 +119,11 @@ fn push_of_context(
     Ok(())
 }
 
-/// The entries of plain names after which a call goes on in another extension, in the order of the file.
+/// The entries with plain names after which a phone call goes on in another extension, in the order of the file.
 ///
-/// The call dialled the entry's name in the entry's context, and looks there for the next priority. Entries of patterns are
-/// not told, since their texts may go on in different extensions. It is linear in the dialplan, but for what search orders and
-/// look-ups in tries cost. The error comes only where a growth was refused.
+/// The call dialled the entry's name in the entry's context, and looks for the next priority there. Entries of patterns are not reported,
+/// because their texts may go on in different extensions. The cost is linear in the dialplan, apart from search orders and look-ups in
+/// tries. It fails only if memory runs out.
 #[tactic(auto, unfolding(crate::specs::FallThroughs::fall_throughs_of))]
 pub fn find_fall_throughs(alloc: Global, plan: &Dialplan) -> Result<Vec<FallThrough>, NoMemory>
     ensures exact { IfOk result (λ list. list.items ≡ spec.fall_throughs_of plan.now) }

@@ -35,7 +35,7 @@ impl<'a> Model for PlanFinder<'a> {
 }
 
 impl<'a> PlanFinder<'a> {
-    /// The dialplan with what look-ups in it search in.
+    /// The dialplan with the tables that its look-ups search.
     pub(crate) fn new(alloc: Global, plan: &'a Dialplan) -> Result<Self, NoMemory>
         ensures { IfOk result (λ held. held ≡ plan.now) }
     {
@@ -50,7 +50,7 @@ impl<'a> PlanFinder<'a> {
         self.plan
     }
 
-    /// Whether a context of the search order of this one, which has the number, includes it.
+    /// Whether a context in the search order of this one, which has the number, includes it.
     pub(crate) fn is_included(&mut self, context: &Text, number: usize) -> bool
         requires { number < context_count self.old }
         ensures found { result ≡ list_any (λ other. has (links_at self.old other) number) (search_order self.old context.now) }
@@ -60,7 +60,7 @@ impl<'a> PlanFinder<'a> {
         is_included(self.plan, self.finder.order(), number)
     }
 
-    /// The names that have priority 1 in a context of the search order of this one.
+    /// The names that have priority 1 in a context in the search order of this one.
     pub(crate) fn firsts(
         &mut self,
         alloc: Global,

@@ -1,21 +1,21 @@
 //! The findings of an audit.
 use dp_plan::{EntryId, Text};
 
-/// What is found of a context, or of an entry. Which findings there are is this program's own choice.
+/// A finding about a context, or about an entry. Which findings there are is this program's own choice.
 #[derive(Debug, Drop)]
 pub enum Finding {
-    /// The context of this number includes itself, by itself or by way of others.
+    /// The context with this number includes itself, directly or through others.
     Cycle { context: usize },
     /// The entry names an application that the table lacks.
     NoApplication { entry: EntryId },
-    /// The entry has a target that stands there and leads nowhere.
+    /// The entry has a literal target that leads nowhere.
     NoTarget { entry: EntryId, target: Text },
-    /// The priority after that of the entry is not found, while its extension has greater ones.
+    /// The priority after that of the entry is not found, although its extension has greater ones.
     Gap { entry: EntryId },
-    /// The extension, of which the entry has the lowest priority, has no priority 1, and no context of its search order gives it one.
+    /// The extension has no priority 1, and no context in its search order gives it one; the entry has its lowest priority.
     NoFirst { entry: EntryId },
-    /// The entry never answers from the context of this number, which includes its own: an entry with a name of the same
-    /// meaning and the same priority comes before it in the search order.
+    /// The entry never answers from the context with this number, which includes its own: an entry with a name of the same meaning and the
+    /// same priority comes before it in the search order.
     Hidden { entry: EntryId, from: usize },
     /// The arguments of the entry read a variable that nothing sets.
     Unset { entry: EntryId, name: Text },

@@ -24,7 +24,7 @@ use crate::unset::{SetNames, push_unset};
 use dp_plan::{Dialplan, Entry, EntryId, NoMemory, Text};
 use std::alloc::Global;
 
-/// What may name the labels of a dialplan, what it sets and what it hides.
+/// What may name the labels of a dialplan, what the dialplan sets and what it hides.
 #[derive(Clone, Copy)]
 struct Known<'a> {
     naming: &'a Naming,
@@ -32,7 +32,7 @@ struct Known<'a> {
     hidden: &'a Hidings,
 }
 
-/// Adds the finding, where it is one.
+/// Adds the finding, if the condition holds.
 fn push_if(findings: &mut Vec<Finding>, is_one: bool, finding: Finding) -> Result<(), NoMemory>
     ensures { OnOk result (findings.new.items ≡ findings.old.items ++ spec.found_if is_one finding) }
 {
@@ -42,7 +42,7 @@ fn push_if(findings: &mut Vec<Finding>, is_one: bool, finding: Finding) -> Resul
     Ok(())
 }
 
-/// Adds what is found of the priorities of the entry's extension.
+/// Adds the findings on the priorities of the entry's extension.
 fn push_of_priorities(
     findings: &mut Vec<Finding>,
     finder: &mut PlanFinder<'_>,
@@ -63,7 +63,7 @@ fn push_of_priorities(
     Ok(())
 }
 
-/// Adds what is found of the texts of the entry: its targets are told before its priorities.
+/// Adds the findings on the texts of the entry: those on its targets come before those on its priorities.
 fn push_of_texts<N: Names>(
     findings: &mut Vec<Finding>,
     alloc: Global,
@@ -83,7 +83,7 @@ fn push_of_texts<N: Names>(
     Ok(())
 }
 
-/// Adds what is found of an entry that stands at these numbers.
+/// Adds the findings on an entry with these numbers.
 #[tactic(auto, using(crate::proofs::FindingsLemmas::five))]
 fn push_of<N: Names>(
     findings: &mut Vec<Finding>,
@@ -109,7 +109,7 @@ fn push_of<N: Names>(
     Ok(())
 }
 
-/// Adds what is found of the entry of these numbers.
+/// Adds the findings on the entry with these numbers.
 fn push_of_entry<N: Names>(
     findings: &mut Vec<Finding>,
     alloc: Global,
@@ -129,7 +129,7 @@ fn push_of_entry<N: Names>(
     }
 }
 
-/// Adds what is found of the entries of the context of the number.
+/// Adds the findings on the entries of the context with the number.
 #[tactic(auto, using(crate::proofs::FindingsLemmas::entries_more))]
 fn push_of_entries<N: Names>(
     findings: &mut Vec<Finding>,
@@ -154,7 +154,7 @@ fn push_of_entries<N: Names>(
     Ok(())
 }
 
-/// Adds what is found of the entries of the context of the name and number.
+/// Adds the findings on the entries of the context with the name and number.
 fn push_of_named<N: Names>(
     alloc: Global,
     findings: &mut Vec<Finding>,
@@ -187,7 +187,7 @@ fn push_of_named<N: Names>(
     Ok(())
 }
 
-/// Adds what is found of the context of the number and of its entries.
+/// Adds the findings on the context with the number and on its entries.
 fn push_of_context<N: Names>(
     alloc: Global,
     findings: &mut Vec<Finding>,
@@ -208,7 +208,7 @@ fn push_of_context<N: Names>(
     Ok(())
 }
 
-/// What is found of the contexts, in the order of the file.
+/// The findings on the contexts, in the order of the file.
 fn findings_of<N: Names>(
     alloc: Global,
     finder: &mut PlanFinder<'_>,
@@ -225,7 +225,7 @@ fn findings_of<N: Names>(
     Ok(findings)
 }
 
-/// What is found in the dialplan, by what may name its labels, what it sets and what it hides.
+/// The findings on the dialplan, given what may name its labels, what it sets and what it hides.
 #[tactic(auto, unfolding(crate::specs::Findings::findings_of))]
 fn findings_by<N: Names>(
     alloc: Global,
@@ -249,14 +249,12 @@ fn findings_by<N: Names>(
     Ok(findings)
 }
 
-/// What an audit finds in the dialplan, in the order of the file: of each context first whether it includes itself, and
-/// then of each of its entries whether the table lacks its application, which of its targets lead nowhere, whether it is
-/// followed by a gap, whether its extension has no beginning, from which contexts it is hidden, which variables in its
-/// arguments nothing sets, and whether nothing may name its label: no target, and no piece of the arguments of an application
-/// that the table lacks.
+/// The findings of an audit of the dialplan, in the order of the file: for each context first whether it includes itself. Then for each of
+/// its entries: whether the table lacks its application, which of its targets lead nowhere, whether it is followed by a gap, whether its
+/// extension has no beginning, from which contexts it is hidden, which variables in its arguments nothing sets, and whether nothing may
+/// name its label: no target, and no piece of the arguments of an application that the table lacks.
 ///
-/// It is linear in the dialplan and its search orders, but for what look-ups in tries cost. The error comes only where a
-/// growth was refused.
+/// The cost is linear in the dialplan and its search orders, apart from look-ups in tries. It fails only if memory runs out.
 pub fn audit<N: Names>(alloc: Global, plan: &Dialplan) -> Result<Vec<Finding>, NoMemory>
     ensures { IfOk result (λ findings. findings.items ≡ spec.findings_of N.known plan.now) }
 {

@@ -21,7 +21,7 @@ fn insert_name(names: &mut IndexSet<Spelling>, name: &SharedName) -> Result<(), 
     Ok(())
 }
 
-/// Adds the name of the entry, where it has priority 1.
+/// Adds the name of the entry, if it has priority 1.
 fn insert_first(names: &mut IndexSet<Spelling>, entry: &Entry) -> Result<(), NoMemory>
     ensures { OnOk result (Adds (λ text. is_first text entry.now) names.old.keys names.new.keys) }
 {

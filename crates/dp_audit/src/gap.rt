@@ -38,7 +38,7 @@ fn lacks(finder: &mut PlanFinder<'_>, context: &Text, name: &Name, priority: u32
     }
 }
 
-/// Whether a call that runs the entry ends at the next priority, though its extension goes on after it.
+/// Whether a call that runs the entry ends at the next priority although its extension goes on after it.
 pub(crate) fn is_gap(
     finder: &mut PlanFinder<'_>,
     scene: &Scene<'_>,

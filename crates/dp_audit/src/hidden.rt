@@ -1,5 +1,5 @@
-//! Entries that others hide: from a context that includes their own they never answer, since an entry of the same place comes
-//! before them.
+//! Entries that others hide: they never answer from a context that includes their own, because an entry with the same place comes before
+//! them.
 ghost use Rattle.std.specs.Prelude.{◌≡◌, ◌≢◌, ◌≤◌, ◌++◌, ℕ, List, [], All, IsTrue, map, replicate, slice_get, unwrap_or, Some, IfOk, OnOk};
 ghost use Rattle.std.specs.List.{list_any};
 ghost use Rattle.dp_conf.specs.Changes.{changed_at};
@@ -39,7 +39,7 @@ impl Model for ContextNumbers {
 }
 
 impl ContextNumbers {
-    /// No numbers. It never allocates.
+    /// An empty list of numbers. It never allocates.
     fn new(alloc: Global) -> Self
         ensures { result ≡ [] }
     {
@@ -57,7 +57,7 @@ impl ContextNumbers {
     }
 }
 
-/// Such numbers of each entry of a context. A contract sees them as a list of lists.
+/// Such numbers for each entry of a context. A contract sees them as a list of lists.
 #[derive(Drop)]
 struct EntryNumbers {
     entries: Vec<ContextNumbers>,
@@ -72,7 +72,7 @@ impl Model for EntryNumbers {
 }
 
 impl EntryNumbers {
-    /// No numbers of so many entries.
+    /// Empty numbers for so many entries.
     fn of(alloc: Global, count: usize) -> Result<Self, NoMemory>
         ensures { IfOk result (λ noted. noted ≡ replicate count []) }
     {
@@ -83,7 +83,7 @@ impl EntryNumbers {
         Ok(EntryNumbers { entries })
     }
 
-    /// Adds a number to those of an entry, where there is one.
+    /// Adds a number to those of an entry, if there is such an entry.
     fn push(&mut self, entry: usize, number: usize) -> Result<(), NoMemory>
         ensures { OnOk result (self.new ≡ changed_at (spec.with_number number) entry self.old) }
     {
@@ -105,7 +105,7 @@ impl EntryNumbers {
     }
 }
 
-/// From which contexts each entry of a dialplan is hidden. A contract sees it as what is noted of the entries of each context.
+/// From which contexts each entry of a dialplan is hidden. A contract sees it as what is recorded for the entries of each context.
 #[derive(Drop)]
 pub(crate) struct Hidings {
     notes: Vec<EntryNumbers>,
@@ -131,7 +131,7 @@ impl Hidings {
         Ok(Hidings { notes })
     }
 
-    /// Adds a number to those of an entry, where there is one.
+    /// Adds a number to those of an entry, if there is such an entry.
     fn push(&mut self, id: EntryId, number: usize) -> Result<(), NoMemory>
         ensures { OnOk result (self.new ≡ changed_at
             (changed_at (spec.with_number number) id.entry) id.context self.old) }
@@ -143,7 +143,7 @@ impl Hidings {
         Ok(())
     }
 
-    /// Notes that an entry is hidden from the context of a number, where its place is among these.
+    /// Records that an entry is hidden from the context with a number, if its place is among these.
     fn ask_entry(
         &mut self,
         places: &IndexSet<EntryPlace>,
@@ -159,7 +159,7 @@ impl Hidings {
         Ok(())
     }
 
-    /// Notes which entries of the context of a number are hidden from that of another, by the places of those before it.
+    /// Records which entries of the context with a number are hidden from that with another, given the places of the entries before them.
     fn ask_context(
         &mut self,
         plan: &Dialplan,
@@ -181,7 +181,7 @@ impl Hidings {
         Ok(())
     }
 
-    /// Adds the places of a context's entries, and asks the entries of the context that comes after it.
+    /// Adds the places of a context's entries, and checks the entries of the context that comes after it.
     fn ask_next(
         &mut self,
         plan: &Dialplan,
@@ -200,8 +200,8 @@ impl Hidings {
         Ok(())
     }
 
-    /// Notes which entries are hidden from the context of a number, by its search order. Of the last context no place is
-    /// kept, and of an order of one context nothing is asked.
+    /// Records which entries are hidden from the context with a number, given its search order. It keeps no places for the last context,
+    /// and checks nothing in an order with one context.
     fn ask_order(
         &mut self,
         alloc: Global,
@@ -220,7 +220,7 @@ impl Hidings {
         Ok(())
     }
 
-    /// Notes which entries are hidden from each context of the dialplan.
+    /// Records which entries are hidden from each context of the dialplan.
     fn ask_all(
         &mut self,
         alloc: Global,
@@ -247,7 +247,7 @@ impl Hidings {
         Ok(hidings)
     }
 
-    /// The contexts from which the entry of these numbers is hidden.
+    /// The contexts from which the entry with these numbers is hidden.
     fn get(&self, id: EntryId) -> &[usize]
         ensures { result.now ≡ unwrap_or (spec.noted_at self.now id) [] }
     {
@@ -285,8 +285,8 @@ pub(crate) fn push_hidden(
     Ok(())
 }
 
-/// An entry that is hidden from a context is none that a look-up from there finds, whatever text is dialled and at whatever
-/// priority, in any dialplan whose names some texts mean, as in every loaded one.
+/// A look-up from a context never finds an entry that is hidden from it, whatever text is dialled and at whatever priority, in any dialplan
+/// whose names are the meanings of some texts, as in every loaded one.
 pub fn hidden_is_never_found()
     ensures { (plan : PlanOf) → All (λ context. AreNamed context.entries) plan.contexts
         → (from : ℕ) (id : EntryId) (entry : Entry)

@@ -1,5 +1,5 @@
-//! The targets that stand in the arguments of an entry, after the Asterisk documentation's pages on the applications
-//! `Goto`, `GotoIf`, `Gosub` and `GosubIf`.
+//! The targets in the arguments of an entry, after the Asterisk documentation's pages on the applications `Goto`, `GotoIf`, `Gosub` and
+//! `GosubIf`.
 ghost use Rattle.std.specs.Prelude.{◌≡◌};
 ghost use Rattle.std.specs.List.{list_any};
 ghost use Rattle.std.specs.Option.{option_map};
@@ -13,13 +13,13 @@ use dp_vars::has_opening;
 /// How an application jumps.
 #[derive(Clone, Copy, Debug, PartialEq, Eq)]
 pub struct Jump {
-    /// By a condition, to one of two sides.
+    /// Whether a condition chooses one of two sides.
     pub is_choice: bool,
-    /// Into a subroutine, whose arguments stand after the target.
+    /// Whether it enters a subroutine, whose arguments come after the target.
     pub is_subroutine: bool,
 }
 
-/// How the application of this name jumps, where it does.
+/// How the application with this name jumps, if it does.
 pub(crate) fn jump_of(name: &[u8]) -> Option<Jump>
     ensures { result ≡ spec.jump_of name.now }
 {
@@ -57,7 +57,7 @@ pub(crate) struct Targets<'a> {
     pub(crate) second: Option<&'a [u8]>,
 }
 
-/// A side of a choice. One of blanks alone is as if it were not there.
+/// A side of a choice. A side of blanks alone counts as absent.
 fn side(text: &[u8]) -> Option<&[u8]>
     ensures { option_map (λ side. side.now) result ≡ spec.side (blanks.trim text.now) }
 {
@@ -68,7 +68,7 @@ fn side(text: &[u8]) -> Option<&[u8]>
     Some(side)
 }
 
-/// The sides of a choice, by its arguments.
+/// The sides of a choice, given its arguments.
 fn sides_of(arguments: &[u8]) -> Targets<'_>
     ensures { spec.texts_of_targets result ≡ spec.sides_of (cuts.cut_once 63 arguments.now) }
 {
@@ -103,7 +103,7 @@ pub(crate) fn targets_in(jump: Jump, arguments: &[u8]) -> Targets<'_>
     }
 }
 
-/// A target by its parts. A part that is not given is empty.
+/// A target, in parts. A missing part is empty.
 #[derive(Clone, Copy)]
 pub(crate) struct JumpParts<'a> {
     pub(crate) context: &'a [u8],
@@ -111,7 +111,7 @@ pub(crate) struct JumpParts<'a> {
     pub(crate) priority: &'a [u8],
 }
 
-/// The last part of a target: of a subroutine's, what stands before its arguments.
+/// The last part of a target; for a subroutine, the part before its arguments.
 fn priority_in(jump: Jump, part: &[u8]) -> &[u8]
     ensures { result.now ≡ spec.priority_in jump.is_subroutine part.now }
 {
@@ -124,7 +124,7 @@ fn priority_in(jump: Jump, part: &[u8]) -> &[u8]
     }
 }
 
-/// The parts of a target's text, where there are one to three of them.
+/// The parts of a target's text, if there are one to three of them.
 pub(crate) fn parts_of(jump: Jump, text: &[u8]) -> Option<JumpParts<'_>>
     ensures { option_map spec.seen result ≡ spec.parts_of jump text.now }
 {
@@ -157,7 +157,7 @@ pub(crate) fn parts_of(jump: Jump, text: &[u8]) -> Option<JumpParts<'_>>
     None
 }
 
-/// Whether a byte that ends a group stands in the text.
+/// Whether the text has a byte that ends a group.
 fn holds_end(text: &[u8]) -> bool
     ensures { result ≡ list_any spec.ends_group text.now }
 {
@@ -169,14 +169,14 @@ fn holds_end(text: &[u8]) -> bool
     false
 }
 
-/// Whether a text is what it comes to: no group begins in it, and none ends in it.
+/// Whether a text is literal: no group begins or ends in it.
 fn stands(text: &[u8]) -> bool
     ensures { result ≡ spec.stands text.now }
 {
     !(has_opening(text) || holds_end(text))
 }
 
-/// Whether each part of a target stands; of more than three parts, the whole text.
+/// Whether each part of a target is literal; with more than three parts, whether the whole text is.
 pub(crate) fn parts_stand(text: &[u8], parts: Option<JumpParts<'_>>) -> bool
     ensures { result ≡ spec.parts_stand text.now (option_map spec.seen parts.entry) }
 {

@@ -14,7 +14,7 @@ use dp_plan::{Context, Dialplan, Entry, NoMemory, Text};
 use indexmap::IndexSet;
 use std::alloc::Global;
 
-/// What the targets of a dialplan name, and whether one of them is computed.
+/// The labels and numbers that the targets of a dialplan name, and whether one of the targets is computed.
 #[derive(Drop)]
 struct Named {
     is_computing: bool,
@@ -22,7 +22,7 @@ struct Named {
 }
 
 impl Named {
-    /// Notes what a target names, or that it is computed.
+    /// Records what a target names, or that it is computed.
     fn note(&mut self, alloc: Global, jump: Jump, text: &[u8]) -> Result<(), NoMemory>
         ensures { OnOk result (spec.NotesTexts jump self.old self.new (text.now ∷ [])) }
     {
@@ -38,7 +38,7 @@ impl Named {
         Ok(())
     }
 
-    /// Notes a target, where there is one.
+    /// Records a target, if there is one.
     #[tactic(auto, using(crate::proofs::LabelsLemmas::notes_none))]
     fn note_side(&mut self, alloc: Global, jump: Jump, side: Option<&[u8]>) -> Result<(), NoMemory>
         ensures { OnOk result (spec.NotesTexts jump self.old self.new
@@ -50,7 +50,7 @@ impl Named {
         }
     }
 
-    /// Notes the targets of an entry.
+    /// Records the targets of an entry.
     #[tactic(auto, using(crate::proofs::LabelsLemmas::notes_texts))]
     fn note_targets(
         &mut self,
@@ -65,7 +65,7 @@ impl Named {
         Ok(())
     }
 
-    /// Notes the targets of an entry.
+    /// Records the targets of an entry.
     #[tactic(auto, using(crate::proofs::LabelsLemmas::notes_both, crate::proofs::LabelsLemmas::notes_none))]
     fn note_entry(&mut self, alloc: Global, entry: &Entry) -> Result<(), NoMemory>
         ensures { OnOk result (spec.Notes self.old self.new (spec.computes entry.now) (spec.names entry.now)) }
@@ -77,7 +77,7 @@ impl Named {
         self.note_targets(alloc, jump, targets)
     }
 
-    /// Notes the targets of the entries.
+    /// Records the targets of the entries.
     #[tactic(auto, using(crate::proofs::LabelsLemmas::notes_both, crate::proofs::LabelsLemmas::notes_none))]
     fn note_entries(&mut self, alloc: Global, entries: &[Entry]) -> Result<(), NoMemory>
         ensures { OnOk result (spec.Notes self.old self.new (list_any spec.computes entries.now)
@@ -89,7 +89,7 @@ impl Named {
         Ok(())
     }
 
-    /// Notes the targets of the contexts' entries.
+    /// Records the targets of the contexts' entries.
     #[tactic(auto, using(crate::proofs::LabelsLemmas::notes_both, crate::proofs::LabelsLemmas::notes_none))]
     fn note_contexts(&mut self, alloc: Global, contexts: &[Context]) -> Result<(), NoMemory>
         ensures { OnOk result (spec.Notes self.old self.new (list_any spec.computes (spec.entries_in contexts.now))
@@ -101,7 +101,7 @@ impl Named {
         Ok(())
     }
 
-    /// What the targets of a dialplan name.
+    /// The labels and numbers that the targets of a dialplan name.
     fn of(alloc: Global, plan: &Dialplan) -> Result<Self, NoMemory>
         ensures { IfOk result (spec.AreNamed plan.now) }
     {
@@ -138,7 +138,7 @@ impl Naming {
         Ok(Naming { targets, pieces })
     }
 
-    /// Whether the label's first piece is among those of arguments.
+    /// Whether the label's first piece is among the pieces of arguments.
     fn has_piece(&self, alloc: Global, label: &Text) -> Result<bool, NoMemory>
         ensures { IfOk result (λ found. found ≡ spec.has_piece self.now (cut.first_piece label.now)) }
     {

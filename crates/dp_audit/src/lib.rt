@@ -1,5 +1,5 @@
-//! What an engineer asks of a dialplan before it goes live: which extensions match a dialled text, and what its writer may
-//! not have meant. What is asked here goes beyond Asterisk's own tools, and is this program's own choice.
+//! Questions of an engineer about a dialplan before it goes live: which extensions match a dialled text, and what its writer may not have
+//! meant. These questions go beyond Asterisk's own tools, and are this program's own choice.
 #![tactic(auto)]
 
 mod candidate;

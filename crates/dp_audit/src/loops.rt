@@ -16,15 +16,15 @@ use crate::successor::successor;
 use dp_plan::{Dialplan, EntryId, NoMemory};
 use std::alloc::Global;
 
-/// An endless run: a call that meets an entry of it comes to that entry again and again, and nothing that it or anyone does
-/// ends it.
+/// An endless run: a call that meets one of its entries comes back to that entry again and again, and nothing that it or anyone does ends
+/// it.
 #[derive(Clone, Copy, Debug, PartialEq, Eq)]
 pub struct Loop {
-    /// Of its entries, the one that stands first in the file.
+    /// The first of its entries in the file.
     pub first: EntryId,
 }
 
-/// Whether the entry stands before another in the file.
+/// Whether the entry is before another in the file.
 fn is_before(entry: EntryId, other: EntryId) -> bool
     ensures { result ≡ spec.is_before entry other }
 {
@@ -44,7 +44,7 @@ fn place_of(path: &[EntryId], id: EntryId) -> Option<usize>
     None
 }
 
-/// Of the entries of a path from a place on, the one that stands first in the file.
+/// The first entry in the file, among those of a path from a place on.
 fn least_from(path: &[EntryId], place: usize) -> EntryId
     requires { place < length path.now }
     ensures { walks.IsLeastFrom spec.is_before path.now place result }
@@ -58,7 +58,7 @@ fn least_from(path: &[EntryId], place: usize) -> EntryId
     least
 }
 
-/// The first entry of the loop that a path comes to, where its next entry is one of its own.
+/// The first entry of the loop that a path leads into, if its next entry is one of its own.
 fn first_of_loop(path: &[EntryId], end: Option<EntryId>) -> Option<EntryId>
     ensures { MatchOption result (walks.IsOpen path.now end) (walks.Closes spec.is_before path.now end) }
 {
@@ -70,16 +70,16 @@ fn first_of_loop(path: &[EntryId], end: Option<EntryId>) -> Option<EntryId>
 /// A search for loops.
 #[derive(Drop)]
 struct Search {
-    /// The entries that were come to.
+    /// The entries that were visited.
     seen: EntryMarks,
-    /// Of each loop among them the first entry.
+    /// The first entry of each loop among them.
     firsts: EntryMarks,
     /// The entries of the last walk.
     path: Vec<EntryId>,
 }
 
 impl Search {
-    /// A search that has come to no entry.
+    /// A search that has visited no entry.
     fn new(alloc: Global, plan: &Dialplan) -> Result<Self, NoMemory>
         ensures seen { IfOk result (λ search. search.seen ≡ marks.no_marks plan.now.contexts) }
         ensures firsts { IfOk result (λ search. search.firsts ≡ marks.no_marks plan.now.contexts) }
@@ -90,8 +90,8 @@ impl Search {
         Ok(Search { seen, firsts, path })
     }
 
-    /// Walks from an entry to where a call goes from it, until the walk ends or comes to an entry that was come to before. What
-    /// comes after its path is answered.
+    /// Walks from an entry to where a call goes from it, until the walk ends or meets an entry that was visited before. It returns what
+    /// comes after its path.
     fn walk<N: OnwardNames>(
         &mut self,
         finder: &mut PlanFinder<'_>,
@@ -114,7 +114,7 @@ impl Search {
         Ok(end)
     }
 
-    /// Searches for the loop to which a call comes from an entry, where no walk came to it before.
+    /// Searches for the loop to which a call comes from an entry, if no walk has visited it before.
     fn search_from<N: OnwardNames>(
         &mut self,
         finder: &mut PlanFinder<'_>,
@@ -133,7 +133,7 @@ impl Search {
         Ok(())
     }
 
-    /// Searches from the entries of the context of the number.
+    /// Searches from the entries of the context with the number.
     fn search_context<N: OnwardNames>(
         &mut self,
         finder: &mut PlanFinder<'_>,
@@ -182,7 +182,7 @@ impl Search {
     }
 }
 
-/// Adds the entry of these numbers, where it is marked.
+/// Adds the entry with these numbers, if it is marked.
 fn push_if(list: &mut Vec<Loop>, firsts: &EntryMarks, id: EntryId) -> Result<(), NoMemory>
     ensures { OnOk result (list.new.items ≡ list.old.items ++ spec.loop_if (marks.is_marked firsts.now) id) }
 {
@@ -192,7 +192,7 @@ fn push_if(list: &mut Vec<Loop>, firsts: &EntryMarks, id: EntryId) -> Result<(),
     Ok(())
 }
 
-/// Adds those of the entries of the context of the number that are marked.
+/// Adds the marked entries of the context with the number.
 #[tactic(auto, using(crate::proofs::FindingsLemmas::entries_more))]
 fn push_of_context(
     list: &mut Vec<Loop>,
@@ -213,7 +213,7 @@ fn push_of_context(
     Ok(())
 }
 
-/// The entries that are marked, in the order of the file.
+/// The marked entries, in the order of the file.
 fn list_loops(alloc: Global, plan: &Dialplan, firsts: &EntryMarks) -> Result<Vec<Loop>, NoMemory>
     ensures { IfOk result (λ list. list.items ≡ spec.loops_by (marks.is_marked firsts.now) plan.now) }
 {
@@ -224,12 +224,12 @@ fn list_loops(alloc: Global, plan: &Dialplan, firsts: &EntryMarks) -> Result<Vec
     Ok(list)
 }
 
-/// The endless runs of a dialplan, each by its first entry, in the order of the file.
+/// The endless runs of a dialplan, each with its first entry, in the order of the file.
 ///
-/// A call goes from an entry to another by a `Goto` whose target stands, and after an application after which it always goes on.
-/// It is followed from entries of plain names, and as long as it meets entries of the context in which it searches and of plain
-/// names: by way of patterns and included contexts nothing is told. It is linear in the dialplan, but for what search orders and
-/// look-ups in tries cost. The error comes only where a growth was refused.
+/// A call goes from one entry to another by a `Goto` with a literal target, and after an application after which it always goes on. It is
+/// followed from entries with plain names, as long as it meets entries with plain names in the context that it searches: runs through
+/// patterns and included contexts are not reported. The cost is linear in the dialplan, apart from search orders and look-ups in tries. It
+/// fails only if memory runs out.
 pub fn find_loops<N: OnwardNames>(alloc: Global, plan: &Dialplan) -> Result<Vec<Loop>, NoMemory>
     ensures listed { IfOk result (λ loops. spec.ListsLoops N.onward plan.now loops.items) }
     ensures each { IfOk result (λ loops. (id : EntryId)
@@ -240,8 +240,8 @@ pub fn find_loops<N: OnwardNames>(alloc: Global, plan: &Dialplan) -> Result<Vec<
     Ok(loops)
 }
 
-/// A call that meets the first entry of a loop, in the entry's own context and by its plain name, goes on for ever: it has a next
-/// place after any number of them, in any dialplan and for any applications that always go on.
+/// A call that meets the first entry of a loop, in the entry's own context and by its plain name, goes on for ever: after any number of
+/// places it has a next one, in any dialplan and for any applications that always go on.
 pub fn loop_never_ends()
     ensures { (onward : List ℕ → Bool) (plan : PlanOf) (id : EntryId) → spec.IsLoop onward plan id
         → (place : runs.CallPlace) → runs.MeetsHome plan place id

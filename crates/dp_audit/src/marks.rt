@@ -22,7 +22,7 @@ impl Model for ContextMarks {
 }
 
 impl ContextMarks {
-    /// None of so many entries is marked.
+    /// Marks for so many entries, none of them marked.
     fn none(alloc: Global, count: usize) -> Result<Self, NoMemory>
         ensures { IfOk result (λ marks. marks ≡ replicate count false) }
     {
@@ -30,7 +30,7 @@ impl ContextMarks {
         Ok(ContextMarks { list })
     }
 
-    /// Marks an entry, where there is one.
+    /// Marks an entry, if there is one.
     fn set(&mut self, entry: usize)
         ensures { self.new ≡ changed_at (λ mark. true) entry self.old }
     {
@@ -62,7 +62,7 @@ impl Model for EntryMarks {
 }
 
 impl EntryMarks {
-    /// No entry of the contexts is marked.
+    /// The marks with no entry of the contexts marked.
     pub(crate) fn none(alloc: Global, contexts: &[Context]) -> Result<Self, NoMemory>
         ensures { IfOk result (λ marks. marks ≡ spec.no_marks contexts.now) }
     {
@@ -73,7 +73,7 @@ impl EntryMarks {
         Ok(EntryMarks { contexts: marks })
     }
 
-    /// Marks the entry of these numbers, where there is one.
+    /// Marks the entry with these numbers, if there is one.
     pub(crate) fn set(&mut self, id: EntryId)
         ensures { self.new ≡ spec.with_mark id self.old }
     {
@@ -83,7 +83,7 @@ impl EntryMarks {
         }
     }
 
-    /// The mark of the entry of these numbers.
+    /// The mark of the entry with these numbers.
     fn get(&self, id: EntryId) -> Option<bool>
         ensures { result ≡ spec.mark_at self.now id }
     {
@@ -93,7 +93,7 @@ impl EntryMarks {
         }
     }
 
-    /// Whether the entry of these numbers is marked.
+    /// Whether the entry with these numbers is marked.
     pub(crate) fn is_set(&self, id: EntryId) -> bool
         ensures { result ≡ spec.is_marked self.now id }
     {
@@ -103,7 +103,7 @@ impl EntryMarks {
         }
     }
 
-    /// The entry, where there is one that is not marked.
+    /// The entry, if there is one that is not marked.
     pub(crate) fn keep_unmarked(&self, id: Option<EntryId>) -> Option<EntryId>
         ensures { result ≡ spec.if_unmarked self.now id }
     {

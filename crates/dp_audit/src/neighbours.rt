@@ -1,5 +1,5 @@
-//! Which entries of a context have others of their extension. A ranking has those of one name side by side, by their
-//! priorities.
+//! Which entries of a context have other entries with the same name. A ranking has the entries with one name side by side, ordered by
+//! priority.
 ghost use Rattle.std.specs.Prelude.{◌≡◌, ◌+◌, ◌<◌, ◌≤◌, false, length, replicate, IfOk, if◌then◌else◌};
 ghost use Rattle.std.specs.Option.{option_copied};
 ghost use Rattle.dp_audit.specs.Findings.{has_greater, has_lower};
@@ -10,7 +10,7 @@ ghost use Rattle.dp_plan.specs.Ranking.{ranked_entry};
 use dp_plan::{Dialplan, Entry, EntryId, NoMemory};
 use std::alloc::Global;
 
-/// The entry at the place of a ranking.
+/// The entry at a place in a ranking.
 fn ranked_entry<'a>(entries: &'a [Entry], ids: &[EntryId], place: usize) -> Option<&'a Entry>
     ensures { option_copied result ≡ ranked_entry entries.now ids.now place }
 {
@@ -18,7 +18,7 @@ fn ranked_entry<'a>(entries: &'a [Entry], ids: &[EntryId], place: usize) -> Opti
     entries.get(id.entry)
 }
 
-/// Whether both are entries, and they have one name.
+/// Whether both are entries with the same name.
 fn are_of_one_name(left: Option<&Entry>, right: Option<&Entry>) -> bool
     ensures { result ≡ spec.are_of_one_name (option_copied left.entry) (option_copied right.entry) }
 {
@@ -28,7 +28,7 @@ fn are_of_one_name(left: Option<&Entry>, right: Option<&Entry>) -> bool
     }
 }
 
-/// Whether the entry at the place of a ranking has one of its name after it.
+/// Whether the entry at a place in a ranking has an entry with the same name after it.
 fn is_followed(entries: &[Entry], ids: &[EntryId], place: usize) -> bool
     requires { place < length ids.now }
     ensures { result ≡ spec.is_followed entries.now ids.now place }
@@ -38,7 +38,7 @@ fn is_followed(entries: &[Entry], ids: &[EntryId], place: usize) -> bool
     are_of_one_name(one, next)
 }
 
-/// Marks the entry at the place of a ranking, where there is one.
+/// Marks the entry at a place in a ranking, if there is one.
 fn mark(ids: &[EntryId], place: usize, marks: &mut [bool])
     ensures { marks.new ≡ spec.with_mark ids.now place marks.old }
 {
@@ -49,7 +49,7 @@ fn mark(ids: &[EntryId], place: usize, marks: &mut [bool])
     }
 }
 
-/// Marks the entry that stands so far after the one at the place, where that one has one of its name after it.
+/// Marks the entry this far after the one at the place, if that one has an entry with the same name after it.
 fn mark_after(entries: &[Entry], ids: &[EntryId], place: usize, shift: usize, marks: &mut [bool])
     requires place { place < length ids.now }
     requires near { shift ≤ 1 }
@@ -61,7 +61,7 @@ fn mark_after(entries: &[Entry], ids: &[EntryId], place: usize, shift: usize, ma
     }
 }
 
-/// Marks the entries that stand so far after those that have one of their name after them.
+/// Marks the entries this far after those that have an entry with the same name after them.
 fn mark_all(entries: &[Entry], ids: &[EntryId], shift: usize, marks: &mut [bool])
     requires near { shift ≤ 1 }
     requires none { marks.old ≡ replicate (length entries.now) false }
@@ -72,7 +72,7 @@ fn mark_all(entries: &[Entry], ids: &[EntryId], shift: usize, marks: &mut [bool]
     }
 }
 
-/// The marks of the entries that stand so far after those that have one of their name after them.
+/// The marks of the entries this far after those that have an entry with the same name after them.
 fn marks_of(
     alloc: Global,
     entries: &[Entry],
@@ -87,7 +87,7 @@ fn marks_of(
     Ok(marks)
 }
 
-/// The entries of the context of the number.
+/// The entries of the context with the number.
 pub(crate) fn entries_at(plan: &Dialplan, number: usize) -> &[Entry]
     ensures { result.now ≡ entries_at plan.now number }
 {
@@ -97,7 +97,7 @@ pub(crate) fn entries_at(plan: &Dialplan, number: usize) -> &[Entry]
     }
 }
 
-/// Of each entry of the context of the number, whether its extension has an entry of a greater priority.
+/// For each entry of the context with the number, whether its extension has an entry with a greater priority.
 pub(crate) fn greater_marks(
     alloc: Global,
     plan: &Dialplan,
@@ -111,7 +111,7 @@ pub(crate) fn greater_marks(
     Ok(marks)
 }
 
-/// Of each entry of the context of the number, whether its extension has an entry of a lower priority.
+/// For each entry of the context with the number, whether its extension has an entry with a lower priority.
 pub(crate) fn lower_marks(
     alloc: Global,
     plan: &Dialplan,

@@ -30,7 +30,7 @@ fn cut_place(text: &[u8]) -> Option<usize>
     text.iter().position(|byte| cuts(*byte))
 }
 
-/// What stands before the first byte at which applications cut their arguments, and what stands after it, where there is one.
+/// The bytes before the first byte at which applications cut their arguments, and the bytes after it, if there is one.
 fn cut_first(text: &[u8]) -> (&[u8], Option<&[u8]>)
     ensures pieces { MatchOption result.1 (slice_split spec.cuts text.now ≡ result.0.now ∷ [])
         (λ rest. slice_split spec.cuts text.now ≡ result.0.now ∷ slice_split spec.cuts rest.now) }
@@ -72,7 +72,7 @@ fn insert_pieces(pieces: &mut IndexSet<Text>, alloc: Global, text: &[u8]) -> Res
     Ok(())
 }
 
-/// Adds the pieces of the arguments of the entry, where the table lacks its application.
+/// Adds the pieces of the arguments of the entry, if the table lacks its application.
 fn insert_of<N: Names>(
     pieces: &mut IndexSet<Text>,
     alloc: Global,
@@ -86,7 +86,7 @@ fn insert_of<N: Names>(
     Ok(())
 }
 
-/// Adds the pieces of the arguments of those of the entries whose application the table lacks.
+/// Adds the pieces of the arguments of those entries whose applications the table lacks.
 fn insert_of_entries<N: Names>(
     pieces: &mut IndexSet<Text>,
     alloc: Global,
@@ -100,7 +100,7 @@ fn insert_of_entries<N: Names>(
     Ok(())
 }
 
-/// The pieces of the arguments of those entries of a dialplan whose application the table lacks.
+/// The pieces of the arguments of those entries of a dialplan whose applications the table lacks.
 pub(crate) fn pieces_of<N: Names>(
     alloc: Global,
     plan: &Dialplan,
@@ -114,8 +114,8 @@ pub(crate) fn pieces_of<N: Names>(
     Ok(pieces)
 }
 
-/// A label is never unused where it stands in the arguments of an application that the table lacks, between two bytes at which
-/// applications cut them, or between one and an end, in any dialplan and by any table.
+/// A label is never unused if it is in the arguments of an application that the table lacks, between two bytes at which applications cut
+/// them, or between one of them and an end, in any dialplan and with any table.
 pub fn standing_label_is_never_unused()
     ensures { (known : List ℕ → Bool) (plan : PlanOf) (id : EntryId) (other entry : Entry) (label : List ℕ)
         → entry_at plan id ≡ Some other → known other.application ≡ false → spec.Stands label other.arguments

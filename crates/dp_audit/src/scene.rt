@@ -1,4 +1,4 @@
-//! What the entries of a context are asked by.
+//! The data with which the entries of a context are examined.
 use crate::hidden::Hidings;
 use crate::labels::Naming;
 use crate::spelling::Spelling;
@@ -6,8 +6,8 @@ use crate::unset::SetNames;
 use dp_plan::Text;
 use indexmap::IndexSet;
 
-/// Of one context which of its entries have one of a greater and of a lower priority in their extension, and the names that have
-/// priority 1 in a context of its search order.
+/// For one context, which of its entries have an entry with a greater or a lower priority in their extension, and the names that have
+/// priority 1 in a context in its search order.
 #[derive(Clone, Copy)]
 pub(crate) struct Scene<'a> {
     pub(crate) greater: &'a [bool],

@@ -1,4 +1,4 @@
-//! Where a call goes from an entry, whatever happens.
+//! Where a call goes from an entry in any case.
 ghost use Rattle.std.specs.Prelude.{◌≡◌, ◌+◌, IfOk, Some};
 ghost use Rattle.std.specs.Option.{option_and_then, option_map};
 ghost use Rattle.dp_audit.specs.Loops as spec;
@@ -12,7 +12,7 @@ use dp_pattern::Parts;
 use dp_plan::{Dialplan, Entry, EntryId, MOST_PRIORITY, NoMemory, Text};
 use std::alloc::Global;
 
-/// Whether the entry of these numbers is one of the context of the name.
+/// Whether the entry with these numbers belongs to the context with the name.
 fn is_of(plan: &Dialplan, context: &Text, id: EntryId) -> bool
     ensures { result ≡ spec.is_of plan.now context.now id }
 {
@@ -22,7 +22,7 @@ fn is_of(plan: &Dialplan, context: &Text, id: EntryId) -> bool
     }
 }
 
-/// Whether the entry of these numbers has a plain name.
+/// Whether the entry with these numbers has a plain name.
 fn is_plain(plan: &Dialplan, id: EntryId) -> bool
     ensures { result ≡ spec.has_plain_name plan.now id }
 {
@@ -35,7 +35,7 @@ fn is_plain(plan: &Dialplan, id: EntryId) -> bool
     }
 }
 
-/// The entry, where it is one of the context and has a plain name.
+/// The entry, if it belongs to the context and has a plain name.
 fn keep_home(plan: &Dialplan, context: &Text, id: Option<EntryId>) -> Option<EntryId>
     ensures { result ≡ option_and_then (spec.if_home plan.now context.now) id }
 {
@@ -46,7 +46,7 @@ fn keep_home(plan: &Dialplan, context: &Text, id: Option<EntryId>) -> Option<Ent
     None
 }
 
-/// The entry that a call meets at the extension of the context at the priority, where it is at home there.
+/// The entry that a call meets at the extension of the context at the priority, if that is the entry's own place.
 fn meet_home(
     finder: &mut PlanFinder<'_>,
     context: &Text,
@@ -60,7 +60,7 @@ fn meet_home(
     keep_home(finder.plan(), context, id)
 }
 
-/// The number, where it is a priority.
+/// The number, if it is a priority.
 fn priority_in(number: u64) -> Option<u32>
     ensures { result ≡ spec.if_priority number }
 {
@@ -70,7 +70,7 @@ fn priority_in(number: u64) -> Option<u32>
     }
 }
 
-/// The priority that a text writes at an extension of the context: the number that it is, else that of the label.
+/// The priority that a text names in an extension of the context: the number that it writes, else the priority of the label.
 fn priority_of(
     finder: &mut PlanFinder<'_>,
     context: &Text,
@@ -89,7 +89,7 @@ fn priority_of(
     }
 }
 
-/// The entry at the priority that a text writes.
+/// The entry at the priority that a text names.
 fn meet_written(
     finder: &mut PlanFinder<'_>,
     context: &Text,
@@ -103,14 +103,14 @@ fn meet_written(
     meet_home(finder, context, exten, priority)
 }
 
-/// The part, or what stands for it where it is not given.
+/// The part, or its replacement if it is missing.
 fn part_or<'a>(own: &'a [u8], part: &'a [u8]) -> &'a [u8]
     ensures { result.now ≡ targets.part_or own.now part.now }
 {
     if part.is_empty() { own } else { part }
 }
 
-/// The entry to which the parts of a target lead, from an extension of a context.
+/// The entry to which the parts of a target lead from an extension of a context.
 fn meet_by_parts(
     finder: &mut PlanFinder<'_>,
     alloc: Global,
@@ -129,7 +129,7 @@ fn meet_by_parts(
     Ok(meet_written(finder, &context, exten, parts.priority))
 }
 
-/// The entry to which a target leads that stands.
+/// The entry to which a literal target leads.
 fn meet_by_target(
     finder: &mut PlanFinder<'_>,
     alloc: Global,
@@ -154,7 +154,7 @@ fn meet_by_target(
     }
 }
 
-/// The entry to which a call goes from an entry of a plain name: by `Goto`, or after an application that always goes on.
+/// The entry to which a call goes from an entry with a plain name: by `Goto`, or after an application that always goes on.
 fn meet_after<N: OnwardNames>(
     finder: &mut PlanFinder<'_>,
     alloc: Global,
@@ -177,7 +177,7 @@ fn meet_after<N: OnwardNames>(
     Ok(None)
 }
 
-/// The entry to which a call goes from an entry of the context of the name.
+/// The entry to which a call goes from an entry of the context with the name.
 fn successor_of<N: OnwardNames>(
     finder: &mut PlanFinder<'_>,
     alloc: Global,
@@ -193,7 +193,7 @@ fn successor_of<N: OnwardNames>(
     }
 }
 
-/// The entry to which a call goes from the entry of these numbers, whatever happens. From an entry of a pattern it is not known.
+/// The entry to which a call goes from the entry with these numbers in any case. From an entry with a pattern it is unknown.
 pub(crate) fn successor<N: OnwardNames>(
     finder: &mut PlanFinder<'_>,
     alloc: Global,

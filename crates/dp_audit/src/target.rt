@@ -11,7 +11,7 @@ use dp_pattern::{Name, Parts as NameParts};
 use dp_plan::{Entry, EntryId, MOST_PRIORITY, NoMemory, Text};
 use std::alloc::Global;
 
-/// The extension of a target: the one that is given, or the entry's own where its name is plain.
+/// The extension of a target: the given one, or the entry's own if its name is plain.
 fn exten_of<'a>(name: &'a Name, part: &'a [u8]) -> Option<&'a [u8]>
     ensures { option_map (λ exten. exten.now) result ≡ spec.exten_of name.now part.now }
 {
@@ -37,7 +37,7 @@ fn number_leads(finder: &mut PlanFinder<'_>, context: &Text, exten: &[u8], numbe
     }
 }
 
-/// Whether what a text writes is found at an extension of a context: the priority of that number, else the label.
+/// Whether a text names a priority that is found in an extension of a context: the number that it writes, else the priority of the label.
 fn priority_leads(finder: &mut PlanFinder<'_>, context: &Text, exten: &[u8], text: &[u8]) -> bool
     ensures leads { result ≡ spec.priority_leads finder.old context.now exten.now text.now }
     ensures same { finder.new ≡ finder.old }
@@ -51,7 +51,7 @@ fn priority_leads(finder: &mut PlanFinder<'_>, context: &Text, exten: &[u8], tex
     }
 }
 
-/// Whether the priority is found at an extension of the context that is given, else of the entry's own.
+/// Whether the priority is found in the given extension of the context, else in the entry's own.
 fn exten_leads(
     finder: &mut PlanFinder<'_>,
     alloc: Global,
@@ -70,7 +70,7 @@ fn exten_leads(
     Ok(priority_leads(finder, &context, exten, parts.priority))
 }
 
-/// Whether the parts lead to an entry, from an entry of this name in this context.
+/// Whether the parts lead to an entry, from an entry with this name in this context.
 fn leads(
     finder: &mut PlanFinder<'_>,
     alloc: Global,
@@ -91,7 +91,7 @@ fn leads(
     }
 }
 
-/// Whether a target stands, and leads nowhere.
+/// Whether a target is literal and leads nowhere.
 fn is_missing(
     finder: &mut PlanFinder<'_>,
     alloc: Global,
@@ -111,7 +111,7 @@ fn is_missing(
     Ok(!leads)
 }
 
-/// The target, where there is one that stands and leads nowhere.
+/// The target, if there is one that is literal and leads nowhere.
 fn keep_missing<'a>(
     finder: &mut PlanFinder<'_>,
     alloc: Global,
@@ -131,7 +131,7 @@ fn keep_missing<'a>(
     Ok(missing.then_some(text))
 }
 
-/// Those of the targets that stand and lead nowhere.
+/// The targets among these that are literal and lead nowhere.
 #[tactic(auto, using(crate::proofs::TargetsLemmas::filter_sides))]
 fn keep_sides<'a>(
     finder: &mut PlanFinder<'_>,
@@ -150,7 +150,7 @@ fn keep_sides<'a>(
     Ok(Targets { first, second })
 }
 
-/// The targets of an entry of this context that stand and lead nowhere: at most two.
+/// The targets of an entry of this context that are literal and lead nowhere: at most two.
 #[tactic(auto, unfolding(crate::specs::Targets::missing_targets))]
 fn missing_targets<'a>(
     finder: &mut PlanFinder<'_>,
@@ -171,7 +171,7 @@ fn missing_targets<'a>(
     keep_sides(finder, alloc, own, entry.name.name(), jump, targets)
 }
 
-/// Adds the target, where there is one.
+/// Adds the target, if there is one.
 fn push_target(
     findings: &mut Vec<Finding>,
     alloc: Global,
@@ -204,7 +204,7 @@ fn push_targets(
     Ok(())
 }
 
-/// Adds the targets of an entry of this context that stand and lead nowhere.
+/// Adds the targets of an entry of this context that are literal and lead nowhere.
 pub(crate) fn push_missing(
     findings: &mut Vec<Finding>,
     alloc: Global,

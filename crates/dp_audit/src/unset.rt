@@ -16,28 +16,28 @@ use indexmap::IndexSet;
 use itoa::Buffer;
 use std::alloc::Global;
 
-/// Whether what stands before the byte is a name.
+/// Whether the bytes before this byte are a name.
 fn ends_name(byte: u8) -> bool
     ensures { result ≡ spec.ends_name byte }
 {
     byte == b':' || byte == b'}'
 }
 
-/// Whether no name goes on with the byte.
+/// Whether the byte cannot be part of a name.
 fn stops_name(byte: u8) -> bool
     ensures { result ≡ spec.stops_name byte }
 {
     ends_name(byte) || byte == b'$' || byte == b'('
 }
 
-/// The place of the first byte with which no name goes on.
+/// The place of the first byte that cannot be part of a name.
 fn name_end(body: &[u8]) -> Option<usize>
     ensures { result ≡ position spec.stops_name body.now }
 {
     body.iter().position(|byte| stops_name(*byte))
 }
 
-/// The name at the front of a group in braces: what stands before its first `:` or `}`, unless a `$` or a `(` comes first.
+/// The name at the start of a group in braces: the bytes before its first `:` or `}`, unless a `$` or a `(` comes first.
 fn front_name(body: &[u8]) -> Option<&[u8]>
     ensures { option_map (λ name. name.now) result ≡ spec.front_name body.now }
 {
@@ -48,7 +48,7 @@ fn front_name(body: &[u8]) -> Option<&[u8]>
     None
 }
 
-/// The name of the group in braces that a byte opens, by the bytes after it.
+/// The name in a group in braces, given the byte that opens the group and the bytes after it.
 fn name_after(byte: u8, after: &[u8]) -> Option<&[u8]>
     ensures { option_map (λ name. name.now) result ≡ spec.name_after byte after.now }
 {
@@ -70,7 +70,7 @@ fn is_of_channel(name: &[u8]) -> bool
         || name == b"INVALID_EXTEN".as_slice()
 }
 
-/// Whether applications that call and that come back set the name.
+/// Whether applications that call or return set the name.
 fn is_status(name: &[u8]) -> bool
     ensures { result ≡ spec.is_status name.now }
 {
@@ -79,7 +79,7 @@ fn is_status(name: &[u8]) -> bool
         || name == b"QUEUESTATUS".as_slice()
 }
 
-/// Whether applications of the members of queues set the name.
+/// Whether applications on members of queues set the name.
 fn is_member_status(name: &[u8]) -> bool
     ensures { result ≡ spec.is_member_status name.now }
 {
@@ -103,7 +103,7 @@ fn sets_argument(function: &[u8]) -> bool
     function == b"GLOBAL".as_slice() || function == b"LOCAL".as_slice()
 }
 
-/// The variable that `Set` sets by its arguments: the name before its `=` as it stands, or the argument of `GLOBAL` or `LOCAL`.
+/// The variable that `Set` sets, given its arguments: the name before its `=` itself, or the argument of `GLOBAL` or `LOCAL`.
 fn variable_of(arguments: &[u8]) -> Option<&[u8]>
     ensures { option_map (λ name. name.now) result ≡ spec.variable_of (cuts.cut_once 61 arguments.now) }
 {
@@ -120,7 +120,7 @@ fn variable_of(arguments: &[u8]) -> Option<&[u8]>
     }
 }
 
-/// How many arguments a subroutine is given by its target's text.
+/// The number of arguments of a subroutine, given its target's text.
 fn count_arguments(alloc: Global, text: &[u8]) -> Result<usize, NoMemory>
     ensures { IfOk result (λ count. count ≡ length (spec.arguments_given text.now)) }
 {
@@ -137,7 +137,7 @@ fn count_arguments(alloc: Global, text: &[u8]) -> Result<usize, NoMemory>
     Ok(arguments.len())
 }
 
-/// The name of the argument of a number.
+/// The name of the argument with a number.
 fn argument_name(alloc: Global, number: usize) -> Result<Text, NoMemory>
     ensures { IfOk result (λ name. name ≡ spec.argument_name number) }
 {
@@ -154,7 +154,7 @@ pub(crate) struct SetNames {
 }
 
 impl SetNames {
-    /// Notes a name.
+    /// Records a name.
     fn add(&mut self, name: Text) -> Result<(), NoMemory>
         ensures { OnOk result (spec.Adds self.old self.new (name ∷ [])) }
     {
@@ -162,7 +162,7 @@ impl SetNames {
         Ok(())
     }
 
-    /// Notes a name, where there is one.
+    /// Records a name, if there is one.
     #[tactic(auto, using(crate::proofs::UnsetLemmas::adds_none))]
     fn add_variable(&mut self, alloc: Global, name: Option<&[u8]>) -> Result<(), NoMemory>
         ensures { OnOk result (spec.Adds self.old self.new
@@ -174,7 +174,7 @@ impl SetNames {
         self.add_copy(alloc, name)
     }
 
-    /// Notes the name of the argument after so many.
+    /// Records the name of the argument after so many.
     fn add_argument(&mut self, alloc: Global, before: usize) -> Result<(), NoMemory>
         requires { before < 2 ^ 64 - 1 }
         ensures { OnOk result (spec.Adds self.old self.new (spec.argument_name (before + 1) ∷ [])) }
@@ -183,7 +183,7 @@ impl SetNames {
         self.add(name)
     }
 
-    /// Notes a name as it stands.
+    /// Records a copy of a name.
     fn add_copy(&mut self, alloc: Global, name: &[u8]) -> Result<(), NoMemory>
         ensures { OnOk result (spec.Adds self.old self.new (name.now ∷ [])) }
     {
@@ -191,7 +191,7 @@ impl SetNames {
         self.add(name)
     }
 
-    /// Notes the names of so many arguments.
+    /// Records the names of so many arguments.
     #[tactic(auto, using(crate::proofs::UnsetLemmas::adds_none))]
     fn add_arguments(&mut self, alloc: Global, count: usize) -> Result<(), NoMemory>
         ensures { OnOk result (spec.Adds self.old self.new (spec.argument_names count)) }
@@ -202,7 +202,7 @@ impl SetNames {
         Ok(())
     }
 
-    /// Notes what a target sets, where there is one.
+    /// Records the names that a target sets, if there is a target.
     #[tactic(auto, using(crate::proofs::UnsetLemmas::adds_none))]
     fn add_target(
         &mut self,
@@ -223,7 +223,7 @@ impl SetNames {
         self.add_arguments(alloc, count)
     }
 
-    /// Notes what the targets set.
+    /// Records the names that the targets set.
     fn add_targets(
         &mut self,
         alloc: Global,
@@ -237,7 +237,7 @@ impl SetNames {
         Ok(())
     }
 
-    /// Notes what an entry sets.
+    /// Records the names that an entry sets.
     #[tactic(auto, using(crate::proofs::UnsetLemmas::adds_none))]
     fn add_entry(&mut self, alloc: Global, entry: &Entry) -> Result<(), NoMemory>
         ensures { OnOk result (spec.Adds self.old self.new (spec.entry_sets entry.now)) }
@@ -253,7 +253,7 @@ impl SetNames {
         }
     }
 
-    /// Notes what the entries set.
+    /// Records the names that the entries set.
     fn add_entries(&mut self, alloc: Global, entries: &[Entry]) -> Result<(), NoMemory>
         ensures { OnOk result (spec.Adds self.old self.new (flat_map spec.entry_sets entries.now)) }
     {
@@ -263,7 +263,7 @@ impl SetNames {
         Ok(())
     }
 
-    /// Notes what the entries of the contexts set.
+    /// Records the names that the entries of the contexts set.
     fn add_contexts(&mut self, alloc: Global, contexts: &[Context]) -> Result<(), NoMemory>
         ensures { OnOk result (spec.Adds self.old self.new
             (flat_map (λ context. flat_map spec.entry_sets context.entries) contexts.now)) }
@@ -274,7 +274,7 @@ impl SetNames {
         Ok(())
     }
 
-    /// Notes the globals.
+    /// Records the globals.
     fn add_globals(&mut self, alloc: Global, globals: &[GlobalVariable]) -> Result<(), NoMemory>
         ensures { OnOk result (spec.Adds self.old self.new (flat_map (λ global. global.name ∷ []) globals.now)) }
     {
@@ -305,7 +305,7 @@ impl SetNames {
     }
 }
 
-/// Adds the name, where there is one, if nothing sets it.
+/// Adds the name if there is one and nothing sets it.
 fn push_name(
     findings: &mut Vec<Finding>,
     alloc: Global,
@@ -327,7 +327,7 @@ fn push_name(
     Ok(())
 }
 
-/// Adds the names that the text reads and that are not noted.
+/// Adds the names that the text reads and that are not recorded.
 fn push_names(
     findings: &mut Vec<Finding>,
     alloc: Global,
@@ -346,7 +346,7 @@ fn push_names(
     Ok(())
 }
 
-/// Adds the names that the arguments of an entry read and that nothing sets.
+/// Adds the names that the arguments of an entry read but nothing sets.
 #[tactic(auto, using(crate::proofs::UnsetLemmas::lacks_are_unset))]
 pub(crate) fn push_unset(
     findings: &mut Vec<Finding>,

@@ -1,4 +1,4 @@
--- What a seat gains that attends a channel.
+-- What a seat gains when it attends a channel.
 use Rattle.std.specs.Prelude.{◌≡◌, ◌≢◌, ℕ, ◌-◌, Bool, true, false, List, [], ◌∷◌, ◌++◌, length, take, drop, Option, Some, None, MatchOption, All}
 use Rattle.dp_app.specs.Rows.{Meanings}
 use Rattle.dp_machine.specs.World.{World}
@@ -17,7 +17,7 @@ use Rattle.dp_board.specs.declared.seat_call.SeatCall.{SeatCall}
 abbrev pub IsStepOf : ℕ → SeatCall → Type 0
 IsStepOf channel told = told.event ≡ step channel
 
--- the calls that a seat was told of since
+-- the calls that a seat was told of since then
 abbrev pub calls_since : Sitting → Sitting → List SeatCall
 calls_since old new = drop (length old.told) new.told
 
@@ -31,7 +31,7 @@ pub record AddsSteps (channel : ℕ) (old new : Sitting) : Type 0 where
 abbrev pub with_step : Sitting → ℕ → ℕ → Reply → Sitting
 with_step seat channel place reply = with_call seat place (step channel) reply
 
--- the last call that was told
+-- the last call that a seat was told of
 abbrev pub last_call : List SeatCall → Option SeatCall
 last_call [] = None
 last_call (told ∷ []) = Some told
@@ -47,26 +47,26 @@ pub record Leaves (meanings : Meanings) (first : World) (channel : ℕ) (told : 
   pub place : told.place ≡ length before
   pub state : has_ended log channel ≡ ended
 
--- an attendance goes on after this call: it left the channel not ended, and was refused neither since the channel has ended nor since there
--- is no such channel
+-- an attendance goes on after this call: the channel had not ended after it, and it was not refused because the channel had ended or does
+-- not exist
 pub record GoesOn (meanings : Meanings) (first : World) (channel : ℕ) (told : SeatCall) : Type 0 where
   pub left : Leaves meanings first channel told false
   pub not_over : told.reply ≢ refused is_over
   pub there : told.reply ≢ refused NoChannel
 
--- it goes on after each of these calls
+-- an attendance goes on after each of these calls
 abbrev pub GoesOnAfter : Meanings → World → ℕ → List SeatCall → Type 0
 GoesOnAfter meanings first channel given = All (GoesOn meanings first channel) given
 
--- it goes on after each of them but the last
+-- an attendance goes on after each of these calls but the last
 abbrev pub GoesOnToLast : Meanings → World → ℕ → List SeatCall → Type 0
 GoesOnToLast meanings first channel given = GoesOnAfter meanings first channel (take (length given - 1) given)
 
--- the call left the channel ended, or its reply says that the channel had ended
+-- the channel had ended after the call, or the reply says so
 abbrev pub IsOver : Meanings → World → ℕ → SeatCall → Type 0
 IsOver meanings first channel told = told.reply ≢ refused is_over → Leaves meanings first channel told true
 
--- whether an attendance is over after a reply, by it and by whether the channel has ended then
+-- whether an attendance is over after a reply, given the reply and whether the channel has ended then
 abbrev pub IsEndAfter : Bool → Reply → Option Why → Type 0
 IsEndAfter ended reply None = (ended ≡ false) × (reply ≢ refused is_over) × (reply ≢ refused NoChannel)
 IsEndAfter ended reply (Some Ended) = reply ≢ refused is_over → ended ≡ true
@@ -80,8 +80,8 @@ IsEnd meanings first channel told (Some Ended) = IsOver meanings first channel t
 IsEnd meanings first channel told (Some TurnsSpent) = ⊥
 IsEnd meanings first channel told (Some (Refused reason)) = (reason ≡ NoChannel) × (told.reply ≡ refused NoChannel)
 
--- the reason of an attendance, by the calls that it gave: the channel has ended after the last of them, the turns are spent where all
--- were taken and none ended it, and it was refused where there is a last one, to which the reply says so
+-- why an attendance is over, given the calls that it made: the channel has ended after the last of them, or all turns are spent and none
+-- ended it, or it was refused, as the reply to the last call says
 abbrev pub IsReason : Meanings → World → ℕ → Why → ℕ → List SeatCall → Type 0
 IsReason meanings first channel Ended turns given = MatchOption (last_call given) ⊥ (IsOver meanings first channel)
 IsReason meanings first channel TurnsSpent turns given = (length given ≡ turns) × GoesOnAfter meanings first channel given

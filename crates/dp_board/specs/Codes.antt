@@ -1,4 +1,4 @@
--- The numbers of the faults of a board, and the names that are printed beside them.
+-- The numbers of a board's faults, and their printed names.
 use Rattle.std.specs.Prelude.{ℕ, List, codes}
 use Rattle.dp_board.specs.declared.fault.SettleFault.{SettleFault}
 use Rattle.dp_board.specs.declared.fault.SettleFault.TheVariants.{SeatMissing, Differs, NoMemory}

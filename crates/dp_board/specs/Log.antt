@@ -25,16 +25,16 @@ events_in entries = map (λ entry. entry.event) entries
 abbrev pub replies_in : List Entry → List Reply
 replies_in entries = map (λ entry. entry.reply) entries
 
--- the world and the replies are those of the events, one after another, from the opening world
+-- the world and the replies come from the events, one after another, starting from the opening world
 pub record Replays (meanings : Meanings) (first : World) (log : Log) : Type 0 where
   pub world : log.world ≡ world_after meanings first (events_in log.entries)
   pub replies : replies_in log.entries ≡ replies_to meanings first (events_in log.entries)
 
--- one event leads from the world of a log to that of another, with this reply
+-- one event leads from the world of one log to that of another, with this reply
 abbrev pub IsRow : Meanings → Log → Event → Reply → Log → Type 0
 IsRow meanings before event reply after = event_row meanings before.world event ≡ (after.world, reply)
 
--- each call is one of a seat of a ledger of so many parts, one of which is no seat's
+-- each call belongs to a seat of a ledger with so many parts, one of which belongs to no seat
 abbrev pub AreSeated : ℕ → List Entry → Type 0
 AreSeated parts entries = All (λ entry. entry.seat + 1 < parts) entries
 
@@ -53,7 +53,7 @@ abbrev pub is_parked_at : Option Channel → Bool
 is_parked_at None = false
 is_parked_at (Some channel) = is_parked_in channel.phase
 
--- whether the channel of a number is there and waits for something other than its next step
+-- whether the channel with a number exists and waits for something other than its next step
 abbrev pub is_parked : Log → ℕ → Bool
 is_parked log number = is_parked_at (channel_at log.world.channels number)
 
@@ -72,10 +72,10 @@ abbrev pub has_ended_at : Option Channel → Bool
 has_ended_at None = false
 has_ended_at (Some channel) = has_ended_in channel.phase
 
--- whether the channel of a number is there and has ended
+-- whether the channel with a number exists and has ended
 abbrev pub has_ended : Log → ℕ → Bool
 has_ended log number = has_ended_at (channel_at log.world.channels number)
 
--- the world of an empty dialplan and no queues in which nothing has happened
+-- the world with an empty dialplan and no queues in which nothing has happened yet
 abbrev pub nothing_yet : World
 nothing_yet = opening (record { globals = []; contexts = [] }) no_queues

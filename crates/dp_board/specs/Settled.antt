@@ -9,19 +9,19 @@ use Rattle.dp_board.specs.Sittings.{Sitting}
 use Rattle.dp_board.specs.declared.difference.Disagree.{Disagree}
 use Rattle.dp_board.specs.declared.entry.Entry.{Entry}
 
--- how many calls the seats were told of
+-- the number of calls that the seats were told of
 abbrev pub calls_of : List Sitting → ℕ
 calls_of seats = sum_by (λ seat. length seat.told) seats
 
--- whether a seat of this number is among the seats
+-- whether a seat with this number is among the seats
 abbrev pub has_seat : List Sitting → ℕ → Bool
 has_seat seats number = list_any (λ seat. seat.number == number) seats
 
--- each seat of a board of so many is among the seats
+-- every seat of a board with so many seats is among the seats
 abbrev pub AllPresent : ℕ → List Sitting → Type 0
 AllPresent count seats = (number : ℕ) → number < count → has_seat seats number ≡ true
 
--- the least number of a seat of a board of so many that is not among the seats
+-- the least number of a seat that is not among the seats of a board with so many
 pub record IsLeastAbsent (count : ℕ) (seats : List Sitting) (number : ℕ) : Type 0 where
   pub within : number < count
   pub absent : has_seat seats number ≡ false
@@ -31,7 +31,7 @@ pub record IsLeastAbsent (count : ℕ) (seats : List Sitting) (number : ℕ) : T
 abbrev pub Agrees : List Entry → Sitting → Type 0
 Agrees entries seat = told_to seat.number entries ≡ seat.told
 
--- of the seats that differ from the entries, one of the least number, and where it first does
+-- of the seats that differ from the entries, one with the least number, and where it first differs
 pub record IsLeastDifference (entries : List Entry) (seats : List Sitting) (found : Disagree) : Type 0 where
   pub before : List Sitting
   pub seat : Sitting
@@ -41,20 +41,20 @@ pub record IsLeastDifference (entries : List Entry) (seats : List Sitting) (foun
   pub differs : FirstDiffers (told_to found.seat entries) seat.told found.index
   pub least : All (λ other. other.number < found.seat → Agrees entries other) seats
 
--- the calls of all seats, in one history: it replays from the first world, all seats of the board are there, and it has as
--- many entries as their records have items
+-- one history with the calls of all seats: it replays from the first world, all seats of the board are there, and it has as many entries as
+-- their records have items
 pub record IsWhole (meanings : Meanings) (first : World) (count : ℕ) (seats : List Sitting) (history : Log) : Type 0 where
   pub replays : Replays meanings first history
   pub present : AllPresent count seats
   pub calls : length history.entries ≡ calls_of seats
   pub seated : All (λ entry. entry.seat < count) history.entries
 
--- a settled history: the entries of each seat, with their places, are its record
+-- a settled history: the record of each seat is its entries, with their places
 pub record IsSettled (meanings : Meanings) (first : World) (count : ℕ) (seats : List Sitting) (history : Log) : Type 0 where
   pub whole : IsWhole meanings first count seats history
   pub records : All (Agrees history.entries) seats
 
--- of two differences the one of the lesser seat
+-- the difference with the lesser seat, of two
 abbrev pub lesser : Option Disagree → Option Disagree → Option Disagree
 lesser None found = found
 lesser (Some least) None = Some least

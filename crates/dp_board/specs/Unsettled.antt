@@ -1,4 +1,4 @@
--- What is known where a board was not settled.
+-- What is known if a board was not settled.
 use Rattle.std.specs.Prelude.{◌≡◌, ℕ, List}
 use Rattle.dp_app.specs.Rows.{Meanings}
 use Rattle.dp_machine.specs.World.{World}
@@ -22,7 +22,7 @@ IsClosedFault meanings first count seats NoMemory history = ⊥
 IsClosedFault meanings first count seats (SeatMissing seat) history = ⊥
 IsClosedFault meanings first count seats (Differs found) history = IsWhole meanings first count seats history × IsLeastDifference history.entries seats found
 
--- why a board of so many seats was not settled, and what is handed back: the board or the history, and the seats
+-- why a board with so many seats was not settled, and what is handed back: the board or the history, and the seats
 abbrev pub IsUnsettled : {T S F : Type 0} → Meanings → World → ℕ → List Sitting → SettleFault → Back T S F → Type 0
 IsUnsettled meanings first count seats fault (Open board back) = IsOpenFault count seats fault × (board ≡ count) × (back.items ≡ seats)
 IsUnsettled meanings first count seats fault (Closed history back) = IsClosedFault meanings first count seats fault history × (back.items ≡ seats)

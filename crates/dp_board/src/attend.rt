@@ -13,7 +13,7 @@ use dp_machine::{Event, NoMemory, Refusal, Reply};
 use std::alloc::Global;
 use std::sync::Wait;
 
-/// What is called round each event that a thread gives. Turns are counted from 0.
+/// A gate, whose function calls enclose each event that a thread gives. Turns are counted from 0.
 pub trait Gate {
     /// Called before the event of a turn.
     fn before(&self, channel: u32, turn: u64);
@@ -29,7 +29,7 @@ pub enum Why {
     Ended,
     /// All turns were taken.
     TurnsSpent,
-    /// The last step was refused, since there is no such channel.
+    /// The last step was refused because there is no such channel.
     Refused(Refusal),
 }
 
@@ -40,7 +40,7 @@ pub struct Attended {
     pub why: Why,
 }
 
-/// Why an attendance is over after this reply, where it is: `has_ended` says that the turn left the channel ended.
+/// Why an attendance is over after this reply, if it is: `has_ended` says that the channel had ended after the turn.
 fn end_after(reply: Reply, has_ended: bool) -> Option<Why>
     ensures { steps.IsEndAfter has_ended reply result }
 {
@@ -54,7 +54,7 @@ fn end_after(reply: Reply, has_ended: bool) -> Option<Why>
 }
 
 impl<T: AppTable, S: Session> Board<T, S> {
-    /// Waits while the channel is parked, and holds the lock no longer.
+    /// Waits while the channel is parked, then releases the lock.
     fn wait_for<R: Wait>(&self, rt: &R, channel: u32) {
         let guard = self.shared.lock(rt);
         let _guard = self
@@ -62,8 +62,7 @@ impl<T: AppTable, S: Session> Board<T, S> {
             .wait_while(rt, guard, |shared| shared.parked(channel));
     }
 
-    /// Gives a channel its next step, for a seat. Answers the place of its entry, the reply, and whether the channel has
-    /// ended after it.
+    /// Gives a channel its next step for a seat. Returns the place of its entry, the reply, and whether the channel has ended after it.
     fn step<R: Wait>(
         &self,
         rt: &R,
@@ -84,7 +83,7 @@ impl<T: AppTable, S: Session> Board<T, S> {
         Ok((place, reply, has_ended))
     }
 
-    /// One turn: waits while the channel is parked, and gives it its next step between the calls of the gate.
+    /// One turn: waits while the channel is parked, and gives it its next step between the function calls of the gate.
     fn turn<R: Wait, G: Gate>(
         &self,
         rt: &R,
@@ -106,11 +105,11 @@ impl<T: AppTable, S: Session> Board<T, S> {
         Ok((place, reply, end_after(reply, has_ended)))
     }
 
-    /// Gives a channel step after step, for a seat, at most so many. Before each it waits while the channel is parked, and
-    /// calls the gate round it; the lock is not held then. It is over where the channel has ended, where there is no such
-    /// channel, and where the turns are spent, asked in this order. A step that is refused for another reason counts as one.
+    /// Gives a channel one step after another for a seat, up to a limit. Before each step it waits while the channel is parked, and it
+    /// calls the gate before and after the step; it does not hold the lock then. It is over if the channel has ended, if there is no such
+    /// channel, or if the turns are spent, checked in this order. A step that is refused for another reason counts as one.
     ///
-    /// Where memory is refused the steps before stand.
+    /// If memory runs out the earlier steps stay.
     pub fn attend<R: Wait, G: Gate>(
         &self,
         rt: &R,

@@ -1,4 +1,4 @@
-//! A board: one machine under one lock, which threads give events to by their seats.
+//! A board: one machine under one lock, to which threads give events through their seats.
 ghost use Rattle.std.specs.Prelude.{◌≡◌, ◌+◌, ◌<◌, ◌≤◌, IfOk, OnErr, IfErr, [], map, vec_capacity};
 ghost use Rattle.std.specs.List.{range_with_len};
 ghost use Rattle.dp_board.specs.Sittings as spec;
@@ -13,7 +13,7 @@ use std::marker::Model;
 use std::sync::ledger::{Blank, Book, Share};
 use std::sync::{Condvar, Mutex, Wait};
 
-/// The part of the ledger that no seat has. Its amount stays at 0.
+/// The part of the ledger that belongs to no seat. Its amount stays 0.
 #[derive(Drop)]
 pub(crate) struct Rest<S: Session> {
     pub(crate) share: Share<S>,
@@ -29,7 +29,7 @@ impl<S: Session> Rest<S> {
     }
 }
 
-/// One machine for many threads, each of which acts by a seat of the board. A contract sees it as the number of its seats.
+/// One machine for many threads, each of which acts through a seat of the board. A contract sees it as the number of its seats.
 #[derive(Drop)]
 pub struct Board<T: AppTable, S: Session> {
     pub(crate) shared: Mutex<Shared<T, S>>,
@@ -48,7 +48,7 @@ impl<T: AppTable, S: Session> Model for Board<T, S> {
     ghost invariant = { λ board. S.parts ≡ board.seats + 1 };
 }
 
-/// So many seats with empty records, each with a part of the ledger from the share.
+/// A number of seats with empty records, each with a part of the ledger from the share.
 fn split_seats<S: Session>(
     alloc: Global,
     share: &mut Share<S>,
@@ -73,7 +73,7 @@ fn split_seats<S: Session>(
     }
 }
 
-/// A board of so many seats over a machine, and the share's part of its own.
+/// A board with a number of seats over a machine, and the share's part of its own.
 fn board_over<T: AppTable, S: Session>(
     machine: Machine<T>,
     alloc: Global,
@@ -96,10 +96,10 @@ fn board_over<T: AppTable, S: Session>(
 }
 
 impl<T: AppTable, S: Session> Board<T, S> {
-    /// A board of so many seats over a machine, and its seats, which are numbered from 0 and have empty records. The
-    /// ledger of the session has a part for each seat, and one more, which the board keeps.
+    /// A board with a number of seats over a machine, and its seats, which are numbered from 0 and have empty records. The ledger of the
+    /// session has a part for each seat, and one more, which the board keeps.
     ///
-    /// Where memory is refused the machine is handed back. The session is over then: another try is another session.
+    /// If memory runs out the machine is handed back. The session is over then: another attempt needs another session.
     pub fn open(
         alloc: Global,
         blank: Blank,
@@ -122,10 +122,10 @@ impl<T: AppTable, S: Session> Board<T, S> {
         Ok((board_over(machine, alloc, calls, share, seats), places))
     }
 
-    /// Gives one event to the machine, for a seat, and wakes the threads that wait. The entry of the call is added to the
-    /// history; its place there, from 0, and the reply are answered, and added with the event to the seat's record.
+    /// Gives one event to the machine for a seat, and wakes the threads that wait. It adds the entry of the call to the history. It returns
+    /// the entry's place there, counted from 0, and the reply, and adds them with the event to the seat's record.
     ///
-    /// Where memory is refused the machine, the history and the record are as before.
+    /// If memory runs out the machine, the history and the record are as before.
     pub fn act<R: Wait>(
         &self,
         rt: &R,

@@ -6,21 +6,21 @@ use crate::entry::Entry;
 use crate::seat_call::SeatCall;
 use dp_machine::{Event, Reply};
 
-/// The entries of a seat and its record differ at this index of the record, and not before it.
+/// The entries of a seat and its record differ at this index of the record, but not before it.
 #[derive(Clone, Copy, Debug, PartialEq, Eq)]
 pub struct Disagree {
     pub seat: u32,
     pub index: usize,
 }
 
-/// Whether two events are one.
+/// Whether two events are the same.
 fn is_same_event(left: &Event, right: &Event) -> bool
     ensures { IsTrue result ↔ (left.now ≡ right.now) }
 {
     left == right
 }
 
-/// Whether two replies are one.
+/// Whether two replies are the same.
 fn is_same_reply(left: Reply, right: Reply) -> bool
     ensures { IsTrue result ↔ (left ≡ right) }
 {
@@ -46,8 +46,8 @@ fn is_recorded(told: &[SeatCall], index: usize, place: usize, entry: &Entry) -> 
     }
 }
 
-/// Where the entries of a seat, with their places from 0, and the record of the seat first differ: the least index at which
-/// one of them has another item, or none. It is None exactly where they are equal.
+/// The first difference between the entries of a seat, with their places from 0, and the seat's record: the least index at which one of
+/// them has another item, or none. It is None exactly if they are equal.
 pub fn first_difference(entries: &[Entry], seat: u32, told: &[SeatCall]) -> Option<Disagree>
     ensures { MatchOption result (spec.told_to seat entries.now ≡ told.now)
         (λ found. (found.seat ≡ seat) × spec.FirstDiffers (spec.told_to seat entries.now) told.now found.index) }

@@ -11,9 +11,9 @@ use std::alloc::AllocError;
 pub enum SettleFault {
     /// This seat, the least that is absent, was not handed in.
     SeatMissing { seat: u32 },
-    /// The entries of a seat are not what it was told: of the seats that differ, the one of the least number.
+    /// The entries of a seat are not what it was told: of the seats that differ, the one with the least number.
     Differs(Disagree),
-    /// Memory was refused.
+    /// Memory ran out.
     NoMemory,
 }
 
@@ -37,7 +37,7 @@ impl SettleFault {
         }
     }
 
-    /// The name of the fault, as it is printed beside its number.
+    /// The printed name of the fault.
     pub fn name(self) -> &'static str
         ensures { result.now ≡ fault_name self }
     {

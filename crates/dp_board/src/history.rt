@@ -5,8 +5,8 @@ use crate::entry::Entry;
 use dp_machine::Machine;
 use std::marker::Model;
 
-/// All calls of a board, in the order in which they were done, and the machine after the last of them. A contract sees it
-/// as the entries and the machine's world.
+/// All calls of a board in the order in which they were made, and the machine after the last of them. A contract sees it as the entries and
+/// the machine's world.
 pub struct History<T> {
     machine: Machine<T>,
     entries: Vec<Entry>,
@@ -40,8 +40,8 @@ impl<T> History<T> {
         History { machine, entries }
     }
 
-    /// The calls, in the order in which they were done. A reply that names an entry is read in the dialplan that was in force at
-    /// its call: that of the last `Reload` before it that was done, and that of the board's first world where there is none.
+    /// The calls, in the order in which they were made. A reply that names an entry must be read in the dialplan that was in force at its
+    /// call: that of the last successful `Reload` before it, or that of the board's first world if there is none.
     pub fn entries(&self) -> &[Entry]
         ensures { result.now ≡ self.now.entries }
     {

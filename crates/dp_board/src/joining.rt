@@ -7,7 +7,7 @@ use crate::session::Session;
 use crate::sheet::Sheet;
 use std::sync::ledger::Share;
 
-/// Takes each seat's part of the ledger into one share, and leaves what is left of the seats, the last seat first.
+/// Joins the seats' parts of the ledger into one share, and leaves the rest of the seats, last seat first.
 pub(crate) fn join_parts<S: Session>(
     seats: &mut Vec<Seat<S>>,
     sheets: &mut Vec<Sheet<S>>,
@@ -30,7 +30,7 @@ pub(crate) fn join_parts<S: Session>(
     }
 }
 
-/// Gives each seat its part of the ledger from one share, and puts the seats together, the last sheet's first.
+/// Splits one share into the seats' parts of the ledger, and puts the seats together again, that of the last sheet first.
 pub(crate) fn split_parts<S: Session>(
     sheets: &mut Vec<Sheet<S>>,
     seats: &mut Vec<Seat<S>>,

@@ -8,15 +8,15 @@ ghost use Rattle.dp_board.specs.Settled.{IsSettled};
 ghost use Rattle.dp_board.specs.Silence.{MayBeSilent};
 ghost use Rattle.dp_board.specs.Sittings.{PlacesRise, Sitting};
 
-/// The places in each seat's record rise: each of its calls stands in the history once, and they stand there in the order in
-/// which the seat made them. It does nothing.
+/// The places in each seat's record rise: each of its calls occurs once in the history, in the order in which the seat made them. This
+/// function does nothing.
 pub fn places_rise()
     ensures { (meanings : Meanings) (first : World) (count : ℕ) (seats : List Sitting) (history : Log)
         → IsSettled meanings first count seats history → All PlacesRise seats }
 {}
 
-/// A channel that is unseen in the events of a history may as well be silent: without its events each other call has the
-/// reply that stands in its entry, and the last world is the same but for this channel. It does nothing.
+/// A channel that is unseen in the events of a history may as well be silent: without its events each other call has the reply in its
+/// entry, and the last world is the same but for this channel. This function does nothing.
 pub fn silence()
     ensures { (meanings : Meanings) (first : World) (count : ℕ) (seats : List Sitting) (history : Log) (channel : ℕ)
         → IsSettled meanings first count seats history → IsUnseen meanings channel first (events_in history.entries)

@@ -1,4 +1,4 @@
-//! One dialplan machine for many threads: each call is one event under one lock, and what was done stands in one history.
+//! One dialplan machine for many threads: each call is one event under one lock, and one history records all calls.
 #![tactic(auto)]
 
 mod attend;

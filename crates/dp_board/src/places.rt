@@ -1,4 +1,4 @@
-//! Whether records are what the entries of a history tell, by the places in them.
+//! Whether records agree with the entries of a history, checked by the places in them.
 ghost use Rattle.std.specs.Prelude.{◌≡◌, ◌<◌, ◌↔◌, All, IsTrue, length, replicate, slice_get};
 ghost use Rattle.dp_board.specs.Difference as spec;
 ghost use Rattle.dp_board.specs.steps.Places as places;
@@ -7,7 +7,7 @@ use crate::difference::is_told;
 use crate::entry::Entry;
 use crate::seat_call::SeatCall;
 
-/// Counts the entries of each seat. The counts are at 0 at first.
+/// Counts the entries of each seat. The counts start at 0.
 pub(crate) fn count_entries(counts: &mut [usize], entries: &[Entry])
     requires fresh { counts.old ≡ replicate (length counts.old) 0 }
     requires seated { All (λ entry. entry.seat < length counts.old) entries.now }
@@ -29,9 +29,8 @@ fn is_told_at_place(entries: &[Entry], seat: u32, call: &SeatCall) -> bool
     }
 }
 
-/// Whether a record is what the entries tell the seat, of which so many are its own. Only the record is walked: where
-/// each call is told at its place, the places rise, and there are as many calls as entries of the seat, it has them
-/// all.
+/// Whether a record is what the entries tell the seat, which has so many of them. Only the record is walked: if each call is told at its
+/// place, the places rise, and there are as many calls as entries of the seat, it has all of them.
 pub(crate) fn is_record(entries: &[Entry], seat: u32, told: &[SeatCall], count: usize) -> bool
     requires { count ≡ length (spec.told_to seat entries.now) }
     ensures { IsTrue result ↔ (spec.told_to seat entries.now ≡ told.now) }

@@ -1,4 +1,4 @@
-//! Which seats of a board are there.
+//! Which seats of a board are present.
 ghost use Rattle.std.specs.Prelude.{◌≡◌, ◌+◌, ◌≤◌, false, length, replicate, MatchOption};
 ghost use Rattle.dp_board.specs.steps.Presence as marks;
 ghost use Rattle.dp_board.specs.Settled as settled;
@@ -19,7 +19,7 @@ fn mark_seats<S: Session>(present: &mut [bool], seats: &[Seat<S>])
     }
 }
 
-/// The least number without a mark.
+/// The least number that has no mark.
 fn least_unmarked(present: &[bool]) -> Option<usize>
     ensures { MatchOption result (marks.AllMarked present.now × (marks.unmarked_in present.now ≡ 0))
         (marks.IsLeastUnmarked present.now) }
@@ -32,7 +32,7 @@ fn least_unmarked(present: &[bool]) -> Option<usize>
     None
 }
 
-/// The least number of a seat of a board of so many that is not among these. The table has no marks at first. Where all are
+/// The least number of a seat that is not among these, on a board with so many seats. The table starts without marks. If all seats are
 /// there, there are at least so many.
 pub(crate) fn least_absent<S: Session>(
     present: &mut [bool],

@@ -1,4 +1,4 @@
-//! Seats, by which threads act on a shared world.
+//! Seats, through which threads act on a shared world.
 ghost use Rattle.std.specs.Prelude.{◌≡◌, ◌+◌, ◌<◌};
 
 use crate::seat_call::SeatCall;
@@ -6,8 +6,8 @@ use crate::session::Session;
 use std::marker::Model;
 use std::sync::ledger::Share;
 
-/// A seat of a board, which one thread at a time holds. It has a number, and a record of its calls: for each, the place of
-/// its entry in the history, the event and the reply. A contract sees it as these.
+/// A seat of a board, which one thread at a time holds. It has a number, and a record of its calls: for each of them the place of its entry
+/// in the history, the event and the reply. A contract sees it as these.
 #[derive(Drop)]
 pub struct Seat<S: Session> {
     pub(crate) number: u32,
@@ -36,7 +36,7 @@ impl<S: Session> Seat<S> {
         self.number
     }
 
-    /// What the seat was told, call by call: the place of the call's entry in the history, the event, and the reply.
+    /// What the seat was told call by call: the place of the call's entry in the history, the event, and the reply.
     pub fn record(&self) -> &[SeatCall]
         ensures { result.now ≡ self.now.told }
     {

@@ -2,7 +2,7 @@
 
 use dp_machine::{Event, Reply};
 
-/// What a seat was told of one call: the place of the call's entry in the history, the event, and the reply.
+/// What a seat was told about one call: the place of the call's entry in the history, the event, and the reply.
 #[derive(Debug, Drop)]
 pub struct SeatCall {
     pub place: usize,

@@ -1,4 +1,4 @@
-//! Settling a board: once all seats have come together, its calls stand in one history.
+//! Settling a board: once all seats have come together, one history records its calls.
 ghost use Rattle.std.specs.Prelude.{◌≡◌, ◌+◌, ◌<◌, ◌≤◌, [], All, IfOk, IfErr, MatchOption, length, replicate};
 ghost use Rattle.std.specs.Prelude.{vec_len, vec_capacity};
 ghost use Rattle.dp_app.specs.Rows.{with_functions};
@@ -21,7 +21,7 @@ use crate::sheet::Sheet;
 use dp_app::AppTable;
 use std::alloc::Global;
 
-/// What a board that was not settled hands back.
+/// What is handed back of a board that was not settled.
 #[derive(Drop)]
 pub enum Back<T: AppTable, S: Session> {
     /// The board and the seats, as they were.
@@ -43,7 +43,7 @@ pub struct Unsettled<T: AppTable, S: Session> {
     pub back: Back<T, S>,
 }
 
-/// Of two differences the one of the lesser seat.
+/// The difference with the lesser seat, of two.
 fn lesser(least: Option<Disagree>, found: Option<Disagree>) -> Option<Disagree>
     ensures { result ≡ settled.lesser least found }
 {
@@ -55,8 +55,8 @@ fn lesser(least: Option<Disagree>, found: Option<Disagree>) -> Option<Disagree>
     }
 }
 
-/// Where what the entries tell a seat and its record first differ. The counts say how many entries are the seat's.
-/// Where the two do not differ, its record alone is walked.
+/// The first difference between what the entries tell a seat and its record. The counts give the number of the seat's entries. If there is
+/// no difference only the record is walked.
 fn difference_of<S: Session>(
     counts: &[usize],
     entries: &[Entry],
@@ -74,8 +74,8 @@ fn difference_of<S: Session>(
     first_difference(entries, number, seat.record())
 }
 
-/// Of the seats that differ from the entries, the one of the least number, and where it first does. There is a count
-/// for each seat of the board, which is at 0 at first.
+/// Of the seats that differ from the entries, the one with the least number, and where it first differs. There is a count for each seat of
+/// the board, which starts at 0.
 fn least_difference<S: Session>(
     mut counts: Vec<usize>,
     entries: &[Entry],
@@ -96,14 +96,14 @@ fn least_difference<S: Session>(
     least
 }
 
-/// Room to settle a board in: for what is left of its seats, and for how many entries each has.
+/// Room to settle a board: for the rest of its seats, and for the number of entries of each.
 #[derive(Drop)]
 struct Room<S: Session> {
     sheets: Vec<Sheet<S>>,
     counts: Vec<usize>,
 }
 
-/// Room to settle a board of so many seats in, where each of them is there.
+/// Room to settle a board with so many seats, if each of them is there.
 fn room_for<S: Session>(
     alloc: Global,
     count: u32,
@@ -124,7 +124,7 @@ fn room_for<S: Session>(
     }
 }
 
-/// The calls of all seats of a board in one history. The seats are the same after it.
+/// One history with the calls of all seats of a board. The seats are the same afterwards.
 fn history_of<T: AppTable, S: Session>(
     board: Board<T, S>,
     mut sheets: Vec<Sheet<S>>,
@@ -166,12 +166,11 @@ fn close<T: AppTable, S: Session>(
 }
 
 impl<T: AppTable, S: Session> Board<T, S> {
-    /// The history of the board, where all its seats are handed in: the entries of each seat, with their places, are its
-    /// record, and there are no others. Where memory is refused, or a seat is not there, the board and the seats are handed
-    /// back. Where the entries of a seat are not its record, the history and the seats are; such a history has as many
-    /// entries as the records have items, and replays all the same.
+    /// The history of the board if all its seats are handed in: the entries of each seat, with their places, are its record, and there are
+    /// no others. If memory runs out, or a seat is missing, the board and the seats are handed back. If the entries of a seat are not its
+    /// record, the history and the seats are; such a history still has as many entries as the records have items, and replays.
     ///
-    /// Refused memory comes first, then the least number that is absent, then the least seat that differs.
+    /// Running out of memory comes first, then the least number that is absent, then the least seat that differs.
     pub fn settle(self, alloc: Global, seats: Vec<Seat<S>>) -> Result<History<T>, Unsettled<T, S>>
         ensures ok { IfOk result (λ history. settled.IsSettled (with_functions T.rows T.Functions.table) S.opening self seats.items history) }
         ensures err { IfErr result (λ it. unsettled.IsUnsettled (with_functions T.rows T.Functions.table) S.opening self seats.items it.fault it.back) }

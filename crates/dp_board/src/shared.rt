@@ -1,4 +1,4 @@
-//! What lies under the lock of a board.
+//! The data under the lock of a board.
 ghost use Rattle.std.specs.Prelude.{◌≡◌, ◌++◌, ◌∷◌, ◌<◌, [], length, vec_len, vec_capacity, IfOk, OnOk, OnErr};
 ghost use Rattle.dp_app.specs.Rows.{with_functions};
 ghost use Rattle.dp_board.specs.Log as log;
@@ -16,9 +16,9 @@ use std::alloc::Global;
 use std::marker::Model;
 use std::sync::ledger::{Book, Share};
 
-/// The machine that the seats of a session share, and the entries of the calls so far. Its world and the replies in the
-/// entries are always those of the events in the entries, one after another, from the world in which the session opened.
-/// A contract sees it as the world and the entries.
+/// The machine that the seats of a session share, and the entries of the calls so far. Its world and the replies in the entries always come
+/// from the events in the entries, one after another, starting from the world in which the session opened. A contract sees it as the world
+/// and the entries.
 pub struct Shared<T: AppTable, S: Session> {
     machine: Machine<T>,
     entries: Vec<Entry>,
@@ -94,8 +94,8 @@ fn make_room(entries: &mut Vec<Entry>, told: &mut Vec<SeatCall>) -> Result<(), N
     told.reserve(1)
 }
 
-/// Applies an event, with room for what is written of it, and gives a copy of it with the reply. Where memory is refused the machine
-/// is as before.
+/// Applies an event, with room for its entry and its record, and gives a copy of it with the reply. If memory runs out the machine is as
+/// before.
 fn apply_copied<T: AppTable>(
     alloc: Global,
     machine: &mut Machine<T>,
@@ -118,7 +118,7 @@ fn apply_copied<T: AppTable>(
 }
 
 impl<T: AppTable, S: Session> Shared<T, S> {
-    /// A machine that no seat has acted on.
+    /// A machine on which no seat has acted.
     pub(crate) fn new(alloc: Global, machine: Machine<T>, calls: Book<S>) -> Self
         requires opening { machine ≡ S.opening }
         requires calls { calls.total ≡ 0 }
@@ -131,10 +131,10 @@ impl<T: AppTable, S: Session> Shared<T, S> {
         }
     }
 
-    /// Gives one event to the machine, for a seat. The entry of the call is added at the end of the entries; its place there,
-    /// from 0, and the reply are answered, and added with the event at the end of the seat's record.
+    /// Gives one event to the machine for a seat. It adds the entry of the call at the end of the entries. It returns the entry's place
+    /// there, counted from 0, and the reply, and adds them with the event at the end of the seat's record.
     ///
-    /// Where memory is refused all is as before.
+    /// If memory runs out everything is as before.
     pub fn step(
         &mut self,
         alloc: Global,
@@ -171,7 +171,7 @@ impl<T: AppTable, S: Session> Shared<T, S> {
         Ok((place, reply))
     }
 
-    /// Whether the channel is there and waits for something other than its next step.
+    /// Whether the channel exists and waits for something other than its next step.
     pub fn parked(&self, channel: u32) -> bool
         ensures { result ≡ log.is_parked self.now channel }
     {
@@ -181,7 +181,7 @@ impl<T: AppTable, S: Session> Shared<T, S> {
         }
     }
 
-    /// Whether the channel is there and has ended.
+    /// Whether the channel exists and has ended.
     pub(crate) fn has_ended(&self, channel: u32) -> bool
         ensures { result ≡ log.has_ended self.now channel }
     {

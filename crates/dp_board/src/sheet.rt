@@ -1,4 +1,4 @@
-//! What a seat was told, apart from its part of the ledger.
+//! What a seat was told, without its part of the ledger.
 ghost use Rattle.std.specs.Prelude.{◌≡◌, length};
 
 use crate::seat::Seat;
@@ -27,14 +27,14 @@ impl<S: Session> Model for Sheet<S> {
 }
 
 impl<S: Session> Sheet<S> {
-    /// How many calls the seat was told of.
+    /// The number of calls that the seat was told of.
     pub(crate) fn count(&self) -> u64
         ensures { result ≡ length self.now.told }
     {
         self.told.len() as u64
     }
 
-    /// The seat again, with its part of the ledger.
+    /// The seat, with its part of the ledger again.
     pub(crate) fn into_seat(self, share: Share<S>) -> Seat<S>
         requires { (share.parts ≡ 1) × (share.amount ≡ length self.told) }
         ensures { result ≡ self }
@@ -48,7 +48,7 @@ impl<S: Session> Sheet<S> {
 }
 
 impl<S: Session> Seat<S> {
-    /// The seat's part of the ledger, and what is left of the seat.
+    /// The seat's part of the ledger, and the rest of the seat.
     pub(crate) fn into_parts(self) -> (Sheet<S>, Share<S>)
         ensures sheet { result.0 ≡ self }
         ensures share { (result.1.parts ≡ 1) × (result.1.amount ≡ length self.told) }

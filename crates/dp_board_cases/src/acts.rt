@@ -139,12 +139,12 @@ pub(super) fn check_steps(
 
 /// Each call is told the place of its entry, and the board settles once both seats are there.
 #[test]
-fn two_seats(rt: HostRuntime) {
+fn two_seats_step_their_channels(rt: HostRuntime) {
     perform(&rt, rt.alloc(), b"add", b"ask", 2, Play::Steps);
 }
 
 /// A board of no seats has an empty history.
 #[test]
-fn no_seats(rt: HostRuntime) {
+fn a_board_without_seats_has_an_empty_history(rt: HostRuntime) {
     perform(&rt, rt.alloc(), b"say", b"say", 0, Play::Nothing);
 }

@@ -84,7 +84,7 @@ pub(super) fn attend_again<S: Session, R: Wait + Abort>(
 
 /// A board opens, its seats act and attend, and it settles, all of it also where memory is refused once.
 #[test]
-fn boards_are_used_again(rt: HostRuntime) {
+fn board_calls_are_retried_after_no_memory(rt: HostRuntime) {
     perform(&rt, rt.alloc(), b"add", b"ask", 2, Play::StepsAlone);
     perform(&rt, rt.alloc(), b"say", b"say", 2, Play::AttendedAlone);
 }

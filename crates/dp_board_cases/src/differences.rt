@@ -14,7 +14,7 @@ fn check_differences(rt: &impl Abort, entries: &[Entry], told: &[SeatCall]) {
 
 /// The first difference of a history and a record.
 #[test]
-fn differences(rt: HostRuntime) {
+fn first_difference_of_a_history_and_a_record(rt: HostRuntime) {
     let event = Event::Step { channel: 1 };
     let reply = Reply::NoEntry;
     let entries = [Entry {

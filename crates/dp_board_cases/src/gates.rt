@@ -29,7 +29,7 @@ pub(super) fn act_crossed<S: Session, R: Wait + Abort>(
 
 /// Each of two channels is attended while the other's thread is held before its first step, and the gate is called round each step.
 #[test]
-fn gates(rt: HostRuntime) {
+fn a_gate_holds_one_seat_until_the_other_has_acted(rt: HostRuntime) {
     for held in 1..3u32 {
         perform(
             &rt,

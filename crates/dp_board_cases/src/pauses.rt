@@ -137,7 +137,7 @@ fn gate_of(late: u64) -> Paced {
 /// A channel that pauses is not stepped until its time ends, also where it pauses before it is attended; a digit wakes who waits
 /// for it, and it waits again.
 #[test]
-fn pauses(rt: HostRuntime) {
+fn a_paused_channel_gets_no_step_until_its_time_ends(rt: HostRuntime) {
     for late in 0..2u64 {
         perform(
             &rt,

@@ -118,7 +118,7 @@ fn gate_of(leading: u32) -> Released {
 
 /// Each seat that waits is woken by the end of its own channel's pause, whichever ends first and while the other waits.
 #[test]
-fn each_that_waits_is_woken_by_its_own_channel(rt: HostRuntime) {
+fn each_waiting_seat_is_woken_by_its_own_channel(rt: HostRuntime) {
     for leading in 1..3u32 {
         perform(
             &rt,

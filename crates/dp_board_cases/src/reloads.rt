@@ -89,6 +89,6 @@ pub(super) fn check_reload(rt: &impl Abort, alloc: Global, history: &History<Sta
 
 /// The places rise, and the board settles.
 #[test]
-fn two_seats_and_another_dialplan(rt: HostRuntime) {
+fn a_seat_reloads_between_the_steps_of_another(rt: HostRuntime) {
     perform(&rt, rt.alloc(), b"100", b"say", 2, Play::Reload);
 }

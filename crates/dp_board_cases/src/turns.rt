@@ -85,13 +85,13 @@ pub(super) fn act_hung_up<S: Session, R: Wait + Abort>(
 
 /// The turns are spent at once where there are none, and a channel that is not there is refused, whatever stands in the record before.
 #[test]
-fn turns(rt: HostRuntime) {
+fn a_seat_attends_one_channel_after_another(rt: HostRuntime) {
     perform(&rt, rt.alloc(), b"say", b"say", 2, Play::Turns(gate(GIVEN)));
 }
 
 /// A channel that a step has ended gets no step more, though turns are left.
 #[test]
-fn a_channel_that_is_hung_up_gets_no_step_more(rt: HostRuntime) {
+fn a_hung_up_channel_gets_no_further_step(rt: HostRuntime) {
     perform(
         &rt,
         rt.alloc(),

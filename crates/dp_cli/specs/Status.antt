@@ -1,4 +1,4 @@
--- What the program writes and answers, by what its words ask for and by the kinds with which they are refused.
+-- The output and result of the program, given what its words ask for and the kinds with which they are refused.
 use Rattle.std.specs.Prelude.{◌≡◌, ◌≢◌, ◌⊎◌, ◌||◌, ℕ, Bool, false, List, Option, None, Result, Ok, Err, IfErr}
 use Rattle.clap.specs.Kinds.{IsAmong, Kinds}
 use Rattle.clap.specs.declared.error.kind.ErrorKind.{ErrorKind}
@@ -18,13 +18,13 @@ use Rattle.dp_program.specs.Status.{Prints, status_after}
 use Rattle.dp_program.specs.declared.faulted.Faulted.{Faulted}
 use Rattle.dp_program.specs.declared.hints.Served.{Served}
 
--- the status where the words are no request: 0 where help was asked for, and 2 of a mistake
+-- the status if the words are no request: 0 if they ask for help, and 2 for a mistake
 abbrev pub explained_status : ErrorKind → ℕ
 explained_status DisplayHelp = 0
 explained_status DisplayVersion = 0
 explained_status _ = 2
 
--- what is known of a writer: what it holds, and whether a write has failed
+-- what is known of a writer: its contents, and whether a write has failed
 pub record Sink : Type 0 where
   pub contents : Option (List ℕ)
   pub failed : Bool
@@ -32,8 +32,8 @@ pub record Sink : Type 0 where
 abbrev pub sink : Option (List ℕ) → Bool → Sink
 sink contents failed = record { contents = contents; failed = failed }
 
--- what the program writes and answers where its words ask for something: what the request does, with its status, and with what
--- is told beside it or the text of its fault on the errors; `explains` says whether the fault and the notes of `check` are explained
+-- the output and result of the program for words that are a request: those of the request, with its status, and with the hints or the text
+-- of its fault on the errors; `explains` says whether the fault and the notes of `check` are explained
 pub record Fulfils (files : List ℕ → Source) (input : Source) (want : RequestOf) (explains : Bool)
     (output output_after errors errors_after : Sink) (status : ℕ) : Type 0 where
   pub answered : Result Served Faulted
@@ -42,19 +42,19 @@ pub record Fulfils (files : List ℕ → Source) (input : Source) (want : Reques
   pub told : status ≡ status_after (status_in answered)
   pub printed : errors_after.failed ≡ false → Prints errors.contents errors_after.contents explains answered
 
--- what stands in place of a request, by its kind, comes to the kind's status; else memory was refused, or help was not written
+-- what replaces a request, given its kind, ends with the kind's status; else memory ran out, or the help was not written
 abbrev pub Explains : ErrorKind → Result ℕ PbxFault → Type 0
 Explains kind (Ok status) = (kind ≢ OutOfMemory) × (status ≡ explained_status kind)
 Explains kind (Err fault) = (fault ≡ NoMemory) ⊎ ((fault ≡ Coded WriteFailed None) × (explained_status kind ≡ 0))
 
--- the status of words that are refused with a kind, and on the errors the line of the fault where it is one
+-- the status of words that are refused with a kind; if that is a fault, its line is printed on the errors
 pub record RefusesAs (kind : ErrorKind) (errors errors_after : Sink) (status : ℕ) : Type 0 where
   pub answered : Result ℕ PbxFault
   pub explains : Explains kind answered
   pub told : status ≡ status_after answered
   pub printed : IfErr answered (λ fault. errors_after.failed ≡ false → Appends errors.contents errors_after.contents (fault_line fault))
 
--- the words are refused with one of these kinds, or when out of memory
+-- the words are refused with one of these kinds, or because memory ran out
 pub record Refuses (kinds : Kinds) (errors errors_after : Sink) (status : ℕ) : Type 0 where
   pub kind : ErrorKind
   pub among : (kind ≡ OutOfMemory) ⊎ IsAmong kind kinds

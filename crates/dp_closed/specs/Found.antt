@@ -1,4 +1,4 @@
--- Entries that are not found from an area, by the entries of their context.
+-- Entries that are not found from an area, given the entries of their context.
 use Rattle.std.specs.Prelude.{◌≡◌, ℕ, List, MatchOption, Some, slice_get}
 use Rattle.std.specs.declared.cmp.Ordering.TheVariants.{Less}
 use Rattle.std.specs.Option.{option_map}
@@ -20,7 +20,7 @@ pub record Hides (met : List Piece) (entry other : Entry) : Type 0 where
   pub less : name_cmp other.name entry.name ≡ Less
   pub covers : (text : List ℕ) → Fits met text → Matches other.name text
 
--- whatever dialplan has these entries in a context, the entry is not found there at an extension of the shape
+-- in no dialplan with these entries in a context is the entry found there at an extension of the shape
 abbrev pub IsUnfound : List Entry → Entry → List Piece → Type 0
 IsUnfound entries entry exten = (plan : PlanOf) (context : List Piece) (id : EntryId)
     → option_map (λ c. c.entries) (slice_get plan.contexts id.context) ≡ Some entries → MayFind plan (area_at context exten) id entry → ⊥
@@ -29,6 +29,6 @@ IsUnfound entries entry exten = (plan : PlanOf) (context : List Piece) (id : Ent
 abbrev pub IsUnmatched : List Piece → Meaning → Type 0
 IsUnmatched exten name = (text : List ℕ) → Fits exten text → Matches name text → ⊥
 
--- the meeting is that of its name with the area: no extension matches, or what is known of those that do
+-- the meeting shows how its name meets the area: no extension matches, or what is known of those that do
 abbrev pub IsMeeting : Area → Meeting → Type 0
 IsMeeting area meeting = MatchOption meeting.met (IsUnmatched area.exten meeting.name.now) (λ met. shown_area met ≡ area_matched area meeting.name.now)

@@ -1,4 +1,4 @@
--- The areas of a reach that is kept by the numbers of contexts.
+-- The areas of a reach that is indexed by the numbers of contexts.
 use Rattle.std.specs.Prelude.{ℕ, List, [], ◌∷◌, ◌++◌, ◌⊎◌, map, slice_get}
 use Rattle.std.specs.Global.{Vec}
 use Rattle.std.specs.Option.{option_map_or}
@@ -8,16 +8,16 @@ use Rattle.dp_pieces.specs.declared.piece.Piece.{Piece}
 use Rattle.dp_plan.specs.Contexts.{PlanContext}
 use Rattle.dp_reach.specs.Areas.{Area, area_at}
 
--- the text is one of these shapes
+-- the text has one of these shapes
 abbrev pub FitsAny : List (Vec Piece) → List ℕ → Type 0
 FitsAny [] text = ⊥
 FitsAny (shape ∷ shapes) text = Fits (shown_all shape.items) text ⊎ FitsAny shapes text
 
--- the shapes of the context of a number
+-- the shapes of the context with a number
 abbrev pub shapes_at : List (Vec (Vec Piece)) → ℕ → List (Vec Piece)
 shapes_at contexts number = option_map_or (λ shapes. shapes.items) (slice_get contexts number) []
 
--- the areas of the contexts, in their order
+-- the areas of the contexts, in order
 abbrev pub areas_in : List PlanContext → List (Vec (Vec Piece)) → List Area
 areas_in [] shapes = []
 areas_in (context ∷ contexts) [] = []

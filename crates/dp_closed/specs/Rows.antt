@@ -1,4 +1,4 @@
--- The parts of the table of duties. No public clause rests on it.
+-- The parts of the table of duties. No public clause depends on them.
 use Rattle.std.specs.Prelude.{◌≡◌, ℕ, List, codes}
 use Rattle.dp_closed.specs.declared.rows.Row as rust
 use Rattle.dp_closed.specs.declared.rows.Row.TheVariants.{Nothing, Goto, Set, GotoIf, Gosub, GosubIf, Return, Digits, Dial, Queue, Add, Remove, Pause, Unpause}
@@ -8,7 +8,7 @@ use Rattle.dp_reach.specs.Bounds.{Duties, add_duties, dial_duties, digits_duties
 use Rattle.dp_reach.specs.Settings.{set_duties}
 use Rattle.dp_reach.specs.Standard.{no_names, with_duties}
 
--- what a row owes
+-- the duties of a row
 abbrev pub shown_row : rust.Row → Duties
 shown_row Nothing = nothing_owed
 shown_row Goto = goto_duties
@@ -25,14 +25,14 @@ shown_row Remove = remove_duties
 shown_row Pause = pause_duties
 shown_row Unpause = unpause_duties
 
--- what is owed is the same for these pieces, and for any
+-- the duties are the same for these pieces and for any others
 abbrev pub IsOwedAlike : Duties → List Piece → List Piece → Type 0
 IsOwedAlike duties pieces other = (area : Area) → duties area pieces ≡ duties area other
 
 abbrev pub IsSteady : Duties → Type 0
 IsSteady duties = (pieces other : List Piece) → IsOwedAlike duties pieces other
 
--- the rows on members
+-- the duties of the rows on members
 abbrev pub member_duties : List ℕ → Duties
 member_duties =
     with_duties (codes "AddQueueMember") add_duties
@@ -40,7 +40,7 @@ member_duties =
     (with_duties (codes "PauseQueueMember") pause_duties
     (with_duties (codes "UnpauseQueueMember") unpause_duties no_names)))
 
--- these and those that wait
+-- these duties, and those of rows that wait
 abbrev pub waiting_duties : List ℕ → Duties
 waiting_duties =
     with_duties (codes "Wait") nothing_owed
@@ -49,7 +49,7 @@ waiting_duties =
     (with_duties (codes "Dial") dial_duties
     (with_duties (codes "Queue") queue_duties member_duties))))
 
--- these and those that answer, end the call, or play or print nothing here
+-- these duties, and those of rows that answer, end the call, or play or print nothing here
 abbrev pub silent_duties : List ℕ → Duties
 silent_duties =
     with_duties (codes "Answer") nothing_owed
@@ -57,7 +57,7 @@ silent_duties =
     (with_duties (codes "Verbose") nothing_owed
     (with_duties (codes "Playback") nothing_owed waiting_duties)))
 
--- these and those that enter and leave subroutines
+-- these duties, and those of rows that enter and leave subroutines
 abbrev pub calling_duties : List ℕ → Duties
 calling_duties =
     with_duties (codes "Gosub") gosub_duties

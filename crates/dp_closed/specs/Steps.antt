@@ -1,4 +1,4 @@
--- What private functions say of their steps. No public clause rests on it.
+-- The steps of private functions. No public clause depends on them.
 use Rattle.std.specs.Global.{Vec}
 use Rattle.std.specs.List.{AllByRecursion}
 use Rattle.std.specs.Prelude.{ℕ, Bool, List, [], ◌∷◌, codes, map, option_map}
@@ -40,47 +40,47 @@ shown_shapes (Two shape other) = shown_all shape.now ∷ shown_all other.now ∷
 abbrev pub shown_parts : List (Vec Piece) → List (List spec.Piece)
 shown_parts parts = map (λ part. shown_all part.items) parts
 
--- the bytes that are known
+-- the known bytes
 abbrev pub known_bytes : List spec.Piece → List ℕ
 known_bytes [] = []
 known_bytes (spec.Known byte ∷ pieces) = byte ∷ known_bytes pieces
 known_bytes (spec.OneOf set ∷ pieces) = known_bytes pieces
 known_bytes (spec.AnyOf set ∷ pieces) = known_bytes pieces
 
--- an area, where it does not count which
+-- an area for places where the area does not matter
 abbrev pub any_area : Area
 any_area = area_at [] []
 
--- the entries that a checker takes for answered
+-- the entries that a checker takes as answers
 abbrev pub answers_of : Checker → EntryId → Bool
 answers_of checker = answers_in (option_map (λ marks. marks.now) checker.answers)
 
--- it holds of the claim and of these entries, whatever settings of queues have these ways out
+-- a property of the claim and of these entries, with any settings of queues that have these ways out
 abbrev pub Closes : Checker → (Claim → (EntryId → Bool) → Type 0) → Type 0
 Closes checker holds = (settings : List Settings) → AreWays settings checker.claim.ways.now → holds (kept_claim checker.claim settings) (answers_of checker)
 
--- an entry is closed, where it may be found from the area
+-- an entry is closed if it may be found from the area
 abbrev pub IsEntryIn : Claim → (EntryId → Bool) → Area → EntryId → Type 0
 IsEntryIn claim answers area id = (entry : Entry) → MayFind claim.plan area id entry → IsEntry standard_duties claim answers (area_matched area entry.name) id entry
 
--- each area of the context of a name and of these shapes is closed
+-- each area with the name of a context and one of these shapes is closed
 abbrev pub AreShapesClosed : Checker → List ℕ → List (Vec Piece) → Type 0
 AreShapesClosed checker name shapes = AllByRecursion
     (λ shape. Closes checker (λ claim answers. IsAreaClosed standard_duties claim answers (area_at (spec.exactly name) (shown_all shape.items)))) shapes
 
--- the names have what the machine gives each channel
+-- the names have what the machine gives to each channel
 pub record IsSelfNamed (names : Names) : Type 0 where
   pub priority : IsPart digits (names.bytes (codes "PRIORITY"))
   pub number : IsPart digits (names.bytes (codes "CHANNEL"))
   pub channel : Within (names.bytes (codes "CHANNEL")) (codes "Channel/")
 
--- and what it gives a call that leaves a queue
+-- the names have what the machine gives to a channel that leaves a queue
 pub record IsQueueNamed (names : Names) : Type 0 where
   pub timeout : Within (names.bytes (codes "QUEUESTATUS")) (codes "TIMEOUT")
   pub leave : Within (names.bytes (codes "QUEUESTATUS")) (codes "LEAVEEMPTY")
   pub talked : Within (names.bytes (codes "QUEUESTATUS")) (codes "CONTINUE")
 
--- and what it gives a call to devices that is over
+-- the names have what the machine gives to a channel after its call to devices
 pub record IsDialNamed (names : Names) : Type 0 where
   pub status : (status : DialStatus) → Within (names.bytes (codes "DIALSTATUS")) (status_name status)
   pub unanswered : Within (names.bytes (codes "DIALSTATUS")) (codes "NOANSWER")
@@ -90,7 +90,7 @@ pub record IsDialNamed (names : Names) : Type 0 where
 abbrev pub IsGlobalHeld : Names → GlobalVariable → Type 0
 IsGlobalHeld names variable = IsPart (text_set (names_outside names) variable.value) (names.bytes variable.name)
 
--- calls come in into their reach, and the names may have their numbers and the values of globals
+-- calls come in within their reach, and the names may have their numbers and the values of globals
 pub record IsEntered (audit : Audit) : Type 0 where
   pub calls : AllByRecursion (λ name. Includes audit.wide.plan.now (areas_in audit.wide.plan.now.contexts audit.wide.reach.now.shapes.items)
       (entrance (shown_outside audit.outside.now) name)) (shown_outside audit.outside.now).contexts

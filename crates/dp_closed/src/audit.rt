@@ -1,4 +1,4 @@
-//! What is claimed of the calls that come in at a context, and whether it is seen to be right of every run.
+//! The claim about phone calls that come in at a context, and whether it is seen to be right about every run.
 ghost use Rattle.std.specs.Prelude.{ℕ, List, [], ◌∷◌, IfOk, IsTrue, map, option_map, true};
 ghost use Rattle.std.specs.List.{AllByRecursion};
 ghost use Rattle.dp_closed.specs.Answers.{answers_in, shown_outside};
@@ -23,7 +23,7 @@ use dp_pieces::{NamesAt, Piece, read_pieces};
 use dp_plan::{Dialplan, GlobalVariable};
 use std::alloc::Global;
 
-/// A claim of all calls, and of those that come in at a context: where their channels may be.
+/// A claim about all calls, and about those that come in at the context: where their channels may be.
 #[derive(Clone, Copy)]
 pub struct Audit<'a> {
     pub wide: Claim<'a>,
@@ -32,7 +32,7 @@ pub struct Audit<'a> {
     pub context: &'a [u8],
 }
 
-/// Whether each extension that may come in at the context of this name is seen to be in the reach.
+/// Whether each extension that may come in at the context with this name is seen to be in the reach.
 fn has_entrance(
     alloc: Global,
     reach: &Reach,
@@ -48,7 +48,7 @@ fn has_entrance(
 }
 
 impl Audit<'_> {
-    /// Whether each call that comes in is seen to be in the reach of all.
+    /// Whether each call that comes in is seen to be in the reach of all calls.
     fn has_calls(self, alloc: Global) -> Result<bool, NoMemory>
         ensures { IfOk result (λ yes. IsTrue yes
             → AllByRecursion (λ name. Includes self.entry.wide.plan.now (areas_in self.entry.wide.plan.now.contexts self.entry.wide.reach.now.shapes.items)
@@ -62,7 +62,7 @@ impl Audit<'_> {
         Ok(true)
     }
 
-    /// Whether a global's name may have the bytes of its value.
+    /// Whether the name of a global may have the bytes of its value.
     fn has_global(self, alloc: Global, global: &GlobalVariable) -> Result<bool, NoMemory>
         ensures { IfOk result (λ yes. IsTrue yes → IsGlobalHeld (names_in self.entry.wide.names.now) global.now) }
     {
@@ -75,7 +75,7 @@ impl Audit<'_> {
         Ok(self.wide.names.has(global.name.bytes(), &set_of(&pieces)))
     }
 
-    /// Whether each global's name may have the bytes of its value.
+    /// Whether the name of each global may have the bytes of its value.
     fn has_globals(self, alloc: Global) -> Result<bool, NoMemory>
         ensures { IfOk result (λ yes. IsTrue yes → AllByRecursion (IsGlobalHeld (names_in self.entry.wide.names.now)) self.entry.wide.plan.now.globals) }
     {
@@ -87,8 +87,8 @@ impl Audit<'_> {
         Ok(true)
     }
 
-    /// Whether all calls, and those of the context, are seen to come in into their reach, with numbers and globals that the names
-    /// may have.
+    /// Whether all calls, and those of the context, are seen to come in within their reach, with numbers and globals that the names may
+    /// have.
     fn is_entered(self, alloc: Global) -> Result<bool, NoMemory>
         ensures { IfOk result (λ yes. IsTrue yes → IsEntered self.entry) }
     {
@@ -110,8 +110,8 @@ impl Audit<'_> {
         self.has_globals(alloc)
     }
 
-    /// Whether the audit is seen to be closed, with the entries that are answered: those that are marked, or without marks all. Then
-    /// a call that comes in at the context runs none but these, in every run. It fails only when out of memory.
+    /// Whether the audit is seen to be closed, with the entries in the answer: the marked ones, or all without marks. Then a call that
+    /// comes in at the context runs only these, in every run. It fails only if memory runs out.
     pub fn is_closed(self, alloc: Global, answers: Option<&Marks>) -> Result<bool, NoMemory>
         ensures closed { IfOk result (λ yes. IsTrue yes → (settings : List Settings) → AreWays settings self.entry.wide.ways.now
             → IsAudit standard_duties (shown_outside self.entry.outside.now) self.entry.context.now (kept_claim self.entry.wide settings) (λ id. true)

@@ -1,4 +1,4 @@
-//! What is claimed of a dialplan, and whether a duty is met in it.
+//! The claim about a dialplan, and whether a duty is met in it.
 ghost use Rattle.std.specs.Prelude.{ℕ, List, [], ◌∷◌, IfOk, IsTrue};
 ghost use Rattle.dp_closed.specs.Claimed.{AreWays, kept_claim};
 ghost use Rattle.dp_closed.specs.Reach.{areas_in};
@@ -19,8 +19,8 @@ use dp_pieces::{NameTable, Piece};
 use dp_plan::Dialplan;
 use std::alloc::Global;
 
-/// What is claimed of a dialplan: which bytes names may have, at which extensions of each context channels may be, and which contexts
-/// have the ways out of the queues, each as the pieces of its name.
+/// A claim about a dialplan: the bytes that names may have, the extensions of each context where channels may be, and the contexts of the
+/// queues' ways out, each as the pieces of its name.
 #[derive(Clone, Copy)]
 pub struct Claim<'a> {
     pub plan: &'a Dialplan,
@@ -40,8 +40,8 @@ impl Claim<'_> {
             .includes(alloc, self.plan, context, &[Piece::OneOf(digit_set())])
     }
 
-    /// Whether each digit is seen to lead into the reach out of each queue, and in the context of no name, which the ways out of a queue
-    /// have that has no context.
+    /// Whether each digit is seen to lead out of each queue into the reach, and also in the context with the empty name, which is that of
+    /// the ways out of a queue without a context.
     fn has_ways(self, alloc: Global) -> Result<bool, NoMemory>
         ensures { IfOk result (λ yes. IsTrue yes → (settings : List Settings) → AreWays settings self.entry.ways.now → (queue : ℕ)
             → LeadsOut (kept_claim self.entry settings) queue) }
@@ -57,7 +57,7 @@ impl Claim<'_> {
         Ok(true)
     }
 
-    /// Whether the duty is seen to be met. It fails only when out of memory.
+    /// Whether the duty is seen to be met. It fails only if memory runs out.
     pub fn meets(self, alloc: Global, duty: &Duty) -> Result<bool, NoMemory>
         ensures { IfOk result (λ yes. IsTrue yes → (settings : List Settings) → AreWays settings self.entry.ways.now
             → Meets (kept_claim self.entry settings) (shown_duty duty.now)) }
@@ -73,7 +73,7 @@ impl Claim<'_> {
         }
     }
 
-    /// Whether each of these duties is seen to be met. It fails only when out of memory.
+    /// Whether each of these duties is seen to be met. It fails only if memory runs out.
     pub fn meets_all(self, alloc: Global, duties: &[Duty]) -> Result<bool, NoMemory>
         ensures { IfOk result (λ yes. IsTrue yes → (settings : List Settings) → AreWays settings self.entry.ways.now
             → MeetsAll (kept_claim self.entry settings) (shown_duties duties.now)) }

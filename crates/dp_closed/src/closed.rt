@@ -30,14 +30,14 @@ use dp_pieces::{NamesAt, Piece};
 use dp_plan::{Dialplan, Entry, EntryId};
 use std::alloc::Global;
 
-/// Checks a claim, with the entries that are answered: those that are marked, or without marks all.
+/// Checks a claim, with the entries in the answer: the marked ones, or all without marks.
 #[derive(Clone, Copy)]
 pub(crate) struct Checker<'a> {
     claim: Claim<'a>,
     answers: Option<&'a Marks>,
 }
 
-/// The entries of the context of a number.
+/// The entries of the context with a number.
 fn entries_at(plan: &Dialplan, number: usize) -> &[Entry]
     ensures { result.now ≡ option_map_or (λ context. context.entries) (slice_get plan.now.contexts number) [] }
 {
@@ -58,7 +58,7 @@ pub(crate) fn exact_pieces(alloc: Global, text: &[u8]) -> Result<Vec<Piece>, NoM
     Ok(pieces)
 }
 
-/// The area of the context of a name and an extension of a shape.
+/// The area of the context with a name and an extension of a shape.
 fn area_in(alloc: Global, name: &[u8], shape: &[Piece]) -> Result<Area, NoMemory>
     ensures { IfOk result (λ area. shown_area area ≡ area_at (exactly name.now) (shown_all shape.now)) }
 {
@@ -69,7 +69,7 @@ fn area_in(alloc: Global, name: &[u8], shape: &[Piece]) -> Result<Area, NoMemory
 }
 
 impl Claim<'_> {
-    /// Whether the extension of one byte is seen to be in the reach, in the context of these pieces.
+    /// Whether the extension with one byte is seen to be in the reach, in the context of these pieces.
     fn has_letter(self, alloc: Global, context: &[Piece], letter: u8) -> Result<bool, NoMemory>
         ensures { IfOk result (λ yes. IsTrue yes
             → Includes self.entry.plan.now (areas_in self.entry.plan.now.contexts self.entry.reach.now.shapes.items)
@@ -79,8 +79,8 @@ impl Claim<'_> {
             .includes(alloc, self.plan, context, &[Piece::Known(letter)])
     }
 
-    /// Whether the claim is seen to be closed, with the entries that are answered: those that are marked, or without marks all. It
-    /// fails only when out of memory.
+    /// Whether the claim is seen to be closed, with the entries in the answer: the marked ones, or all without marks. It fails only if
+    /// memory runs out.
     pub fn is_closed(self, alloc: Global, answers: Option<&Marks>) -> Result<bool, NoMemory>
         ensures { IfOk result (λ yes. IsTrue yes → (settings : List Settings) → AreWays settings self.entry.ways.now
             → IsClosed standard_duties (kept_claim self.entry settings) (answers_in (option_map (λ marks. marks.now) answers.entry))) }
@@ -97,7 +97,7 @@ impl Claim<'_> {
 }
 
 impl Checker<'_> {
-    /// Whether the entry is answered.
+    /// Whether the entry is in the answer.
     fn is_answered(self, id: EntryId) -> bool
         ensures { result ≡ answers_of self.entry id }
     {
@@ -107,7 +107,7 @@ impl Checker<'_> {
         }
     }
 
-    /// Whether an entry that runs in the area is answered, and all that it owes is met.
+    /// Whether an entry that runs in the area is in the answer, and all its duties are met.
     fn has_met(
         self,
         alloc: Global,
@@ -136,7 +136,7 @@ impl Checker<'_> {
         self.claim.meets_all(alloc, &owed)
     }
 
-    /// Whether an entry is seen to be closed, where it may be found from the area that met its name.
+    /// Whether an entry is seen to be closed, if it may be found from the area that met its name.
     fn has_entry(
         self,
         alloc: Global,
@@ -155,7 +155,7 @@ impl Checker<'_> {
         self.has_met(alloc, met, id, entry)
     }
 
-    /// The same of each entry of the context of a number.
+    /// The same for each entry of the context with a number.
     fn has_entries(self, alloc: Global, area: &Area, number: usize) -> Result<bool, NoMemory>
         ensures { IfOk result (λ yes. IsTrue yes → Closes self.entry (λ claim answers. (entry : ℕ)
             → IsEntryIn claim answers (shown_area area.now) (record { context = number; entry = entry }))) }
@@ -179,7 +179,7 @@ impl Checker<'_> {
         Ok(true)
     }
 
-    /// The same of each entry of the contexts of a search order.
+    /// The same for each entry of the contexts in a search order.
     fn has_order(self, alloc: Global, area: &Area, order: &[usize]) -> Result<bool, NoMemory>
         ensures { IfOk result (λ yes. IsTrue yes → Closes self.entry (λ claim answers. (id : EntryId)
             → has order.now id.context ≡ true → IsEntryIn claim answers (shown_area area.now) id)) }
@@ -192,7 +192,7 @@ impl Checker<'_> {
         Ok(true)
     }
 
-    /// Whether an area is seen to be closed, by the search order of its context.
+    /// Whether an area is seen to be closed, given the search order of its context.
     fn has_area(self, alloc: Global, area: &Area, order: &[usize]) -> Result<bool, NoMemory>
         ensures { IfOk result (λ yes. IsTrue yes → (name : List ℕ) → shown_all area.now.context.items ≡ exactly name
             → order.now ≡ search_order self.entry.claim.plan.now name
@@ -210,7 +210,7 @@ impl Checker<'_> {
         self.has_order(alloc, area, order)
     }
 
-    /// The same of each area of the context of a name and of these shapes.
+    /// The same for each area of the context with a name and of these shapes.
     fn has_shapes(
         self,
         alloc: Global,
@@ -230,7 +230,7 @@ impl Checker<'_> {
         Ok(true)
     }
 
-    /// The same of each area of the reach in the context of a number and a name. The order has room for every context.
+    /// The same for each area of the reach in the context with a number and a name. The order has room for every context.
     fn has_areas(
         self,
         alloc: Global,
@@ -248,7 +248,7 @@ impl Checker<'_> {
         self.has_shapes(alloc, name, order.contexts(), shapes)
     }
 
-    /// The same of each area of the reach.
+    /// The same for each area of the reach.
     fn has_contexts(self, alloc: Global) -> Result<bool, NoMemory>
         ensures { IfOk result (λ yes. IsTrue yes → Closes self.entry (λ claim answers. AllByRecursion (IsAreaClosed standard_duties claim answers) claim.reach)) }
     {

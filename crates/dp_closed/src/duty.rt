@@ -1,4 +1,4 @@
-//! What an application owes.
+//! The duties of an application.
 ghost use Rattle.std.specs.Prelude.{◌≡◌, ◌++◌, ◌∷◌, [], OnOk};
 ghost use Rattle.dp_closed.specs.Shown.{shown_duties};
 ghost use Rattle.dp_pieces.specs.Sets.{set_by};
@@ -11,8 +11,8 @@ use dp_conf::NoMemory;
 use dp_pieces::{ByteSet, Piece};
 use std::alloc::Global;
 
-/// What an application owes: that the reach has an area, that a name, each name, or the caller's number may have these bytes, and that
-/// a digit may lead out of each queue.
+/// A duty of an application: that the reach has an area, that a name, each name, or the caller's number may have these bytes, or that a
+/// digit may lead out of each queue.
 #[derive(Drop)]
 pub enum Duty {
     Leads(Area),

@@ -1,4 +1,4 @@
-//! Which entries may be found from the places of an area.
+//! The entries that may be found from the places of an area.
 ghost use Rattle.std.specs.Prelude.{◌≡◌, ℕ, List, IfOk, IfSome, IsTrue, MatchOption, Some, slice_get};
 ghost use Rattle.std.specs.Option.{option_copied};
 ghost use Rattle.dp_closed.specs.Found.{Hides, IsMeeting, IsUnfound, IsUnmatched};
@@ -41,7 +41,7 @@ fn is_hidden(entries: &[Entry], entry: &Entry, met: &[Piece]) -> bool
     false
 }
 
-/// What is known of the extensions of a shape that match a name, or None where none does.
+/// What is known of the extensions of a shape that match a name, or None if none does.
 fn met_shape(alloc: Global, exten: &[Piece], name: &Name) -> Result<Option<Vec<Piece>>, NoMemory>
     ensures { IfOk result (λ found. MatchOption found (IsUnmatched (shown_all exten.now) name.now)
         (λ met. shown_all met.items ≡ after_match (shown_all exten.now) name.now)) }
@@ -53,8 +53,8 @@ fn met_shape(alloc: Global, exten: &[Piece], name: &Name) -> Result<Option<Vec<P
     Ok(Some(met))
 }
 
-/// What is known of the extensions of a shape by which an entry is found in a context of these entries, or None where none is: no
-/// extension of the shape matches its name, or each that does finds a better entry. It fails only when out of memory.
+/// What is known of the extensions of a shape by which an entry is found in a context of these entries, or None if none is: no extension of
+/// the shape matches its name, or each that does finds a better entry. It fails only if memory runs out.
 pub fn found_shape(
     alloc: Global,
     entries: &[Entry],
@@ -97,8 +97,8 @@ fn is_same(name: &SharedName, other: &SharedName) -> bool
     }
 }
 
-/// The name of an extension met with an area: what is known of the places of the area whose extensions match the name, or None where
-/// none does.
+/// The name of an extension, met with an area: what is known of the places of the area whose extensions match the name, or None if none
+/// does.
 #[derive(Drop)]
 pub struct Meeting<'a> {
     name: &'a SharedName,
@@ -121,8 +121,8 @@ impl<'a> Meeting<'a> {
         })
     }
 
-    /// The meeting of an area with a name, which is the one before it where that is of the same name: the entries of an extension mostly
-    /// stand below one another. It fails only when out of memory.
+    /// The meeting of an area with a name. It is the one before it if that has the same name: the entries of an extension are mostly next
+    /// to each other. It fails only if memory runs out.
     pub fn after(
         alloc: Global,
         area: &Area,
@@ -150,7 +150,7 @@ impl<'a> Meeting<'a> {
         }
     }
 
-    /// The places of the area at which an entry of the name is found in a context of these entries, or None where it is found at none.
+    /// The places of the area at which an entry with the name is found in a context of these entries, or None if it is found at none.
     pub fn found(&self, entries: &[Entry], entry: &Entry) -> Option<&Area>
         ensures { (area : areas.Area) → IsMeeting area self.now → entry.now.name ≡ self.now.name.now
             → MatchOption result (IsUnfound entries.now entry.now area.exten) (λ met. shown_area met.now ≡ areas.area_matched area entry.now.name) }
@@ -165,8 +165,8 @@ impl<'a> Meeting<'a> {
     }
 }
 
-/// Whether the meeting before is of this name, and no place of its area has an extension that matches it. An entry of the name is found at
-/// none of them then.
+/// Whether the meeting before has this name, and no place of its area has an extension that matches it. Then an entry with the name is
+/// found at none of these places.
 pub fn is_excluded(before: Option<&Meeting<'_>>, name: &SharedName) -> bool
     ensures { IsTrue result → (area : areas.Area) → IfSome (option_copied before.entry) (IsMeeting area) → IsUnmatched area.exten name.now }
 {

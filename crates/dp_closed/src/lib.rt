@@ -1,4 +1,4 @@
-//! What each application owes, by the pieces of its arguments, and whether a claim of where channels may be is closed.
+//! The duties of each application, given the pieces of its arguments, and whether a claim about where channels may be is closed.
 #![tactic(auto)]
 
 mod area;

@@ -10,8 +10,8 @@ use dp_plan::{Dialplan, EntryId};
 use std::alloc::Global;
 use std::marker::Model;
 
-/// A mark for each entry of a dialplan, which stands there or not. A contract sees it as the marks of each context, by the numbers of
-/// the context and of the entry.
+/// A mark for each entry of a dialplan, which is set or not. A contract sees it as the marks of each context, indexed by the numbers of the
+/// context and of the entry.
 #[derive(Drop)]
 pub struct Marks {
     rows: Vec<Vec<bool>>,
@@ -26,7 +26,7 @@ impl Model for Marks {
     ghost view = { λ marks. marks.rows.items };
 }
 
-/// So many marks, none of which stands there.
+/// A number of marks, none of them set.
 fn no_marks(alloc: Global, count: usize) -> Result<Vec<bool>, NoMemory>
     ensures { IfOk result (λ marks. marks.items ≡ replicate count false) }
 {
@@ -37,7 +37,7 @@ fn no_marks(alloc: Global, count: usize) -> Result<Vec<bool>, NoMemory>
     Ok(marks)
 }
 
-/// Sets the mark of a number, where there is one.
+/// Sets the mark with a number, if there is one.
 fn set_mark(marks: &mut Vec<bool>, number: usize)
     ensures { marks.new.items ≡ changed_at (λ mark. true) number marks.old.items }
 {
@@ -60,7 +60,7 @@ impl Marks {
         Ok(Marks { rows })
     }
 
-    /// Marks the entry, where there is a place for it. The other marks stay.
+    /// Marks the entry, if there is a place for it. The other marks stay.
     pub fn mark(&mut self, id: EntryId)
         ensures marks { (other : EntryId) → is_marked self.new other ≡ ((is_same other id && has_place self.old id) || is_marked self.old other) }
         ensures places { (other : EntryId) → has_place self.new other ≡ has_place self.old other }

@@ -1,4 +1,4 @@
-//! Whether the names of a claim may have what the machine gives them.
+//! Whether the names of a claim may have the bytes that the machine gives them.
 ghost use Rattle.std.specs.Prelude.{List, IsTrue, map};
 ghost use Rattle.std.specs.List.{AllByRecursion};
 ghost use Rattle.dp_closed.specs.Claimed.{kept_claim};
@@ -16,7 +16,7 @@ use dp_machine::DialStatus;
 use dp_pieces::{ByteSet, Piece};
 
 impl Claim<'_> {
-    /// Whether the names may have what the machine gives them in an area of these pieces.
+    /// Whether the names may have the bytes that the machine gives them in an area of these pieces.
     pub(crate) fn is_area_named(self, context: &[Piece], exten: &[Piece]) -> bool
         ensures { IsTrue result → (settings : List Settings) → IsNamed (kept_claim self.entry settings) (area_at (shown_all context.now) (shown_all exten.now)) }
     {
@@ -42,7 +42,7 @@ impl Claim<'_> {
         true
     }
 
-    /// Whether `PRIORITY` and `CHANNEL` may have what they have in each channel.
+    /// Whether `PRIORITY` and `CHANNEL` may have the values that they have in each channel.
     fn is_self_named(self) -> bool
         ensures { IsTrue result → IsSelfNamed (names_in self.entry.names.now) }
     {
@@ -57,7 +57,7 @@ impl Claim<'_> {
         self.tells(b"CHANNEL", &texts)
     }
 
-    /// Whether `QUEUESTATUS` may have what comes of a call that waits.
+    /// Whether `QUEUESTATUS` may have the results of a call that waits.
     fn is_queue_named(self) -> bool
         ensures { IsTrue result → IsQueueNamed (names_in self.entry.names.now) }
     {
@@ -69,7 +69,7 @@ impl Claim<'_> {
         self.tells(b"QUEUESTATUS", &texts)
     }
 
-    /// Whether `DIALSTATUS` may have what comes of a call to devices.
+    /// Whether `DIALSTATUS` may have the results of a call to devices.
     fn is_dial_named(self) -> bool
         ensures { IsTrue result → IsDialNamed (names_in self.entry.names.now) }
     {
@@ -84,7 +84,7 @@ impl Claim<'_> {
         self.tells(b"DIALSTATUS", &texts)
     }
 
-    /// Whether the names may have what the machine gives them in each area alike.
+    /// Whether the names may have the bytes that the machine gives them in every area.
     pub(crate) fn is_named(self) -> bool
         ensures { IsTrue result → (settings : List Settings) → AreNamed (kept_claim self.entry settings) }
     {

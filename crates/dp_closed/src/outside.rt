@@ -1,7 +1,7 @@
-//! What may come in from outside.
+//! Everything that may come in from outside.
 use dp_pieces::ByteSet;
 
-/// What may come in: the bytes of an extension and of a caller's number, and the names of contexts.
+/// Everything that may come in: the bytes of an extension and of a caller's number, and the names of contexts.
 #[derive(Drop)]
 pub struct Outside {
     pub exten: ByteSet,

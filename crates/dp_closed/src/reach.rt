@@ -11,7 +11,7 @@ use dp_pieces::{Piece, is_within, known_text, may_fit};
 use dp_plan::Dialplan;
 use std::alloc::Global;
 
-/// The shapes of the extensions that channels may have in each context, by the contexts' numbers.
+/// The shapes of the extensions that channels may have in each context, indexed by the contexts' numbers.
 #[derive(Drop)]
 pub struct Reach {
     pub shapes: Vec<Vec<Vec<Piece>>>,
@@ -30,7 +30,7 @@ fn has_shape(shapes: &[Vec<Piece>], exten: &[Piece]) -> bool
 }
 
 impl Reach {
-    /// The shapes of the extensions that channels may have in the context of a number.
+    /// The shapes of the extensions that channels may have in the context with a number.
     pub fn shapes_at(&self, number: usize) -> &[Vec<Piece>]
         ensures { result.now ≡ shapes_at self.now.shapes.items number }
     {
@@ -40,7 +40,7 @@ impl Reach {
         }
     }
 
-    /// Whether each extension of the shape is seen to be one of the context of this number.
+    /// Whether each extension of the shape is seen to be one of the context with this number.
     pub fn has(&self, number: usize, exten: &[Piece]) -> bool
         ensures { IsTrue result → (text : List ℕ) → Fits (shown_all exten.now) text → FitsAny (shapes_at self.now.shapes.items number) text }
     {
@@ -50,7 +50,7 @@ impl Reach {
         }
     }
 
-    /// Whether the context of this number and name has each extension of the shape, where it may be one of the contexts.
+    /// Whether the context with this number and name has each extension of the shape, if it may be one of the contexts.
     fn has_in(&self, number: usize, name: &[u8], context: &[Piece], exten: &[Piece]) -> bool
         ensures { IsTrue result → Fits (shown_all context.now) name.now
             → (text : List ℕ) → Fits (shown_all exten.now) text → FitsAny (shapes_at self.now.shapes.items number) text }
@@ -58,7 +58,7 @@ impl Reach {
         !may_fit(context, name) || self.has(number, exten)
     }
 
-    /// Whether each place of these shapes is seen to be in the reach, where the context may be any of the dialplan's.
+    /// Whether each place of these shapes is seen to be in the reach, if the context may be any of the dialplan's.
     fn has_all(&self, plan: &Dialplan, context: &[Piece], exten: &[Piece]) -> bool
         ensures { IsTrue result → Includes plan.now (areas_in plan.now.contexts self.now.shapes.items) (area_at (shown_all context.now) (shown_all exten.now)) }
     {
@@ -70,7 +70,7 @@ impl Reach {
         true
     }
 
-    /// Whether the context of this name has each extension of the shape, where the dialplan has such a context.
+    /// Whether the context with this name has each extension of the shape, if the dialplan has such a context.
     fn has_known(&self, plan: &Dialplan, name: &Text, exten: &[Piece]) -> bool
         ensures { IsTrue result → (number : ℕ) → number_of plan.now name.now ≡ Some number
             → (text : List ℕ) → Fits (shown_all exten.now) text → FitsAny (shapes_at self.now.shapes.items number) text }
@@ -82,7 +82,7 @@ impl Reach {
     }
 
     /// Whether each place of these shapes is seen to be in the reach, over the contexts of a dialplan. A place in a context that the
-    /// dialplan lacks is in it, since nothing is found there. It fails only when out of memory.
+    /// dialplan lacks is in it, because nothing is found there. It fails only if memory runs out.
     pub fn includes(
         &self,
         alloc: Global,

@@ -1,4 +1,4 @@
-//! The table of what applications owe, by their names.
+//! The table of the applications' duties, by name.
 ghost use Rattle.std.specs.Prelude.{◌≡◌, ◌++◌, IfOk, IsFalse, OnOk, map};
 ghost use Rattle.dp_closed.specs.Rows as rows;
 ghost use Rattle.dp_closed.specs.Shown.{shown_area, shown_duties, shown_duty};
@@ -19,7 +19,7 @@ use dp_conf::{NoMemory, same_word};
 use dp_pieces::{NamedPieces, Piece, read_pieces};
 use std::alloc::Global;
 
-/// A row of the table: the application that owes so.
+/// A row of the table: the application with these duties.
 #[derive(Clone, Copy)]
 pub(crate) enum Row {
     Nothing,
@@ -117,7 +117,7 @@ fn calling_row(application: &[u8]) -> Row
     silent_row(application)
 }
 
-/// The row of an application, by its name in any ASCII case. A name that the table lacks owes nothing.
+/// The row of an application, given its name in any ASCII case. A name that the table lacks has no duties.
 #[tactic(auto, unfolding(dp_reach::specs::Standard::standard_duties))]
 fn row_of(application: &[u8]) -> Row
     ensures { rows.shown_row result ≡ standard_duties application.now }
@@ -137,7 +137,7 @@ fn row_of(application: &[u8]) -> Row
     calling_row(application)
 }
 
-/// Adds what a row owes.
+/// Adds the duties of a row.
 fn push_row(
     alloc: Global,
     row: Row,
@@ -166,8 +166,8 @@ fn push_row(
     }
 }
 
-/// What an application owes from an area, by its name in any ASCII case and the pieces of its arguments. It fails only for want of
-/// memory.
+/// The duties of an application in an area, given its name in any ASCII case and the pieces of its arguments. It fails only if memory runs
+/// out.
 pub fn duties(
     alloc: Global,
     application: &[u8],
@@ -182,7 +182,7 @@ pub fn duties(
 }
 
 impl Row {
-    /// Whether what the row owes may depend on the arguments.
+    /// Whether the duties of the row may depend on the arguments.
     fn asks_arguments(self) -> bool
         ensures { IsFalse result → rows.IsSteady (rows.shown_row self) }
     {
@@ -204,7 +204,7 @@ impl Row {
         }
     }
 
-    /// The pieces of arguments, where what the row owes may depend on them.
+    /// The pieces of arguments, if the duties of the row may depend on them.
     fn pieces_of<N: NamedPieces>(
         self,
         alloc: Global,
@@ -220,8 +220,8 @@ impl Row {
     }
 }
 
-/// What an application owes from an area, by its name in any ASCII case and its arguments as they stand in the dialplan, which are read
-/// only where what it owes depends on them. It fails only when out of memory.
+/// The duties of an application in an area, given its name in any ASCII case and its arguments as written in the dialplan, which are read
+/// only if the duties depend on them. It fails only if memory runs out.
 pub fn owed<N: NamedPieces>(
     alloc: Global,
     names: &N,

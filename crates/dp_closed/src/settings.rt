@@ -1,4 +1,4 @@
-//! What `Set` owes.
+//! The duties of `Set`.
 ghost use Rattle.std.specs.Prelude.{◌≡◌, ◌++◌, ◌∷◌, [], IfOk, OnOk};
 ghost use Rattle.dp_closed.specs.Shown.{shown_duties};
 ghost use Rattle.dp_closed.specs.Steps as steps;
@@ -16,7 +16,7 @@ use dp_flow::argument_of;
 use dp_pieces::{ByteSet, Piece, cut_known};
 use std::alloc::Global;
 
-/// Adds the byte of a piece, where it is known.
+/// Adds the byte of a piece, if it is known.
 fn push_known(text: &mut Vec<u8>, piece: &Piece) -> Result<(), NoMemory>
     ensures { OnOk result (text.new.items ≡ text.old.items ++ steps.known_bytes (shown_piece piece.now ∷ [])) }
 {
@@ -29,7 +29,7 @@ fn push_known(text: &mut Vec<u8>, piece: &Piece) -> Result<(), NoMemory>
     }
 }
 
-/// The bytes that are known.
+/// The known bytes.
 fn known_bytes(alloc: Global, pieces: &[Piece]) -> Result<Vec<u8>, NoMemory>
     ensures { IfOk result (λ text. text.items ≡ steps.known_bytes (shown_all pieces.now)) }
 {
@@ -40,7 +40,7 @@ fn known_bytes(alloc: Global, pieces: &[Piece]) -> Result<Vec<u8>, NoMemory>
     Ok(text)
 }
 
-/// Adds what is owed where a function of an argument is set to a value of these bytes.
+/// Adds the duties if a function with an argument is set to a value with these bytes.
 fn push_function(
     alloc: Global,
     function: &[u8],
@@ -60,7 +60,7 @@ fn push_function(
     Ok(())
 }
 
-/// Adds what is owed where a name is set to a value of these bytes: a variable or a function.
+/// Adds the duties if a name is set to a value with these bytes: a variable or a function.
 fn push_setting(
     alloc: Global,
     name: &[u8],
@@ -79,7 +79,7 @@ fn push_setting(
     }
 }
 
-/// Adds what is owed where a function is set of which no argument is known.
+/// Adds the duties if a function is set whose argument is unknown.
 fn push_any_argument(function: &[u8], set: ByteSet, duties: &mut Vec<Duty>) -> Result<(), NoMemory>
     ensures { OnOk result (shown_duties duties.new.items
         ≡ shown_duties duties.old.items ++ spec.any_argument_duties function.now (set_by set)) }
@@ -94,7 +94,7 @@ fn push_any_argument(function: &[u8], set: ByteSet, duties: &mut Vec<Duty>) -> R
     Ok(())
 }
 
-/// Adds what is owed where no name is known before the first `=`: the name of a function may be.
+/// Adds the duties if no name is known before the first `=`: the name of a function may be.
 fn push_unknown(alloc: Global, pieces: &[Piece], duties: &mut Vec<Duty>) -> Result<(), NoMemory>
     ensures { OnOk result (shown_duties duties.new.items ≡ shown_duties duties.old.items
         ++ spec.unknown_duties (pieces_set (shown_all pieces.now)) (cut_known 40 (shown_all pieces.now))) }
@@ -113,7 +113,7 @@ fn push_unknown(alloc: Global, pieces: &[Piece], duties: &mut Vec<Duty>) -> Resu
     }
 }
 
-/// Adds what `Set` owes.
+/// Adds the duties of `Set`.
 pub(crate) fn push_set(
     alloc: Global,
     pieces: &[Piece],

@@ -1,4 +1,4 @@
-//! At most two shapes: the sides of a choice, and what a part of a target may be.
+//! At most two shapes: the sides of a choice, and the possible parts of a target.
 ghost use Rattle.std.specs.Prelude.{◌≡◌};
 ghost use Rattle.std.specs.Option.{option_map};
 ghost use Rattle.dp_closed.specs.Steps.{shown_shapes};
@@ -31,7 +31,7 @@ fn may_be_empty(pieces: &[Piece]) -> bool
     true
 }
 
-/// What a part of a target may be: itself, or the channel's own where it is empty.
+/// The possible values of a part of a target: itself, or the channel's own if it is empty.
 pub(crate) fn or_own<'a>(held: &'a [Piece], part: &'a [Piece]) -> Shapes<'a>
     ensures { shown_shapes result ≡ areas.or_own (shown_all held.now) (shown_all part.now) }
 {
@@ -44,7 +44,7 @@ pub(crate) fn or_own<'a>(held: &'a [Piece], part: &'a [Piece]) -> Shapes<'a>
     Shapes::One(part)
 }
 
-/// The sides of a choice by what stands after its `?`, or None where a piece that is not known may part them.
+/// The sides of a choice, given the text after its `?`, or None if an unknown piece may separate them.
 fn sides_by(rest: &[Piece]) -> Option<Shapes<'_>>
     ensures { option_map shown_shapes result ≡ choices.sides_by (shown_all rest.now) (cut_level 58 0 (shown_all rest.now)) }
 {
@@ -55,7 +55,7 @@ fn sides_by(rest: &[Piece]) -> Option<Shapes<'_>>
     }
 }
 
-/// The sides of `CONDITION?SIDE:SIDE`, or None where they are not known.
+/// The sides of `CONDITION?SIDE:SIDE`, or None if they are unknown.
 pub(crate) fn sides_in(pieces: &[Piece]) -> Option<Shapes<'_>>
     ensures { option_map shown_shapes result ≡ choices.sides_in (shown_all pieces.now) }
 {

@@ -1,4 +1,4 @@
-//! What applications owe that enter a subroutine.
+//! The duties of applications that enter a subroutine.
 ghost use Rattle.std.specs.Prelude.{◌≡◌, ◌++◌, ◌∷◌, [], IfOk, OnOk, codes};
 ghost use Rattle.std.specs.Fmt.{decimal};
 ghost use Rattle.std.specs.List.{flat_map};
@@ -31,7 +31,7 @@ fn argument_name(alloc: Global, number: usize) -> Result<Vec<u8>, NoMemory>
     Ok(name)
 }
 
-/// Adds that the local of a number may have the bytes of a shape.
+/// Adds that the local with a number may have the bytes of a shape.
 fn push_argument(
     alloc: Global,
     number: usize,
@@ -61,7 +61,7 @@ fn push_arguments(
     Ok(())
 }
 
-/// Adds what is owed for the arguments of a subroutine, by what stands before its last `)`.
+/// Adds the duties for the arguments of a subroutine, given the text before its last `)`.
 fn push_inside(
     alloc: Global,
     set: ByteSet,
@@ -84,7 +84,7 @@ fn push_inside(
     }
 }
 
-/// Adds what is owed for the arguments of a subroutine, by what stands after its first `(`.
+/// Adds the duties for the arguments of a subroutine, given the text after its first `(`.
 fn push_call(
     alloc: Global,
     set: ByteSet,
@@ -104,7 +104,7 @@ fn push_call(
     }
 }
 
-/// Adds what is owed for the arguments of a subroutine, by its target.
+/// Adds the duties for the arguments of a subroutine, given its target.
 fn push_called(alloc: Global, pieces: &[Piece], duties: &mut Vec<Duty>) -> Result<(), NoMemory>
     ensures { OnOk result (shown_duties duties.new.items ≡ shown_duties duties.old.items
         ++ bounds.target_duties (pieces_set (shown_all pieces.now)) (shown_all pieces.now)) }
@@ -117,7 +117,7 @@ fn push_called(alloc: Global, pieces: &[Piece], duties: &mut Vec<Duty>) -> Resul
     Ok(())
 }
 
-/// Adds what `Gosub` owes.
+/// Adds the duties of `Gosub`.
 pub(crate) fn push_gosub(
     alloc: Global,
     area: &Area,
@@ -131,7 +131,7 @@ pub(crate) fn push_gosub(
     push_called(alloc, pieces, duties)
 }
 
-/// Adds what `Gosub` owes for each of these shapes.
+/// Adds the duties of `Gosub` for each of these shapes.
 fn push_gosubs(
     alloc: Global,
     area: &Area,
@@ -151,7 +151,7 @@ fn push_gosubs(
     }
 }
 
-/// Adds what `GosubIf` owes.
+/// Adds the duties of `GosubIf`.
 pub(crate) fn push_gosub_if(
     alloc: Global,
     area: &Area,

@@ -1,4 +1,4 @@
-//! What applications owe that jump to a target, or to a side of a choice.
+//! The duties of applications that jump to a target, or to a side of a choice.
 ghost use Rattle.std.specs.Prelude.{◌≡◌, ◌++◌, OnOk, map};
 ghost use Rattle.std.specs.List.{flat_map};
 ghost use Rattle.dp_closed.specs.Shown.{shown_area, shown_duties};
@@ -16,7 +16,7 @@ use dp_conf::NoMemory;
 use dp_pieces::{ByteSet, Piece, are_clean, shapes_of};
 use std::alloc::Global;
 
-/// Adds the areas of a context and each of these extensions.
+/// Adds the areas of a context with each of these extensions.
 fn push_extens(
     alloc: Global,
     context: &[Piece],
@@ -36,7 +36,7 @@ fn push_extens(
     }
 }
 
-/// Adds the areas of each of these contexts and each of these extensions.
+/// Adds the areas of each of these contexts with each of these extensions.
 fn push_areas(
     alloc: Global,
     contexts: Shapes<'_>,
@@ -56,7 +56,7 @@ fn push_areas(
     }
 }
 
-/// Adds where any parts of these bytes may lead from an area.
+/// Adds where any parts with these bytes may lead from an area.
 fn push_targets_within(
     alloc: Global,
     area: &Area,
@@ -97,7 +97,7 @@ fn push_targets_of(
     }
 }
 
-/// Adds where the target of pieces may lead from an area: what `Goto` owes.
+/// Adds where a target in pieces may lead from an area: the duties of `Goto`.
 pub(crate) fn push_targets(
     alloc: Global,
     area: &Area,
@@ -135,7 +135,7 @@ fn push_sides(
     }
 }
 
-/// Adds what `GotoIf` owes.
+/// Adds the duties of `GotoIf`.
 pub(crate) fn push_goto_if(
     alloc: Global,
     area: &Area,

@@ -1,4 +1,4 @@
-//! What applications owe that wait for digits, dial, wait in a queue, or change its members.
+//! The duties of applications that wait for digits, dial, wait in a queue, or change its members.
 ghost use Rattle.std.specs.Prelude.{◌≡◌, ◌++◌, ◌∷◌, [], OnOk, map};
 ghost use Rattle.dp_closed.specs.Shown.{shown_area, shown_duties};
 ghost use Rattle.dp_closed.specs.Steps.{any_area};
@@ -12,7 +12,7 @@ use dp_conf::NoMemory;
 use dp_pieces::Piece;
 use std::alloc::Global;
 
-/// Adds what `WaitExten` and `Background` owe.
+/// Adds the duties of `WaitExten` and `Background`.
 pub(crate) fn push_digits(
     alloc: Global,
     area: &Area,
@@ -26,7 +26,7 @@ pub(crate) fn push_digits(
     push_area(alloc, &area.context, &[Piece::Known(b't')], duties)
 }
 
-/// Adds what `Return` owes.
+/// Adds the duties of `Return`.
 pub(crate) fn push_return(
     alloc: Global,
     pieces: &[Piece],
@@ -38,7 +38,7 @@ pub(crate) fn push_return(
     push_name(alloc, b"GOSUB_RETVAL", set_of(pieces), duties)
 }
 
-/// Adds that a name may be each of these texts.
+/// Adds that a name may have each of these texts.
 fn push_texts(
     alloc: Global,
     name: &[u8],
@@ -54,7 +54,7 @@ fn push_texts(
     Ok(())
 }
 
-/// Adds what `Dial` owes.
+/// Adds the duties of `Dial`.
 pub(crate) fn push_dial(alloc: Global, duties: &mut Vec<Duty>) -> Result<(), NoMemory>
     ensures { OnOk result (shown_duties duties.new.items ≡ shown_duties duties.old.items ++ bounds.dial_duties any_area []) }
 {
@@ -62,7 +62,7 @@ pub(crate) fn push_dial(alloc: Global, duties: &mut Vec<Duty>) -> Result<(), NoM
     push_texts(alloc, b"DIALSTATUS", &texts, duties)
 }
 
-/// Adds what `Queue` owes.
+/// Adds the duties of `Queue`.
 pub(crate) fn push_queue(alloc: Global, duties: &mut Vec<Duty>) -> Result<(), NoMemory>
     ensures { OnOk result (shown_duties duties.new.items ≡ shown_duties duties.old.items ++ bounds.queue_duties any_area []) }
 {
@@ -75,7 +75,7 @@ pub(crate) fn push_queue(alloc: Global, duties: &mut Vec<Duty>) -> Result<(), No
     push_texts(alloc, b"QUEUESTATUS", &texts, duties)
 }
 
-/// Adds what `AddQueueMember` owes.
+/// Adds the duties of `AddQueueMember`.
 pub(crate) fn push_add(alloc: Global, duties: &mut Vec<Duty>) -> Result<(), NoMemory>
     ensures { OnOk result (shown_duties duties.new.items ≡ shown_duties duties.old.items ++ bounds.add_duties any_area []) }
 {
@@ -87,7 +87,7 @@ pub(crate) fn push_add(alloc: Global, duties: &mut Vec<Duty>) -> Result<(), NoMe
     push_texts(alloc, b"AQMSTATUS", &texts, duties)
 }
 
-/// Adds what `RemoveQueueMember` owes.
+/// Adds the duties of `RemoveQueueMember`.
 pub(crate) fn push_remove(alloc: Global, duties: &mut Vec<Duty>) -> Result<(), NoMemory>
     ensures { OnOk result (shown_duties duties.new.items ≡ shown_duties duties.old.items ++ bounds.remove_duties any_area []) }
 {
@@ -100,7 +100,7 @@ pub(crate) fn push_remove(alloc: Global, duties: &mut Vec<Duty>) -> Result<(), N
     push_texts(alloc, b"RQMSTATUS", &texts, duties)
 }
 
-/// Adds what `PauseQueueMember` owes.
+/// Adds the duties of `PauseQueueMember`.
 pub(crate) fn push_pause(alloc: Global, duties: &mut Vec<Duty>) -> Result<(), NoMemory>
     ensures { OnOk result (shown_duties duties.new.items ≡ shown_duties duties.old.items ++ bounds.pause_duties any_area []) }
 {
@@ -108,7 +108,7 @@ pub(crate) fn push_pause(alloc: Global, duties: &mut Vec<Duty>) -> Result<(), No
     push_texts(alloc, b"PQMSTATUS", &texts, duties)
 }
 
-/// Adds what `UnpauseQueueMember` owes.
+/// Adds the duties of `UnpauseQueueMember`.
 pub(crate) fn push_unpause(alloc: Global, duties: &mut Vec<Duty>) -> Result<(), NoMemory>
     ensures { OnOk result (shown_duties duties.new.items ≡ shown_duties duties.old.items ++ bounds.unpause_duties any_area []) }
 {

@@ -23,7 +23,7 @@ use Rattle.dp_commands.specs.declared.fault.Code.TheVariants.{WriteFailed}
 use Rattle.dp_commands.specs.declared.fault.PbxFault.{PbxFault}
 use Rattle.dp_commands.specs.declared.fault.PbxFault.TheVariants.{Coded, NoMemory}
 
--- where an entry stands, `CONTEXT,NAME,PRIORITY`
+-- the position of an entry, `CONTEXT,NAME,PRIORITY`
 abbrev pub spot_by : PlanOf → EntryId → Option Entry → List ℕ
 spot_by plan id None = []
 spot_by plan id (Some entry) = place_text (context_name plan id.context) (spelling entry.name) entry.priority
@@ -31,7 +31,7 @@ spot_by plan id (Some entry) = place_text (context_name plan id.context) (spelli
 abbrev pub spot_text : PlanOf → EntryId → List ℕ
 spot_text plan id = spot_by plan id (entry_at plan id)
 
--- the priority after that of an entry
+-- the priority after the entry's own
 abbrev pub next_priority : PlanOf → EntryId → List ℕ
 next_priority plan id = option_map_or (λ entry. decimal (entry.priority + 1)) (entry_at plan id) []
 
@@ -39,7 +39,7 @@ next_priority plan id = option_map_or (λ entry. decimal (entry.priority + 1)) (
 abbrev pub label_text : PlanOf → EntryId → List ℕ
 label_text plan id = option_map_or (λ label. label) (option_and_then (λ entry. entry.label) (entry_at plan id)) []
 
--- a finding, `KIND CONTEXT,NAME,PRIORITY` and what it is about
+-- a finding: `KIND CONTEXT,NAME,PRIORITY`, then the finding's subject
 abbrev pub finding_text : PlanOf → Finding → List ℕ
 finding_text plan (Cycle number) = codes "Cycle " ++ context_name plan number
 finding_text plan (NoApplication id) = codes "NoApplication " ++ entry_text plan id
@@ -50,11 +50,11 @@ finding_text plan (Hidden id from) = codes "Hidden " ++ spot_text plan id ++ cod
 finding_text plan (Unset id name) = codes "Unset " ++ spot_text plan id ++ codes " " ++ name
 finding_text plan (Unused id) = codes "Unused " ++ spot_text plan id ++ codes " " ++ label_text plan id
 
--- its line
+-- the line of a finding
 abbrev pub finding_line : PlanOf → Finding → List ℕ
 finding_line plan finding = finding_text plan finding ++ 10 ∷ []
 
--- what an audit reports: its text and its status, 1 where something is found
+-- the result of an audit: its text, and its status, which is 1 if there are findings
 pub record Audited : Type 0 where
   pub text : List ℕ
   pub status : ℕ
@@ -66,18 +66,18 @@ abbrev pub status_by : List Finding → ℕ
 status_by [] = 0
 status_by (finding ∷ findings) = 1
 
--- the lines of the findings, and then `ok N findings`
+-- the lines of the findings, then the line `ok N findings`
 abbrev pub audit_text : PlanOf → List Finding → List ℕ
 audit_text plan findings = flat_map (finding_line plan) findings ++ codes "ok " ++ decimal (length findings) ++ codes " findings\n"
 
 abbrev pub audit_outcome : PlanOf → List Finding → Audited
 audit_outcome plan findings = record { text = audit_text plan findings; status = status_by findings }
 
--- the audit of the dialplan of a text, or its fault
+-- the audit of the dialplan that a text holds, or the text's fault
 unfoldable pub audit_of : List ℕ → Result Audited PbxFault
 audit_of plan = plan_fault (plan_and_notes plan) >>= λ read. Ok (audit_outcome read.0 (findings_of (has_row standard_rows) read.0))
 
--- what an audit writes and answers: all of its text and its status or, where a write fails, a front
+-- the output and result of an audit: the whole text and the status or, if a write fails, a prefix of the text
 abbrev pub WritesAudit : Option (List ℕ) → Option (List ℕ) → Result Audited PbxFault → Result ℕ PbxFault → Type 0
 WritesAudit old new (Ok report) (Ok status) = Appends old new report.text × (status ≡ report.status)
 WritesAudit old new (Ok report) (Err (Coded code line)) = AppendsFront old new report.text × (code ≡ WriteFailed) × (line ≡ None)

@@ -1,11 +1,11 @@
--- What waits to be written.
+-- The bytes that are waiting to be written.
 use Rattle.std.specs.Prelude.{ℕ, List}
 
--- bytes that wait: whole lines, and what is begun after them
+-- bytes that wait to be written: whole lines, then the start of the next line
 pub record Waiting : Type 0 where
   pub whole : List ℕ
   pub begun : List ℕ
 
--- these bytes wait
+-- a text as waiting bytes
 abbrev pub waiting : List ℕ → List ℕ → Waiting
 waiting whole begun = record { whole = whole; begun = begun }

@@ -1,4 +1,4 @@
--- The numbers of the program's faults and the names that are printed beside them.
+-- The numbers of the program's faults, and their printed names.
 use Rattle.std.specs.Prelude.{ℕ, List, ◌++◌, Some, None, codes, decimal}
 use Rattle.dp_board.specs.Codes.{fault_code as settle_code, fault_name as settle_name}
 use Rattle.dp_conf.specs.Codes.{line_code, line_name, read_name, write_code, write_name}
@@ -39,11 +39,11 @@ code_name (Settle fault) = settle_name fault
 code_name BadScript = codes "BadScript"
 code_name BadBreak = codes "BadBreak"
 
--- what is printed of a code, `fault CODE NAME`
+-- the printed form of a code, `fault CODE NAME`
 abbrev pub code_text : Code → List ℕ
 code_text code = codes "fault " ++ decimal (code_number code) ++ codes " " ++ code_name code
 
--- the line that is printed of a fault
+-- the line that the program prints for a fault
 abbrev pub fault_line : PbxFault → List ℕ
 fault_line (Coded code (Some line)) = code_text code ++ codes " line " ++ decimal line ++ codes "\n"
 fault_line (Coded code None) = code_text code ++ codes "\n"

@@ -1,4 +1,4 @@
--- Debugged runs: the break that a text names, and the lines of halts between those of the events.
+-- Debugged runs: how the text of a break is read, and the lines that halts add to the trace.
 use Rattle.std.specs.Prelude.{◌≡◌, ℕ, ◌++◌, ◌==◌, nat_lt, Bool, false, List, [], ◌∷◌, Option, Some, None, is_some, Result, Ok, Err, codes, decimal, if◌then◌else◌}
 use Rattle.std.specs.Io.KnownBytes.{Appends}
 use Rattle.std.specs.List.{slice_split}
@@ -23,11 +23,11 @@ use Rattle.dp_commands.specs.declared.fault.PbxFault.TheVariants.{Coded, NoMemor
 use Rattle.dp_commands.specs.declared.script.Turn.{Turn}
 use Rattle.dp_commands.specs.declared.script.Turn.TheVariants.{Event as turn_event, Show}
 
--- the priority that a part writes: digits, and a number from 1 to the greatest priority
+-- the priority that a part holds: digits that write a number from 1 to the greatest priority
 abbrev pub priority_in : List ℕ → Option ℕ
 priority_in part = option_and_then (λ n. if nat_lt 0 n then Some n else None) (number_within most_priority part)
 
--- the break of three parts: a context, an extension and a priority, none of them trimmed
+-- the break that three parts name: a context, an extension and a priority; no part is trimmed
 abbrev pub break_by : List (List ℕ) → Option Break
 break_by [] = None
 break_by (context ∷ []) = None
@@ -36,38 +36,38 @@ break_by (context ∷ exten ∷ part ∷ []) =
     option_map (λ priority. At (record { context = context; exten = exten; priority = priority })) (priority_in part)
 break_by (context ∷ exten ∷ part ∷ more ∷ parts) = None
 
--- a comma
+-- whether a byte is a comma
 abbrev pub is_comma : ℕ → Bool
 is_comma byte = byte == 44
 
--- the parts of a text, cut at its commas
+-- the parts of a text between its commas
 abbrev pub parts_of : List ℕ → List (List ℕ)
 parts_of text = slice_split is_comma text
 
--- the break that was read, or its fault
+-- the break, or the fault of a text that names none
 abbrev pub or_bad_break : Option Break → Result Break PbxFault
 or_bad_break None = Err (Coded BadBreak None)
 or_bad_break (Some held) = Ok held
 
--- the break of a text, `CONTEXT,EXTEN,PRIORITY`, or its fault
+-- the break that the text `CONTEXT,EXTEN,PRIORITY` names, or the text's fault
 unfoldable pub break_of : List ℕ → Result Break PbxFault
 break_of text = or_bad_break (break_by (parts_of text))
 
--- what is watched in a debugged run: the break at which it halts, and how many events were taken
+-- the state of a debugged run: its break, and the number of events taken so far
 pub record Watch : Type 0 where
   pub held : Break
   pub taken : ℕ
 
--- the line of a halt after so many events, `break TAKEN`
+-- the line of a halt after a number of events, `break TAKEN`
 abbrev pub halt_line : ℕ → List ℕ
 halt_line taken = codes "break " ++ decimal taken ++ 10 ∷ []
 
--- that line where the run has halted
+-- the line of a halt if the run halts, else nothing
 abbrev pub halt_text : Bool → ℕ → List ℕ
 halt_text halted taken = if halted then halt_line taken else []
 
--- what a turn makes of a debugged run and its world. The run halts before an event before which its break holds, and goes on with
--- that event. What is only shown is passed over
+-- how a turn changes a debugged run and its world: the run halts before an event at which its break holds, then takes the event; a turn
+-- that only shows a value is passed over
 abbrev pub debug_turn : Watch × World → Turn → Taken (Watch × World)
 debug_turn at (turn_event event) =
     record {
@@ -84,24 +84,24 @@ end_line taken = codes "end " ++ decimal taken ++ 10 ∷ []
 abbrev pub end_text : Watch → List ℕ
 end_text watch = end_line watch.taken
 
--- a debugged run: where it halts, and the run
+-- a debugged run: its break, and the run
 pub record DebugRun : Type 0 where
   pub held : Break
   pub run : Run
 
--- the debugged run of a run, with a break
+-- a run, debugged with a break
 abbrev pub debug_on : Break → Run → DebugRun
 debug_on held run = record { held = held; run = run }
 
--- the debugged run of a run with the break of a text, or the first fault: the break's, that of the run's texts
+-- a run, debugged with the break that a text names, or the first fault: that of the break, then that of the run's texts
 unfoldable pub debug_of : Result Run PbxFault → List ℕ → Result DebugRun PbxFault
 debug_of given held = break_of held >>= λ found. given >>= λ run. Ok (debug_on found run)
 
--- before the first event
+-- the state before the first event
 abbrev pub watching : DebugRun → Watch × World
 watching debug = (record { held = debug.held; taken = 0 }, debug.run.world)
 
--- what a program's debugged run writes and answers, by the run or the fault that its texts are
+-- the output and result of a debugged run, given the run or the fault of its texts
 abbrev pub WritesDebug : Option (List ℕ) → Option (List ℕ) → Result DebugRun PbxFault → Result ℕ PbxFault → Type 0
 WritesDebug old new (Ok debug) result = WritesTurns debug_turn (λ at. end_text at.0) (watching debug) debug.run.turns old new result
 WritesDebug old new (Err fault) (Ok status) = ⊥

@@ -1,4 +1,4 @@
--- The faults of the program beside those of its parts, and out of memory.
+-- How faults of the parts become faults of the program, and which faults are failed writes or mean that memory ran out.
 use Rattle.std.specs.Prelude.{Bool, true, false, Option, Some, None, Result, Ok, Err}
 use Rattle.dp_conf.specs.declared.fault.ConfFault.TheVariants.{At, NoMemory as conf_no_memory}
 use Rattle.dp_conf.specs.declared.fault.ReadFault.{ReadFault}
@@ -11,7 +11,7 @@ use Rattle.dp_commands.specs.declared.fault.Code.TheVariants.{Line, Name, Plan, 
 use Rattle.dp_commands.specs.declared.fault.PbxFault.{PbxFault}
 use Rattle.dp_commands.specs.declared.fault.PbxFault.TheVariants.{Coded, NoMemory}
 
--- a dialplan's fault
+-- a fault of a dialplan as a fault of the program
 abbrev pub fault_of_load : LoadFault → PbxFault
 fault_of_load (Conf (At line kind)) = Coded (Line kind) (Some line)
 fault_of_load (Conf conf_no_memory) = NoMemory
@@ -19,20 +19,20 @@ fault_of_load (Pattern line fault) = Coded (Name fault) (Some line)
 fault_of_load (load_plan line kind) = Coded (Plan kind) (Some line)
 fault_of_load load_no_memory = NoMemory
 
--- a fault of a file of queues
+-- a fault of a queue file as a fault of the program
 abbrev pub fault_of_queue : QueueFault → PbxFault
 fault_of_queue (queue_conf (At line kind)) = Coded (QueueLine kind) (Some line)
 fault_of_queue (queue_conf conf_no_memory) = NoMemory
 fault_of_queue (queue_line line kind) = Coded (Queue kind) (Some line)
 fault_of_queue queue_no_memory = NoMemory
 
--- a reader's fault
+-- a fault of a reader as a fault of the program
 abbrev pub fault_of_read : ReadFault → PbxFault
 fault_of_read read_failed = Coded ReadFailed None
 fault_of_read read_too_long = Coded TooLong None
 fault_of_read read_no_memory = NoMemory
 
--- why the program ends; out of memory is no reason
+-- the reason why the program ends; there is none if memory ran out
 abbrev pub reason_of : PbxFault → Option PbxFault
 reason_of (Coded code line) = Some (Coded code line)
 reason_of NoMemory = None
@@ -52,7 +52,7 @@ is_write_fault (Coded BadScript line) = false
 is_write_fault (Coded BadBreak line) = false
 is_write_fault NoMemory = false
 
--- whether the call ended with a failed write
+-- whether a call ended with a failed write
 abbrev pub is_write_failed : {X : Type 0} → Result X PbxFault → Bool
 is_write_failed (Ok x) = false
 is_write_failed (Err fault) = is_write_fault fault

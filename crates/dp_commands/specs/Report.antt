@@ -1,4 +1,4 @@
--- What is reported of a dialplan: what it loads as, its listing, and which entry answers a call.
+-- The reports on a dialplan: how it loads, its listing, and which entry answers a call.
 use Rattle.std.specs.Prelude.{◌≡◌, ℕ, List, [], ◌∷◌, ◌++◌, length, sum, map, Option, None, Some, Result, Ok, Err, codes, decimal}
 use Rattle.std.specs.Io.KnownBytes.{Appends}
 use Rattle.std.specs.List.{flat_map}
@@ -25,46 +25,46 @@ use Rattle.dp_commands.specs.declared.fault.PbxFault.TheVariants.{Coded, NoMemor
 abbrev pub note_line : Note → List ℕ
 note_line note = codes "note " ++ decimal note.line ++ codes " " ++ note_name note.kind ++ 10 ∷ []
 
--- how many entries the contexts have, all together
+-- the total number of entries in the contexts
 abbrev pub entries_in : List PlanContext → ℕ
 entries_in contexts = sum (map (λ context. length context.entries) contexts)
 
--- the line that a dialplan was loaded, `ok C contexts E entries`
+-- the line for a dialplan that was loaded, `ok C contexts E entries`
 abbrev pub counts_line : PlanOf → List ℕ
 counts_line plan =
     codes "ok " ++ decimal (length plan.contexts) ++ codes " contexts " ++ decimal (entries_in plan.contexts) ++ codes " entries\n"
 
--- what is reported of a dialplan with its notes: the notes, and the counts
+-- the report on a dialplan with notes: its notes, then its counts
 abbrev pub check_text : PlanOf × List Note → List ℕ
 check_text read = flat_map note_line read.1 ++ counts_line read.0
 
--- what is reported of a text, or its fault
+-- the report on the dialplan that a text holds, or the text's fault
 unfoldable pub check_of : List ℕ → Result (List ℕ) PbxFault
 check_of plan = plan_fault (plan_and_notes plan) >>= λ read. Ok (check_text read)
 
--- the line of a note and below it its explanation, by the path of the file and the lines of its text
+-- the line of a note followed by its explanation, given the path of the file and the lines of its text
 abbrev pub explained_note : List ℕ → List (List ℕ) → Note → List ℕ
 explained_note path lines note =
     note_line note ++ (line_text (file_line path note.line (line_among lines note.line)) ++ sentence_text (note_sentence note.kind))
 
--- what is reported of a dialplan with its notes where these are explained
+-- the report on a dialplan with notes, each of them explained
 abbrev pub explained_text : List ℕ → List (List ℕ) → PlanOf × List Note → List ℕ
 explained_text path lines read = flat_map (explained_note path lines) read.1 ++ counts_line read.0
 
--- what is reported of the text of a file where its notes are explained, or its fault
+-- the report on the text of a file with its notes explained, or the text's fault
 unfoldable pub check_explained_of : List ℕ → List ℕ → Result (List ℕ) PbxFault
 check_explained_of path plan = plan_fault (plan_and_notes plan) >>= λ read. Ok (explained_text path (parts_of plan) read)
 
--- the canonical listing of the dialplan of a text, or its fault
+-- the canonical listing of the dialplan that a text holds, or the text's fault
 unfoldable pub list_of : List ℕ → Result (List ℕ) PbxFault
 list_of plan = plan_fault (plan_and_notes plan) >>= λ read. Ok (listing read.0)
 
--- the line of an entry that was looked for, `CONTEXT,NAME,PRIORITY APP`, or `none`
+-- the line of the entry that was found, `CONTEXT,NAME,PRIORITY APP`, or `none`
 abbrev pub match_line : PlanOf → Option EntryId → List ℕ
 match_line plan None = codes "none\n"
 match_line plan (Some id) = entry_text plan id ++ 10 ∷ []
 
--- the entry of a dialplan that answers a dialled text at a priority, from a context on
+-- the entry that answers a dialled text at a priority, searched from a context
 abbrev pub answering : PlanOf → List ℕ → List ℕ → ℕ → Option EntryId
 answering plan context text priority = found_entry plan (search_order plan context) text priority
 
@@ -73,7 +73,7 @@ unfoldable pub match_of : List ℕ → List ℕ → List ℕ → ℕ → Result 
 match_of plan context text priority =
     plan_fault (plan_and_notes plan) >>= λ read. Ok (match_line read.0 (answering read.0 context text priority))
 
--- what a report writes and answers, by its text or the fault in its place: all of it or, where a write fails, a front
+-- the output and result of a report, given its text or a fault in its place: the whole text or, if a write fails, a prefix of it
 abbrev pub Reports : Option (List ℕ) → Option (List ℕ) → Result (List ℕ) PbxFault → Result ℕ PbxFault → Type 0
 Reports old new (Ok text) (Ok status) = Appends old new text × (status ≡ 0)
 Reports old new (Ok text) (Err (Coded code line)) = AppendsFront old new text × (code ≡ WriteFailed) × (line ≡ None)

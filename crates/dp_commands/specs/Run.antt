@@ -1,4 +1,4 @@
--- What a run writes and answers.
+-- The output and result of a run.
 use Rattle.std.specs.Prelude.{◌≡◌, ℕ, ◌≤◌, Bool, List, [], length, take, Option, Some, None, Result, Ok, Err, if◌then◌else◌}
 use Rattle.std.specs.Io.KnownBytes.{Appends}
 use Rattle.std.specs.Option.{option_map}
@@ -27,72 +27,72 @@ pub record TracesFirst (w : World) (turns : List Turn) (old new : Option (List �
   pub within : count ≤ length turns
   pub written : Appends old new (trace_of w (take count turns))
 
--- the status by whether a turn was refused
+-- the status of a run, given whether a turn was refused
 abbrev pub status_by : Bool → ℕ
 status_by refused = if refused then 1 else 0
 
--- a run: the world that it begins with, and its turns
+-- a run: its first world, and its turns
 pub record Run : Type 0 where
   pub world : World
   pub turns : List Turn
 
--- the run of these turns from a world on
+-- the run of these turns, starting from a world
 abbrev pub run_on : World → List Turn → Run
 run_on world turns = record { world = world; turns = turns }
 
--- a dialplan that was read, or its fault
+-- the result of reading a dialplan, with its fault as one of the program
 abbrev pub plan_fault : {X : Type 0} → Result X LoadFault → Result X PbxFault
 plan_fault (Ok x) = Ok x
 plan_fault (Err fault) = Err (fault_of_load fault)
 
--- a file of queues that was read, or its fault
+-- the result of reading a queue file, with its fault as one of the program
 abbrev pub queue_fault : {X : Type 0} → Result X QueueFault → Result X PbxFault
 queue_fault (Ok x) = Ok x
 queue_fault (Err fault) = Err (fault_of_queue fault)
 
--- the queues of a run, by the text of their file, where there is one
+-- the queues of a run, given the text of the queue file, if there is one
 abbrev pub queues_of : Option (List ℕ) → Result QueuesOf PbxFault
 queues_of None = Ok no_queues
 queues_of (Some text) = queue_fault (queues_loaded text)
 
--- what the files of a run say
+-- the contents of a run's files
 pub record Files : Type 0 where
   pub plan : PlanOf
   pub queues : QueuesOf
 
--- what the texts of a run say
+-- the contents of a run's texts
 pub record RunContents : Type 0 where
   pub plan : PlanOf
   pub queues : QueuesOf
   pub lines : List (ScriptLine Turn)
 
--- what the texts of a dialplan and its queues say, or the first fault: the dialplan's, the queues'
+-- the contents of a dialplan's text and a queue file's text, or the first fault: that of the dialplan, then that of the queues
 abbrev pub files_of : List ℕ → Option (List ℕ) → Result Files PbxFault
 files_of plan queues =
     plan_fault (plan_and_notes plan) >>= λ read. queues_of queues >>= λ held. Ok (record { plan = read.0; queues = held })
 
--- what the texts of a dialplan, its queues and a script say beside a second dialplan, where there is one; or the first fault: the
--- dialplan's, the queues', the script's. That of the second dialplan is not asked
+-- the contents of the texts of a dialplan, its queues and a script, with an optional second dialplan; or the first fault: that of the
+-- dialplan, then the queues, then the script; a fault of the second dialplan does not count
 abbrev pub contents_of : List ℕ → Option (List ℕ) → Option (List ℕ) → List ℕ → Result RunContents PbxFault
 contents_of plan queues second_plan script =
     files_of plan queues >>= λ files. script_of second_plan script >>= λ lines.
     Ok (record { plan = files.plan; queues = files.queues; lines = lines })
 
--- the run of a dialplan, its queues, a second dialplan and a script, or the first fault
+-- the run of a dialplan, its queues, an optional second dialplan and a script, or the first fault
 unfoldable pub run_of : List ℕ → Option (List ℕ) → Option (List ℕ) → List ℕ → Result Run PbxFault
 run_of plan queues second_plan script =
     contents_of plan queues second_plan script >>= λ told. Ok (run_on (opening told.plan told.queues) (turns_of told.lines))
 
--- the run of these texts, or the first fault
+-- the run of a record of texts, or the first fault
 abbrev pub run_of_texts : RunTexts → Result Run PbxFault
 run_of_texts texts =
     run_of texts.plan.now (option_map (λ text. text.now) texts.queues) (option_map (λ text. text.now) texts.second_plan) texts.script.now
 
--- the status of a run: 1 where a turn was refused
+-- the status of a run: 1 if a turn was refused
 abbrev pub status_of : Run → ℕ
 status_of run = status_by (any_refused run.world run.turns)
 
--- what a program's run writes and answers, by the run or the fault that its texts are
+-- the output and result of a run, given the run or the fault of its texts
 abbrev pub Writes : Option (List ℕ) → Option (List ℕ) → Result Run PbxFault → Result ℕ PbxFault → Type 0
 Writes old new (Ok run) (Ok status) = Appends old new (trace_of run.world run.turns) × (status ≡ status_of run)
 Writes old new (Ok run) (Err (Coded code line)) =

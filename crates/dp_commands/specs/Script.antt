@@ -1,4 +1,4 @@
--- A script: its lines, and the turns that they stand for.
+-- A script: its lines, and the turns that they give.
 use Rattle.std.specs.Prelude.{ℕ, ◌+◌, Bool, true, not, ◌==◌, nat_le, List, [], ◌∷◌, length, filter, replicate, Option, Some, None, Result, Ok, Err, codes, if◌then◌else◌}
 use Rattle.std.specs.List.{slice_split, flat_map}
 use Rattle.std.specs.Option.{option_and_then, option_map, option_or}
@@ -20,41 +20,41 @@ use Rattle.dp_commands.specs.declared.script.ScriptLine.{ScriptLine}
 use Rattle.dp_commands.specs.declared.script.Turn.{Turn}
 use Rattle.dp_commands.specs.declared.script.Turn.TheVariants.{Event, Show}
 
--- a word has a byte
+-- whether a word has a byte
 abbrev pub is_word : List ℕ → Bool
 is_word word = not (length word == 0)
 
--- the words of a line, between its blanks
+-- the words of a line, which blanks separate
 abbrev pub words_of : List ℕ → List (List ℕ)
 words_of line = filter is_word (slice_split is_blank line)
 
--- a number up to a limit
+-- the number that a word writes, up to a limit
 abbrev pub number_within : ℕ → List ℕ → Option ℕ
 number_within limit word = option_and_then (λ n. if nat_le n limit then Some n else None) (number_of word)
 
--- the greatest number that a script may give a channel
+-- the greatest channel number in a script
 abbrev pub most_channel : ℕ
 most_channel = 4294967295
 
--- how many times a line may take its turn
+-- the greatest number of times that a line can repeat its turn
 abbrev pub most_count : ℕ
 most_count = 100000
 
--- the number of a channel that a word writes
+-- the channel number that a word writes
 abbrev pub channel_in : List ℕ → Option ℕ
 channel_in word = number_within most_channel word
 
--- a line that takes its turn once
+-- a line that gives its turn once
 abbrev pub once : {U : Type 0} → U → ScriptLine U
 once turn = record { turn = turn; count = 1 }
 
--- so many steps of a channel
+-- a number of steps of a channel
 abbrev pub steps_of : Option ℕ → Option ℕ → Option (ScriptLine Turn)
 steps_of None count = None
 steps_of (Some channel) None = None
 steps_of (Some channel) (Some count) = Some (record { turn = Event (Step channel); count = count })
 
--- the call of a line that begins with `start`
+-- the phone call that a `start` line makes
 abbrev pub start_line : List (List ℕ) → Option (ScriptLine Turn)
 start_line [] = None
 start_line (context ∷ []) = None
@@ -62,7 +62,7 @@ start_line (context ∷ exten ∷ []) = Some (once (Event (Start context exten [
 start_line (context ∷ exten ∷ caller ∷ []) = Some (once (Event (Start context exten caller)))
 start_line (context ∷ exten ∷ caller ∷ more ∷ words) = None
 
--- the steps of a line that begins with `step`
+-- the steps that a `step` line gives
 abbrev pub step_line : List (List ℕ) → Option (ScriptLine Turn)
 step_line [] = None
 step_line (channel ∷ []) = steps_of (channel_in channel) (Some 1)
@@ -76,14 +76,14 @@ dialled_by (Some channel) [] = None
 dialled_by (Some channel) (digit ∷ []) = Some (once (Event (Digit channel digit)))
 dialled_by (Some channel) (digit ∷ more ∷ bytes) = None
 
--- the digit of a line that begins with `digit`
+-- the digit that a `digit` line dials
 abbrev pub digit_line : List (List ℕ) → Option (ScriptLine Turn)
 digit_line [] = None
 digit_line (channel ∷ []) = None
 digit_line (channel ∷ digit ∷ []) = dialled_by (channel_in channel) digit
 digit_line (channel ∷ digit ∷ more ∷ words) = None
 
--- what came of a call to devices, by the word that names it
+-- the result of a call to devices that a word names
 abbrev pub status_in : List ℕ → Option DialStatus
 status_in word =
     if same_text word (status_name statuses.Answer) then Some statuses.Answer
@@ -93,36 +93,36 @@ status_in word =
     else if same_text word (status_name statuses.ChanUnavail) then Some statuses.ChanUnavail
     else None
 
--- what came of a channel's call to devices
+-- the result of a channel's call to devices
 abbrev pub result_by : Option ℕ → Option DialStatus → Option (ScriptLine Turn)
 result_by None status = None
 result_by (Some channel) None = None
 result_by (Some channel) (Some status) = Some (once (Event (DialResult channel status)))
 
--- the same of a line that begins with `result`
+-- the result that a `result` line gives
 abbrev pub result_line : List (List ℕ) → Option (ScriptLine Turn)
 result_line [] = None
 result_line (channel ∷ []) = None
 result_line (channel ∷ status ∷ []) = result_by (channel_in channel) (status_in status)
 result_line (channel ∷ status ∷ more ∷ words) = None
 
--- the channel that is the one word of a line after its first
+-- the channel that a line names, if it has just one word after its first
 abbrev pub one_channel : List (List ℕ) → Option ℕ
 one_channel [] = None
 one_channel (channel ∷ []) = channel_in channel
 one_channel (channel ∷ more ∷ words) = None
 
--- the name that is the one word of a line after its first
+-- the name that a line gives, if it has just one word after its first
 abbrev pub one_name : List (List ℕ) → Option (List ℕ)
 one_name [] = None
 one_name (name ∷ []) = Some name
 one_name (name ∷ more ∷ words) = None
 
--- the line of an event by what it names
+-- the line of an event, given what the event names
 abbrev pub event_line : {X : Type 0} → (X → MachineEvent) → Option X → Option (ScriptLine Turn)
 event_line event named = option_map (λ x. once (Event (event x))) named
 
--- what a line of a channel's event stands for by its words
+-- the meaning of a line for a channel's event, given its words
 abbrev pub channel_line : List ℕ → List (List ℕ) → Option (ScriptLine Turn)
 channel_line word words =
     if same_text word (codes "timeout") then event_line (λ n. Timeout n) (one_channel words)
@@ -130,7 +130,7 @@ channel_line word words =
     else if same_text word (codes "hangup") then event_line (λ n. Hangup n) (one_channel words)
     else None
 
--- what a line of a queue's or an agent's event stands for by its words
+-- the meaning of a line for a queue's or an agent's event, given its words
 abbrev pub agent_line : List ℕ → List (List ℕ) → Option (ScriptLine Turn)
 agent_line word words =
     if same_text word (codes "offer") then event_line (λ name. Offer name) (one_name words)
@@ -139,28 +139,28 @@ agent_line word words =
     else if same_text word (codes "done") then event_line (λ name. AgentDone name) (one_name words)
     else None
 
--- the second dialplan is put in force, where there is one
+-- the reload of the second dialplan, if there is one
 abbrev pub reload_by : Option (List ℕ) → Option (ScriptLine Turn)
 reload_by second_plan = event_line (λ text. Reload text) second_plan
 
--- the same of a line that begins with `reload`, which has no further word
+-- the reload that a `reload` line gives; the line has no further word
 abbrev pub reload_line : Option (List ℕ) → List (List ℕ) → Option (ScriptLine Turn)
 reload_line second_plan [] = reload_by second_plan
 reload_line second_plan (word ∷ words) = None
 
--- the name that is shown in a channel
+-- a name to show in a channel
 abbrev pub shown_by : Option ℕ → List ℕ → Option (ScriptLine Turn)
 shown_by None name = None
 shown_by (Some channel) name = Some (once (Show channel name))
 
--- what is shown by a line that begins with `show`
+-- what a `show` line shows
 abbrev pub show_line : List (List ℕ) → Option (ScriptLine Turn)
 show_line [] = None
 show_line (channel ∷ []) = None
 show_line (channel ∷ name ∷ []) = shown_by (channel_in channel) name
 show_line (channel ∷ name ∷ more ∷ words) = None
 
--- what a line stands for by its words, where a line `reload` puts the second dialplan in force; and None where it is faulty
+-- the meaning of a line, given its words and the second dialplan, which a `reload` line loads; None if the line is faulty
 abbrev pub line_by : Option (List ℕ) → List (List ℕ) → Option (ScriptLine Turn)
 line_by second_plan [] = None
 line_by second_plan (word ∷ words) =
@@ -172,37 +172,37 @@ line_by second_plan (word ∷ words) =
     else if same_text word (codes "show") then show_line words
     else option_or (channel_line word words) (agent_line word words)
 
--- whether a line is passed over: it has no words, or begins with `;`
+-- whether a line is skipped: it has no words or begins with `;`
 abbrev pub is_skipped : List (List ℕ) → Bool
 is_skipped [] = true
 is_skipped (word ∷ words) = begins_with 59 word
 
--- the line by its words, where it is not passed over, and None where it is faulty
+-- the meaning of a line with these words, which is empty if it is skipped; None if the line is faulty
 abbrev pub line_of : Option (List ℕ) → List (List ℕ) → Option (List (ScriptLine Turn))
 line_of second_plan words = if is_skipped words then Some [] else option_map (λ line. line ∷ []) (line_by second_plan words)
 
--- the same by the text of the line
+-- the meaning of a line with this text, which is empty if it is skipped; None if the line is faulty
 abbrev pub line_in : Option (List ℕ) → List ℕ → Option (List (ScriptLine Turn))
 line_in second_plan part = line_of second_plan (words_of part)
 
--- the reading of a line at its number, or its fault
+-- the result of reading the line with a number: the line, or its fault
 abbrev pub reading_at : {U : Type 0} → ℕ → Option (List (ScriptLine U)) → Result (List (ScriptLine U)) PbxFault
 reading_at line None = Err (Coded BadScript (Some line))
 reading_at line (Some lines) = Ok lines
 
--- the reading of a line by what it stands for, and by the lines before it
+-- the result of reading a line, given the meaning of lines and the lines before it
 abbrev pub reading_by : {U : Type 0} → (List ℕ → Option (List (ScriptLine U))) → List (List ℕ) → List ℕ → Result (List (ScriptLine U)) PbxFault
 reading_by stands_for before part = reading_at (length before + 1) (stands_for part)
 
--- the reading of a line, by the lines before it
+-- the result of reading a line, given the lines before it
 abbrev pub reading_of : Option (List ℕ) → List (List ℕ) → List ℕ → Result (List (ScriptLine Turn)) PbxFault
 reading_of second_plan before part = reading_by (line_in second_plan) before part
 
--- the lines of a script by what each stands for; or the fault of its first faulty line
+-- the lines of a script, given the meaning of lines; or the fault of the first faulty line
 unfoldable pub script_by : {U : Type 0} → (List ℕ → Option (List (ScriptLine U))) → List ℕ → Result (List (ScriptLine U)) PbxFault
 script_by stands_for text = all_of (each_after (reading_by stands_for) [] (parts_of text))
 
--- the lines of a script beside a second dialplan, where there is one; or the fault of its first faulty line
+-- the lines of a script, with an optional second dialplan; or the fault of the first faulty line
 unfoldable pub script_of : Option (List ℕ) → List ℕ → Result (List (ScriptLine Turn)) PbxFault
 script_of second_plan text = all_of (each_after (reading_of second_plan) [] (parts_of text))
 

@@ -1,4 +1,4 @@
--- The trace: one line for each turn. That of an event has its reply and its channel's state after it, and that of a `show`
+-- The trace: one line for each turn. An event's line has the reply and then the channel's state, and a `show` line has a value.
 
 -- a value.
 use Rattle.std.specs.Prelude.{ℕ, Bool, false, ◌||◌, ◌==◌, List, [], ◌∷◌, ◌++◌, fold, Option, Some, None, is_none, slice_get, codes, decimal, if◌then◌else◌}
@@ -26,24 +26,24 @@ use Rattle.dp_machine.specs.declared.reply.Reply.TheVariants.{Started, Ran, Inva
 use Rattle.dp_commands.specs.declared.script.Turn.{Turn}
 use Rattle.dp_commands.specs.declared.script.Turn.TheVariants.{Event as turn_event, Show}
 
--- `CONTEXT,EXTEN,PRIORITY`
+-- a place, `CONTEXT,EXTEN,PRIORITY`
 abbrev pub place_text : List ℕ → List ℕ → ℕ → List ℕ
 place_text context exten priority = context ++ codes "," ++ exten ++ codes "," ++ decimal priority
 
--- the name of the queue of a number
+-- the name of the queue with a number
 abbrev pub queue_name : QueuesOf → ℕ → List ℕ
 queue_name queues number = unwrap_or (option_map (λ queue. queue.name) (slice_get queues.queues number)) []
 
--- the name of the agent of a number
+-- the name of the agent with a number
 abbrev pub agent_name : QueuesOf → ℕ → List ℕ
 agent_name queues number = unwrap_or (option_map (λ agent. agent.name) (slice_get queues.agents number)) []
 
--- the state of a channel that is ready, by its place
+-- the state of a channel that is ready at a place
 abbrev pub ready_text : Option Place → List ℕ
 ready_text None = []
 ready_text (Some place) = codes "ready " ++ place_text place.context place.exten place.priority
 
--- the state of a channel by its phase and its place
+-- the state of a channel, given its phase and its place
 abbrev pub state_by : QueuesOf → Option Phase → Option Place → List ℕ
 state_by queues None place = []
 state_by queues (Some Ready) place = ready_text place
@@ -55,16 +55,16 @@ state_by queues (Some (Talking queue agent goes_on)) place =
 state_by queues (Some (Dialling goes_on has_timer)) place = codes "dialling"
 state_by queues (Some Ended) place = codes "ended"
 
--- the phase of the channel of a number, where there is one
+-- the phase of the channel with a number, if there is one
 abbrev pub phase_at : World → ℕ → Option Phase
 phase_at w number = option_map (λ c. c.phase) (channel_at w.channels number)
 
--- the state of the channel of a number
+-- the state of the channel with a number
 unfoldable pub state_text : World → ℕ → List ℕ
 state_text w number =
     state_by w.shared.queues (phase_at w number) (option_map (λ c. c.place) (channel_at w.channels number))
 
--- an entry of a context, `CONTEXT,NAME,PRIORITY APP`, its name in the canonical spelling
+-- an entry of a context, `CONTEXT,NAME,PRIORITY APP`, with its name in canonical spelling
 abbrev pub entry_by : PlanContext → Option Entry → List ℕ
 entry_by context None = []
 entry_by context (Some entry) = place_text context.name (spelling entry.name) entry.priority ++ codes " " ++ entry.application
@@ -73,7 +73,7 @@ abbrev pub entry_in : ℕ → Option PlanContext → List ℕ
 entry_in number None = []
 entry_in number (Some context) = entry_by context (slice_get context.entries number)
 
--- an entry of the dialplan, by its numbers
+-- the entry of a dialplan with these numbers
 unfoldable pub entry_text : PlanOf → EntryId → List ℕ
 entry_text plan id = entry_in id.entry (slice_get plan.contexts id.context)
 
@@ -81,13 +81,13 @@ entry_text plan id = entry_in id.entry (slice_get plan.contexts id.context)
 abbrev pub refusal_text : Refusal → List ℕ
 refusal_text refusal = codes "refused " ++ decimal (refusal_code refusal) ++ codes " " ++ refusal_name refusal
 
--- what is printed of a taken event after its reply, by the number of the channel that it names; an agent's event names none, nor
--- does a reload
+-- the text after the reply to an event that was taken, given the number of the channel that the event names; an agent's event and a reload
+-- name none
 abbrev pub done_text : World → ℕ → List ℕ
 done_text w number =
     if number == 0 then codes "ok" else codes "ok " ++ decimal number ++ codes " -> " ++ state_text w number
 
--- the line of a reply to an event of the channel of a number, in the world after it
+-- the line of a reply to an event of the channel with a number, given the world after the event
 abbrev pub reply_text : World → ℕ → Reply → List ℕ
 reply_text w number (Started channel) = codes "started " ++ decimal channel
 reply_text w number (Ran id) =
@@ -98,25 +98,25 @@ reply_text w number (Offered channel rung) = codes "offered " ++ decimal channel
 reply_text w number Done = done_text w number
 reply_text w number (Refused refusal) = refusal_text refusal
 
--- the line of an event that a world meets, by what names mean
+-- the line of an event in the world that it meets, given what names mean
 unfoldable pub event_line_by : Meanings → World → Event → List ℕ
 event_line_by meanings w event =
     reply_text (final_world meanings w event) (channel_of event) (event_row meanings w event).1 ++ 10 ∷ []
 
--- the same by what they mean in this program
+-- the line of an event in the world that it meets, given what names mean in this program
 abbrev pub event_line : World → Event → List ℕ
 event_line w event = event_line_by standard_meanings w event
 
--- what is shown of a name, by the phase of the channel, where there is one
+-- the line of a `show` of a name, given the channel's phase, if there is a channel
 abbrev pub show_by : World → ℕ → List ℕ → Option Phase → List ℕ
 show_by w number name None = refusal_text NoChannel
 show_by w number name (Some phase) = name ++ codes "=" ++ value_in w number name
 
--- what is shown of a name in the channel of a number: `NAME=VALUE`, or the refusal where no channel has the number
+-- the line of a `show` of a name in the channel with a number: `NAME=VALUE`, or the refusal if no channel has the number
 unfoldable pub show_text : World → ℕ → List ℕ → List ℕ
 show_text w number name = show_by w number name (phase_at w number)
 
--- what a turn makes of a world, its line, and whether it is refused
+-- how a turn changes a world, its line, and whether it is refused
 pub record Turned : Type 0 where
   pub world : World
   pub line : List ℕ
@@ -132,26 +132,26 @@ after_turn_by meanings w (turn_event event) =
 after_turn_by meanings w (Show number name) =
     record { world = w; line = show_text w number name ++ 10 ∷ []; refused = is_none (phase_at w number) }
 
--- the same by what names mean in this program
+-- how a turn changes a world, given what names mean in this program
 abbrev pub after_turn : World → Turn → Turned
 after_turn w turn = after_turn_by standard_meanings w turn
 
--- the trace of some turns from a world on, by what names mean
+-- the trace of a list of turns from a world, given what names mean
 abbrev pub trace_by : Meanings → World → List Turn → List ℕ
 trace_by meanings w [] = []
 trace_by meanings w (turn ∷ turns) =
     (after_turn_by meanings w turn).line ++ trace_by meanings (after_turn_by meanings w turn).world turns
 
--- the same by what they mean in this program
+-- the trace of a list of turns from a world, given what names mean in this program
 abbrev pub trace_of : World → List Turn → List ℕ
 trace_of w turns = trace_by standard_meanings w turns
 
--- whether a turn was refused, by what names mean
+-- whether a turn is refused, given what names mean
 abbrev pub any_refused_by : Meanings → World → List Turn → Bool
 any_refused_by meanings w [] = false
 any_refused_by meanings w (turn ∷ turns) =
     (after_turn_by meanings w turn).refused || any_refused_by meanings (after_turn_by meanings w turn).world turns
 
--- the same by what they mean in this program
+-- whether a turn is refused, given what names mean in this program
 abbrev pub any_refused : World → List Turn → Bool
 any_refused w turns = any_refused_by standard_meanings w turns

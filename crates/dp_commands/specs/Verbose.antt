@@ -1,4 +1,4 @@
--- Verbose runs: above the line of a step stands which entry it runs, and above that of a refusal its explanation.
+-- Verbose runs: the line of a step follows the entry that the step runs, and the line of a refusal follows its explanation.
 use Rattle.std.specs.Prelude.{◌≡◌, ℕ, ◌++◌, ◌==◌, Bool, true, false, List, [], ◌∷◌, Option, Some, None, is_some, is_none, Result, Ok, Err, codes, decimal, if◌then◌else◌}
 use Rattle.std.specs.Io.KnownBytes.{Appends}
 use Rattle.std.specs.Option.{unwrap_or}
@@ -32,30 +32,30 @@ use Rattle.dp_commands.specs.declared.fault.PbxFault.TheVariants.{Coded, NoMemor
 use Rattle.dp_commands.specs.declared.script.Turn.{Turn}
 use Rattle.dp_commands.specs.declared.script.Turn.TheVariants.{Event as turn_event, Show}
 
--- what is known of the dialplan in force: the name of its file and the lines of its entries; and the name of the second dialplan's file
+-- the dialplan in force: the name of its file and the lines of its entries; and the name of the second dialplan's file
 pub record InForce : Type 0 where
   pub file : List ℕ
   pub second_file : List ℕ
   pub lines : List (List ℕ)
 
--- the lines of a dialplan that has loaded; one with a fault has no entries
+-- the lines of a dialplan that has loaded; a dialplan with a fault has no entries
 abbrev pub lines_or_none : Result (List (List ℕ)) LoadFault → List (List ℕ)
 lines_or_none (Ok lines) = lines
 lines_or_none (Err fault) = []
 
--- the lines of the entries of a text
+-- the lines of the entries of the dialplan that a text holds
 abbrev pub lines_in : List ℕ → List (List ℕ)
 lines_in text = lines_or_none (lines_loaded text)
 
--- before the first event the dialplan of this text is in force, by the name of its file and that of the second, where there is one
+-- the dialplan of this text before the first event, with the name of its file and that of the second, if there is one
 abbrev pub first_in_force : List ℕ → Option (List ℕ) → List ℕ → InForce
 first_in_force name second_name text = record { file = name; second_file = unwrap_or second_name []; lines = lines_in text }
 
--- the second dialplan is put in force, which has this text
+-- the second dialplan, which has this text, is put in force
 abbrev pub with_second : InForce → List ℕ → InForce
 with_second in_force text = record { file = in_force.second_file; second_file = in_force.second_file; lines = lines_in text }
 
--- the dialplan in force after an event, by whether the event is refused: a reload that is taken puts the second in force
+-- the dialplan in force after an event, given whether the event is refused: a reload that is taken puts the second in force
 abbrev pub in_force_by : InForce → Event → Bool → InForce
 in_force_by in_force (Reload text) false = with_second in_force text
 in_force_by in_force (Reload text) true = in_force
@@ -73,16 +73,16 @@ in_force_by in_force (AgentDone agent) refused = in_force
 in_force_by in_force (Assign channel name value) refused = in_force
 in_force_by in_force (Redirect number place) refused = in_force
 
--- the dialplan in force after an event that a world meets, by what names mean
+-- the dialplan in force after an event that a world meets, given what names mean
 abbrev pub in_force_past_by : Meanings → InForce → World → Event → InForce
 in_force_past_by meanings in_force w event = in_force_by in_force event (is_refused (event_row meanings w event).1)
 
--- the same by what they mean in this program
+-- the dialplan in force after an event that a world meets, given what names mean in this program
 abbrev pub in_force_past : InForce → World → Event → InForce
 in_force_past in_force w event = in_force_past_by standard_meanings in_force w event
 
--- the arguments of the entry that an event runs, as they are expanded in the world that it meets, by what names mean; only a step runs
--- an entry
+-- the arguments of the entry that an event runs, expanded in the world that the event meets, given what names mean; only a step runs an
+-- entry
 abbrev pub arguments_of_by : Meanings → World → Event → List ℕ
 arguments_of_by meanings w (Step number) = unwrap_or (arguments_ahead meanings.functions w number) []
 arguments_of_by meanings w (Start context exten caller) = []
@@ -104,12 +104,12 @@ abbrev pub line_number : Option ℕ → List ℕ
 line_number None = []
 line_number (Some line) = decimal line
 
--- the application of an entry, as the entry has it
+-- the application of an entry, as the entry writes it
 abbrev pub application_in : Option Entry → List ℕ
 application_in None = []
 application_in (Some entry) = entry.application
 
--- where an entry was loaded, `FILE:LINE`, indented
+-- the source of an entry, `FILE:LINE`, indented
 abbrev pub source_text : InForce → EntryId → List ℕ
 source_text in_force id = codes "  " ++ in_force.file ++ codes ":" ++ line_number (line_at in_force.lines id)
 
@@ -117,15 +117,15 @@ source_text in_force id = codes "  " ++ in_force.file ++ codes ":" ++ line_numbe
 abbrev pub call_text : PlanOf → EntryId → List ℕ → List ℕ
 call_text plan id arguments = application_in (entry_at plan id) ++ codes "(" ++ arguments ++ codes ")"
 
--- which entry a step runs, in a line of its own: `FILE:LINE APP(ARGS)`
+-- the entry that a step runs, on a line of its own: `FILE:LINE APP(ARGS)`
 abbrev pub ran_text : InForce → PlanOf → EntryId → List ℕ → List ℕ
 ran_text in_force plan id arguments = source_text in_force id ++ codes " " ++ call_text plan id arguments ++ 10 ∷ []
 
--- a byte, with two blanks before it where it begins a line
+-- a byte, with two blanks before it if it begins a line
 abbrev pub indented_byte : Bool → ℕ → List ℕ
 indented_byte begins byte = if begins then 32 ∷ 32 ∷ byte ∷ [] else byte ∷ []
 
--- bytes with two blanks before each line, by whether the first of them begins one
+-- bytes with two blanks before each line, given whether the first of them begins a line
 abbrev pub indented_from : Bool → List ℕ → List ℕ
 indented_from begins [] = []
 indented_from begins (byte ∷ bytes) = indented_byte begins byte ++ indented_from (byte == 10) bytes
@@ -134,7 +134,7 @@ indented_from begins (byte ∷ bytes) = indented_byte begins byte ++ indented_fr
 abbrev pub indented : List ℕ → List ℕ
 indented text = indented_from true text
 
--- what stands above the line of a reply, by the dialplan in force and the arguments of the entry that was run
+-- the text above the line of a reply, given the dialplan in force and the arguments of the entry that was run
 abbrev pub above_reply : (Refusal → List ℕ) → InForce → PlanOf → List ℕ → Reply → List ℕ
 above_reply explanation in_force plan arguments (Ran id) = ran_text in_force plan id arguments
 above_reply explanation in_force plan arguments (Refused refusal) = indented (explanation refusal)
@@ -144,31 +144,31 @@ above_reply explanation in_force plan arguments Invalid = []
 above_reply explanation in_force plan arguments (Offered channel rung) = []
 above_reply explanation in_force plan arguments Done = []
 
--- what stands above the line of an event that a world meets, by what names mean
+-- the text above the line of an event that a world meets, given what names mean
 abbrev pub above_event_by : Meanings → (Refusal → List ℕ) → InForce → World → Event → List ℕ
 above_event_by meanings explanation in_force w event =
     above_reply explanation (in_force_past_by meanings in_force w event) (final_world meanings w event).plan
     (arguments_of_by meanings w event) (event_row meanings w event).1
 
--- the same by what they mean in this program
+-- the text above the line of an event that a world meets, given what names mean in this program
 abbrev pub above_event : (Refusal → List ℕ) → InForce → World → Event → List ℕ
 above_event explanation in_force w event = above_event_by standard_meanings explanation in_force w event
 
--- what stands above the line of a `show`, by whether it is refused, since no channel has the number
+-- the text above the line of a `show`, given whether the `show` is refused because no channel has the number
 abbrev pub above_show : (Refusal → List ℕ) → Bool → List ℕ
 above_show explanation refused = if refused then indented (explanation NoChannel) else []
 
--- what stands above the line of a turn, by what names mean
+-- the text above the line of a turn, given what names mean
 abbrev pub above_turn_by : Meanings → (Refusal → List ℕ) → InForce → World → Turn → List ℕ
 above_turn_by meanings explanation in_force w (turn_event event) = above_event_by meanings explanation in_force w event
 above_turn_by meanings explanation in_force w (Show number name) = above_show explanation (is_none (phase_at w number))
 
--- the dialplan in force after a turn, by what names mean
+-- the dialplan in force after a turn, given what names mean
 abbrev pub in_force_after_by : Meanings → InForce → World → Turn → InForce
 in_force_after_by meanings in_force w (turn_event event) = in_force_past_by meanings in_force w event
 in_force_after_by meanings in_force w (Show number name) = in_force
 
--- what a turn makes of a verbose run and its world: what a plain run does, with more above the line of the turn
+-- how a turn changes a verbose run and its world: as in a plain run, with more text above the line of the turn
 abbrev pub verbose_turn : (Refusal → List ℕ) → InForce × World → Turn → Taken (InForce × World)
 verbose_turn explanation at turn =
     record {
@@ -177,7 +177,7 @@ verbose_turn explanation at turn =
       refused = (after_turn at.1 turn).refused;
     }
 
--- what a verbose run writes and answers, by the run or the fault that its texts are, and by the dialplan in force at first
+-- the output and result of a verbose run, given the run or the fault of its texts, and the dialplan that is first in force
 abbrev pub WritesVerbose : (Refusal → List ℕ) → InForce → Option (List ℕ) → Option (List ℕ) → Result Run PbxFault → Result ℕ PbxFault → Type 0
 WritesVerbose explanation in_force old new (Ok run) result =
     WritesTurns (verbose_turn explanation) (λ at. []) (in_force, run.world) run.turns old new result
@@ -185,12 +185,12 @@ WritesVerbose explanation in_force old new (Err fault) (Ok status) = ⊥
 WritesVerbose explanation in_force old new (Err fault) (Err (Coded code line)) = Appends old new [] × (fault ≡ Coded code line)
 WritesVerbose explanation in_force old new (Err fault) (Err NoMemory) = Appends old new []
 
--- what is watched in a verbose debugged run, and the dialplan in force
+-- the state of a verbose debugged run: that of the debugged run, and the dialplan in force
 pub record VerboseWatch : Type 0 where
   pub watch : Watch
   pub in_force : InForce
 
--- what a turn makes of a verbose debugged run and its world: what a debugged run does, with more above the line of an event
+-- how a turn changes a verbose debugged run and its world: as in a debugged run, with more text above the line of an event
 abbrev pub verbose_debug_turn : (Refusal → List ℕ) → VerboseWatch × World → Turn → Taken (VerboseWatch × World)
 verbose_debug_turn explanation at (turn_event event) =
     record {
@@ -208,19 +208,19 @@ verbose_debug_turn explanation at (Show number name) = record { state = at; line
 abbrev pub verbose_end : VerboseWatch → List ℕ
 verbose_end at = end_text at.watch
 
--- the status of a debugged run: 1 where an event was refused
+-- the status of a debugged run: 1 if an event was refused
 abbrev pub debug_status : DebugRun → ℕ
 debug_status debug = status_by (refused_in debug_turn (watching debug) debug.run.turns)
 
--- the debugged run of a run with a break, or the fault
+-- a run, debugged with a break, or the fault of the run's texts
 abbrev pub debug_with : Break → Result Run PbxFault → Result DebugRun PbxFault
 debug_with held given = given >>= λ run. Ok (debug_on held run)
 
--- before the first event
+-- the state before the first event
 abbrev pub verbose_watching : InForce → DebugRun → VerboseWatch × World
 verbose_watching in_force debug = (record { watch = record { held = debug.held; taken = 0 }; in_force = in_force }, debug.run.world)
 
--- what a verbose debugged run writes and answers, by the run or the fault that its texts are, and by the dialplan in force at first
+-- the output and result of a verbose debugged run, given the run or the fault of its texts, and the dialplan that is first in force
 abbrev pub WritesVerboseDebug : (Refusal → List ℕ) → InForce → Option (List ℕ) → Option (List ℕ) → Result DebugRun PbxFault → Result ℕ PbxFault → Type 0
 WritesVerboseDebug explanation in_force old new (Ok debug) result =
     WritesTurns (verbose_debug_turn explanation) (λ at. verbose_end at.0) (verbose_watching in_force debug) debug.run.turns old new result

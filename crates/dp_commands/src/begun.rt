@@ -1,4 +1,4 @@
-//! What a run begins with: its dialplan, its queues and the lines of its script.
+//! The start of a run: its dialplan, its queues and the lines of its script.
 ghost use Rattle.std.specs.Prelude.{◌≡◌, IfOk, Ok, false};
 ghost use Rattle.std.specs.Option.{option_map};
 ghost use Rattle.dp_conf.specs.Answers.{Answers};
@@ -18,7 +18,7 @@ use dp_queue::Queues;
 use dp_table::StandardApps;
 use std::alloc::Global;
 
-/// The queues of a run, by the text of their file, where there is one.
+/// The queues of a run, given the text of their file, if there is one.
 fn load_queues(alloc: Global, text: Option<&[u8]>) -> Result<Queues, PbxFault>
     ensures queues { Answers (λ queues. queues) reason_of result
         (spec.queues_of (option_map (λ text. text.now) text.entry)) }
@@ -32,8 +32,8 @@ fn load_queues(alloc: Global, text: Option<&[u8]>) -> Result<Queues, PbxFault>
     Ok(queues)
 }
 
-/// A dialplan and its queues. Their drop is one function, so that it is proved once, and not on each way out of all that
-/// hold them.
+/// A dialplan and its queues. They are dropped in one function, so that the drop is proved once, and not on each way out of everything that
+/// holds them.
 pub struct Files {
     pub plan: Dialplan,
     pub queues: Queues,
@@ -50,8 +50,8 @@ impl Files {
     ghost use Rattle.dp_machine.specs.World.{opening_with};
     ghost use Rattle.dp_queue.specs.Rest.{IsAtRest};
 
-    /// A machine over a table of applications in which nothing has happened. Nothing has happened in the queues before. The error comes
-    /// only where a growth was refused.
+    /// A machine over a table of applications in which nothing has happened. Nothing has happened in the queues before. It fails only if
+    /// memory runs out.
     pub fn into_machine<A: AppTable>(self, alloc: Global) -> Result<Machine<A>, NoMemory>
         requires { IsAtRest self.queues }
         ensures { IfOk result (λ machine. machine ≡ opening_with A.Functions.table self.plan self.queues) }
@@ -61,8 +61,8 @@ impl Files {
     }
 }
 
-/// What the texts of a dialplan and of its queues say: the dialplan is read first, then the queues; without a text there are none. The
-/// error is the first fault.
+/// The contents of the texts of a dialplan and of its queues: the dialplan is read first, then the queues; without a text there are none.
+/// The error is the first fault.
 pub fn read_files(alloc: Global, plan: &[u8], queues: Option<&[u8]>) -> Result<Files, PbxFault>
     ensures files { Answers (λ files. record { plan = files.plan; queues = files.queues }) reason_of result
         (spec.files_of plan.now (option_map (λ text. text.now) queues.entry)) }
@@ -75,14 +75,14 @@ pub fn read_files(alloc: Global, plan: &[u8], queues: Option<&[u8]>) -> Result<F
     Ok(Files { plan, queues })
 }
 
-/// What the texts of a run say.
+/// The contents of a run's texts.
 #[derive(Drop)]
 struct RunContents {
     files: Files,
     lines: Vec<ScriptLine>,
 }
 
-/// What the texts of a run say: its files are read first, then the script.
+/// The contents of a run's texts: its files are read first, then the script.
 fn read_texts(alloc: Global, texts: RunTexts<'_>) -> Result<RunContents, PbxFault>
     ensures told { Answers (λ told. record { plan = told.files.plan; queues = told.files.queues; lines = told.lines.items }) reason_of result
         (spec.contents_of texts.entry.plan.now (option_map (λ text. text.now) texts.entry.queues)
@@ -97,7 +97,7 @@ fn read_texts(alloc: Global, texts: RunTexts<'_>) -> Result<RunContents, PbxFaul
     }
 }
 
-/// What a run has before its first turn: its machine, and the lines of its script. Its drop is one function, as that of the files is.
+/// The state of a run before its first turn: its machine, and the lines of its script. It is dropped in one function, like the files.
 pub(crate) struct Begun {
     pub(crate) machine: Machine<StandardApps>,
     pub(crate) lines: Vec<ScriptLine>,
@@ -133,7 +133,7 @@ impl Begun {
     }
 }
 
-/// What a run has before its first turn.
+/// The state of a run before its first turn.
 #[tactic(auto, unfolding(crate::specs::Run::run_of))]
 pub(crate) fn begin(alloc: Global, texts: RunTexts<'_>) -> Result<Begun, PbxFault>
     ensures run { Answers (λ begun. spec.run_on begun.machine (turns_of begun.lines.items)) reason_of result

@@ -9,14 +9,13 @@ use dp_plan::NoMemory;
 use std::alloc::Global;
 use std::marker::Model;
 
-/// How many bytes a block of a run has room for.
+/// The room of a run's block, in bytes.
 pub(crate) const ROOM: usize = 65_536;
 
-/// A block is full where fewer bytes than these are left of its room. A line that is longer than what is left makes it
-/// grow.
+/// A block is full if it has less room left than this number of bytes. A longer line makes it grow.
 const LEAST_LEFT: usize = 4_096;
 
-/// Bytes that wait to be written: whole lines, and what is begun after them.
+/// Bytes that wait to be written: whole lines, then the start of the next line.
 #[derive(Drop)]
 pub struct Block {
     bytes: Vec<u8>,
@@ -39,7 +38,7 @@ impl Block {
     ghost use Rattle.std.specs.Prelude.{◌≡◌, ◌++◌, ◌||◌, ◌∷◌, [], IfOk, OnOk, OnErr};
     ghost use Rattle.dp_commands.specs.Block.{waiting};
 
-    /// A block in which nothing waits, with room for so many bytes. The error comes only where a growth was refused.
+    /// An empty block with room for so many bytes. It fails only if memory runs out.
     pub fn new(alloc: Global, room: usize) -> Result<Self, NoMemory>
         ensures { IfOk result (λ block. block ≡ waiting [] []) }
     {
@@ -47,8 +46,8 @@ impl Block {
         Ok(Block { bytes, whole: 0 })
     }
 
-    /// Adds bytes to what is begun. After a refused growth the whole lines are as before, as after that of a byte. Many names are one
-    /// byte, which goes in without a call that copies memory.
+    /// Adds bytes to the line that was begun. If memory runs out the whole lines are as before, as with a single byte. Many names are one
+    /// byte, which is added without a call that copies memory.
     #[inline(always)]
     pub fn push(&mut self, bytes: &[u8]) -> Result<(), NoMemory>
         ensures kept { self.new.whole ≡ self.old.whole }
@@ -60,7 +59,7 @@ impl Block {
         }
     }
 
-    /// Adds one byte to what is begun.
+    /// Adds one byte to the line that was begun.
     #[inline(always)]
     pub fn push_byte(&mut self, byte: u8) -> Result<(), NoMemory>
         ensures kept { self.new.whole ≡ self.old.whole }
@@ -70,28 +69,28 @@ impl Block {
         Ok(())
     }
 
-    /// What is begun.
+    /// The line that was begun.
     pub fn bytes(&self) -> &[u8]
         ensures { result.now ≡ self.now.begun }
     {
         &self.bytes[self.whole..]
     }
 
-    /// Begins a line: what was begun is dropped.
+    /// Begins a line: a line that was begun before is dropped.
     pub fn begin_line(&mut self)
         ensures { self.new ≡ waiting self.old.whole [] }
     {
         self.bytes.truncate(self.whole);
     }
 
-    /// What is begun is whole.
+    /// Adds the line that was begun to the whole lines.
     fn close_line(&mut self)
         ensures { self.new ≡ waiting (self.old.whole ++ self.old.begun) [] }
     {
         self.whole = self.bytes.len();
     }
 
-    /// Ends the line that is begun.
+    /// Ends the line that was begun.
     pub fn end_line(&mut self) -> Result<(), NoMemory>
         ensures ok { OnOk result (self.new ≡ waiting (self.old.whole ++ (self.old.begun ++ 10 ∷ [])) []) }
         ensures err { OnErr result (self.new.whole ≡ self.old.whole) }
@@ -101,12 +100,12 @@ impl Block {
         Ok(())
     }
 
-    /// Whether the block has hardly room for a line more.
+    /// Whether the block has hardly any room for another line.
     pub(crate) fn is_full(&self) -> bool {
         self.whole > ROOM - LEAST_LEFT
     }
 
-    /// Writes the whole lines. Nothing waits after that; where the write fails, a front of the lines was written.
+    /// Writes the whole lines. Nothing waits afterwards; if the write fails, a prefix of the lines was written.
     pub(crate) fn send<W: WriteTold>(&mut self, writer: &mut W) -> Result<(), WriteFailed>
         ensures empty { self.new ≡ waiting [] [] }
         ensures ok { OnOk result (Appends (W.contents writer.old) (W.contents writer.new) self.old.whole) }

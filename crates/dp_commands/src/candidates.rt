@@ -16,7 +16,7 @@ use dp_lookup::SearchOrder;
 use dp_plan::{Dialplan, EntryId, NoMemory, Priority, Text};
 use std::alloc::Global;
 
-/// What decides about an extension, as it is written.
+/// The text for what decides about an extension.
 fn verdict_text(verdict: Verdict) -> &'static str
     ensures { result.now ≡ spec.verdict_text verdict }
 {
@@ -28,7 +28,7 @@ fn verdict_text(verdict: Verdict) -> &'static str
     }
 }
 
-/// Adds the extension of the entry that has these numbers, at a priority that it need not have.
+/// Adds the extension of the entry with these numbers, with a priority that it may lack.
 fn push_extension(
     out: &mut Block,
     plan: &Dialplan,
@@ -51,7 +51,7 @@ fn push_extension(
     )
 }
 
-/// Adds what is decided about.
+/// Adds the subject of a decision.
 fn push_subject(
     out: &mut Block,
     plan: &Dialplan,
@@ -100,7 +100,7 @@ fn push_candidates(
     Ok(())
 }
 
-/// The line of the entry that answers, and below it those of the candidates.
+/// The line of the entry that answers, followed by the lines of the candidates.
 fn candidates_text(
     alloc: Global,
     plan: &Dialplan,
@@ -116,8 +116,8 @@ fn candidates_text(
     Ok(text)
 }
 
-/// The extensions that match a dialled text, from a context on, each with what decides about it. Dashes make no difference, so they are
-/// dropped first.
+/// The extensions that match a dialled text, searched from a context, each with what decides about it. Dashes make no difference, so they
+/// are dropped first.
 #[tactic(auto, using(crate::proofs::DashesLemmas::candidates_undashed))]
 fn find_candidates(
     alloc: Global,
@@ -134,7 +134,7 @@ fn find_candidates(
     candidates(alloc, plan, &order, &digits, priority.get())
 }
 
-/// The lines of a dialled text: the entry that answers, and all extensions that match.
+/// The lines for a dialled text: the entry that answers, and all extensions that match.
 fn all_text(
     alloc: Global,
     plan: &Dialplan,
@@ -149,7 +149,7 @@ fn all_text(
     candidates_text(alloc, plan, priority, found, &list)
 }
 
-/// The lines of a dialled text, or the fault of the dialplan's text.
+/// The lines for a dialled text, or the fault of the dialplan's text.
 #[tactic(auto, unfolding(crate::specs::Candidates::match_all_of))]
 fn all_matched(
     alloc: Global,
@@ -167,14 +167,14 @@ fn all_matched(
     Ok(lines)
 }
 
-/// Loads a dialplan and writes which of its entries answers the dialled text at the priority, as `match_one` does, and below that a line
-/// for each extension whose name matches, with what decides about it. The status is 0.
+/// Loads a dialplan and writes which of its entries answers the dialled text at the priority, as `match_one` does. Below that it writes a
+/// line for each extension whose name matches, with what decides about it. The status is 0.
 ///
-/// The extensions stand in the order in which a look-up asks them: the context first and then what it includes, in each the more
-/// specific name first (dialplan, pattern matching). A line is `CONTEXT,NAME,PRIORITY APP: answers` of the entry that answers;
-/// `.. : less specific` of an entry of the priority in the context of that one; `.. : later context` of one in a context after it; and
-/// `CONTEXT,NAME,PRIORITY: no such priority` of an extension that lacks the priority. These lines are a choice of this program. A faulty
-/// dialplan has its first fault, and nothing is written. Where the write fails, what was written stays written.
+/// The extensions are in the order in which a look-up tries them: first the context and then what it includes, and in each the more
+/// specific name first (dialplan, pattern matching). The line `CONTEXT,NAME,PRIORITY APP: answers` is for the entry that answers; `.. :
+/// less specific` for an entry with the priority in the same context; `.. : later context` for one in a later context; and
+/// `CONTEXT,NAME,PRIORITY: no such priority` for an extension that lacks the priority. These lines are a choice of this program. A faulty
+/// dialplan has its first fault, and nothing is written. If the write fails, what was written stays written.
 pub fn match_all<W: WriteTold>(
     alloc: Global,
     plan: &[u8],

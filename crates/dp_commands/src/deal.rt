@@ -1,4 +1,4 @@
-//! The events of seats, which are dealt to them in turn, and what each seat does with its own.
+//! The events of seats, which are dealt to the seats in turn, and the work of each seat with its events.
 ghost use Rattle.std.specs.Prelude.{◌≡◌, ◌++◌, ◌∷◌, ◌<◌, ◌≤◌, [], IfOk, OnOk, OnErr, All, length, replicate, true, false, ◌+◌};
 ghost use Rattle.std.specs.List.{prefix_len};
 ghost use Rattle.dp_commands.specs.Script.{line_turns, turns_of};
@@ -15,7 +15,7 @@ use std::alloc::Global;
 use std::sync::Wait;
 use std::thread::{Threads, for_each_mut};
 
-/// Adds an event so many times.
+/// Adds an event a number of times.
 fn push_copies(events: &mut Vec<Event>, event: &Event, count: u32) -> Result<(), NoMemory>
     ensures { OnOk result (events.new.items ≡ events.old.items ++ spec.events_in
         (replicate count (turns.Event event.now))) }
@@ -26,7 +26,7 @@ fn push_copies(events: &mut Vec<Event>, event: &Event, count: u32) -> Result<(),
     Ok(())
 }
 
-/// Adds the events of a line; one that shows a value has none.
+/// Adds the events of a line; a line that shows a value has none.
 fn push_events(events: &mut Vec<Event>, line: &ScriptLine) -> Result<(), NoMemory>
     ensures { OnOk result (events.new.items ≡ events.old.items ++ spec.events_in (line_turns line.now)) }
 {
@@ -36,7 +36,7 @@ fn push_events(events: &mut Vec<Event>, line: &ScriptLine) -> Result<(), NoMemor
     }
 }
 
-/// The events of a script, one after another.
+/// The events of a script, in order.
 pub(crate) fn events_of(alloc: Global, lines: &[ScriptLine]) -> Result<Vec<Event>, NoMemory>
     ensures { IfOk result (λ events. events.items ≡ spec.events_in (turns_of lines.now)) }
 {
@@ -53,14 +53,14 @@ fn is_start(event: &Event) -> bool
     matches!(event, Event::Start { .. })
 }
 
-/// How many events stand before the first that is no call that comes in.
+/// The number of events before the first that is no incoming phone call.
 pub(crate) fn leading_calls(events: &[Event]) -> usize
     ensures { result ≡ prefix_len spec.is_start events.now }
 {
     events.iter().take_while(|event| is_start(event)).count()
 }
 
-/// The calls that events begin with, and the events after these.
+/// The phone calls at the start of a list of events, and the events after them.
 pub(crate) fn calls_and_others(events: &[Event]) -> (&[Event], &[Event])
     ensures calls { result.0.now ≡ spec.leading_calls events.now }
     ensures shared { result.1.now ≡ spec.shared_events events.now }
@@ -68,7 +68,7 @@ pub(crate) fn calls_and_others(events: &[Event]) -> (&[Event], &[Event])
     events.split_at(leading_calls(events))
 }
 
-/// How many events are a seat's, where so many seats take turns.
+/// The number of events of one seat, if so many seats take turns.
 fn own_count(events: &[Event], count: usize, number: usize) -> usize
     requires { 0 < count }
     ensures is { result ≡ length (spec.items_of_seat count number events.now) }
@@ -83,7 +83,7 @@ fn own_count(events: &[Event], count: usize, number: usize) -> usize
     own
 }
 
-/// Whether each seat was told of as many events as are its own.
+/// Whether each seat was told of as many events as it has.
 pub(crate) fn have_acted<S: Session>(seats: &[Seat<S>], events: &[Event]) -> bool
     ensures { result ≡ true → All (λ seat. length
         (spec.items_of_seat (length seats.now) seat.number events.now) ≤ length seat.told) seats.now }
@@ -96,7 +96,7 @@ pub(crate) fn have_acted<S: Session>(seats: &[Seat<S>], events: &[Event]) -> boo
     true
 }
 
-/// Events that are dealt to seats in turn, and the gate between whose calls each is given.
+/// Events that are dealt to seats in turn, and the gate whose two function calls enclose each event.
 #[derive_where(Clone, Copy)]
 pub(crate) struct Deal<'a, G> {
     pub(crate) events: &'a [Event],
@@ -104,8 +104,8 @@ pub(crate) struct Deal<'a, G> {
 }
 
 impl<G: Gate + Sync> Deal<'_, G> {
-    /// Gives the machine one event for a seat, between the calls of the gate. The gate is told which turn of the seat it is, which
-    /// are counted from 0.
+    /// Gives the machine one event for a seat, between the function calls of the gate. The gate gets the number of the seat's turn, counted
+    /// from 0.
     fn act_one<S: Session, R: Wait>(
         self,
         rt: &R,
@@ -126,7 +126,7 @@ impl<G: Gate + Sync> Deal<'_, G> {
         Ok(())
     }
 
-    /// Gives the machine the events of a seat, where so many seats take turns, one after another.
+    /// Gives the machine the events of one seat one after another, if so many seats take turns.
     fn act_all<S: Session, R: Wait>(
         self,
         rt: &R,

@@ -26,14 +26,14 @@ use std::alloc::Global;
 use std::marker::Model;
 use std::slice;
 
-/// The parts of a text, cut at its commas.
+/// The parts of a text between its commas.
 fn parts<'a>(alloc: Global, text: &'a [u8]) -> Result<Vec<&'a [u8]>, NoMemory>
     ensures { IfOk result (λ parts. map (λ part. part.now) parts.items ≡ spec.parts_of text.now) }
 {
     text.split(|byte| *byte == b',').collect(alloc)
 }
 
-/// The priority that a part writes: digits, and a number from 1 to 2,147,483,647.
+/// The priority that a part writes: digits with a number from 1 to 2,147,483,647.
 fn read_priority(part: &[u8]) -> Option<u32>
     ensures { result ≡ spec.priority_in part.now }
 {
@@ -44,7 +44,7 @@ fn read_priority(part: &[u8]) -> Option<u32>
     Some(number)
 }
 
-/// The break of three parts, or None where they are none.
+/// The break that three parts name, or None if they name none.
 fn read_parts(alloc: Global, parts: &[&[u8]]) -> Result<Option<Break>, NoMemory>
     ensures { IfOk result (λ held. held ≡ spec.break_by (map (λ part. part.now) parts.now)) }
 {
@@ -64,7 +64,7 @@ fn read_parts(alloc: Global, parts: &[&[u8]]) -> Result<Option<Break>, NoMemory>
     })))
 }
 
-/// The break of a text, `CONTEXT,EXTEN,PRIORITY`, or None where it is none. Its parts are not trimmed.
+/// The break that the text `CONTEXT,EXTEN,PRIORITY` names, or None if it names none. The parts are not trimmed.
 fn cut_break(alloc: Global, text: &[u8]) -> Result<Option<Break>, NoMemory>
     ensures { IfOk result (λ held. held ≡ spec.break_by (spec.parts_of text.now)) }
 {
@@ -72,7 +72,7 @@ fn cut_break(alloc: Global, text: &[u8]) -> Result<Option<Break>, NoMemory>
     read_parts(alloc, &parts)
 }
 
-/// The break of a text, or its fault.
+/// The break that a text names, or the text's fault.
 #[tactic(auto, unfolding(crate::specs::Debug::break_of))]
 pub(crate) fn read_break(alloc: Global, text: &[u8]) -> Result<Break, PbxFault>
     ensures held { Answers (λ held. held) reason_of result (spec.break_of text.now) }
@@ -88,7 +88,7 @@ pub(crate) fn read_break(alloc: Global, text: &[u8]) -> Result<Break, PbxFault>
     }
 }
 
-/// Adds the line of a halt after so many events.
+/// Adds the line of a halt after a number of events.
 pub(crate) fn push_halt(out: &mut Block, taken: u64) -> Result<(), NoMemory>
     ensures kept { out.new.whole ≡ out.old.whole }
     ensures ok { OnOk result (out.new.begun ≡ out.old.begun ++ spec.halt_line taken) }
@@ -98,14 +98,14 @@ pub(crate) fn push_halt(out: &mut Block, taken: u64) -> Result<(), NoMemory>
     out.push(b"\n")
 }
 
-/// What became of an event under the debugger: whether it has halted before the event, and the reply.
+/// The outcome of an event under the debugger: whether the debugger halted before the event, and the reply.
 #[derive(Clone, Copy)]
 pub(crate) struct Stepped {
     pub(crate) halted: bool,
     pub(crate) reply: Reply,
 }
 
-/// Adds the line of a reply to what waits, and before it that of a halt, where there was one.
+/// Adds the line of a reply to the waiting lines, after that of a halt, if there was one.
 fn push_stepped(
     block: &mut Block,
     machine: &Machine<StandardApps>,
@@ -125,7 +125,7 @@ fn push_stepped(
     block.end_line()
 }
 
-/// Goes on with the event before which the debugger has halted, and gives the reply.
+/// Continues with the event before which the debugger halted, and gives the reply.
 fn go_on(
     alloc: Global,
     debugger: &mut Debugger,
@@ -145,7 +145,7 @@ fn go_on(
     }
 }
 
-/// Gives the debugger one event. Where it halts before the event it goes on with it.
+/// Gives the debugger one event. If it halts before the event it then continues with it.
 pub(crate) fn step(
     alloc: Global,
     debugger: &mut Debugger,
@@ -177,7 +177,7 @@ pub(crate) fn step(
     }
 }
 
-/// A debugger that takes the turns of a script, which contracts see as its break and the number of events taken.
+/// A debugger that takes the turns of a script. Contracts see it as its break and the number of events taken.
 #[derive(Drop)]
 struct Watched {
     debugger: Debugger,
@@ -229,7 +229,7 @@ impl Taker for Watched {
     }
 }
 
-/// Adds the last line to what waits.
+/// Adds the last line to the waiting lines.
 pub(crate) fn push_end(block: &mut Block, taken: u64) -> Result<(), NoMemory>
     ensures ok { OnOk result (block.new.whole ≡ block.old.whole ++ spec.end_line taken) }
     ensures err { OnErr result (block.new.whole ≡ block.old.whole) }
@@ -241,7 +241,7 @@ pub(crate) fn push_end(block: &mut Block, taken: u64) -> Result<(), NoMemory>
 }
 
 impl Watched {
-    /// Gives the debugger one event, and adds its lines to what waits. It says whether the event was refused.
+    /// Gives the debugger one event, and adds its lines to the waiting lines. It says whether the event was refused.
     #[tactic(auto, unfolding(crate::specs::Trace::event_line_by))]
     fn take_event(
         &mut self,
@@ -265,7 +265,7 @@ impl Watched {
     }
 }
 
-/// A debugger that has a break, before the first event.
+/// A debugger with a break, before the first event.
 fn watch(alloc: Global, held: Break) -> Watched
     ensures { result ≡ record { held = held; taken = 0 } }
 {
@@ -276,13 +276,12 @@ fn watch(alloc: Global, held: Break) -> Watched
     }
 }
 
-/// Runs a script on a dialplan with its queues under a debugger, and writes the trace as it goes, a block of lines at a time.
-/// Before a step of a channel that is ready at the place of the break the line `break TAKEN` is written, and `end TAKEN` last:
-/// TAKEN counts the events of the script. A `show` is passed over. The status is 1 where an event was refused, else 0.
+/// Runs a script on a dialplan with its queues under a debugger, and writes the trace as it goes, a block of lines at a time. Before a step
+/// of a channel that is ready at the place of the break it writes the line `break TAKEN`, and at the end `end TAKEN`: TAKEN counts the
+/// events of the script. A `show` is skipped. The status is 1 if an event was refused, else 0.
 ///
-/// The break is written `CONTEXT,EXTEN,PRIORITY`; its fault is answered first, and then as [`crate::run_script`] does. Where memory
-/// is refused the lines of the events before are written. Where memory is refused or a write fails, what was written stays
-/// written.
+/// The break is written `CONTEXT,EXTEN,PRIORITY`; its fault comes first, then those of [`crate::run_script`]. If memory runs out the lines
+/// of the earlier events are written. If memory runs out or a write fails, what was written stays written.
 #[tactic(auto, unfolding(crate::specs::Debug::debug_of))]
 pub fn debug_script<W: WriteTold>(
     alloc: Global,

@@ -1,4 +1,4 @@
-//! What stands below a fault or a note where it is explained: the line of the file, and a sentence.
+//! The explanation below a fault or a note: the line of the file, and a sentence.
 ghost use Rattle.std.specs.Prelude.{◌≡◌, ◌<◌, ◌≤◌, ◌+◌, ◌++◌, OnOk, map, take, length};
 ghost use Rattle.std.specs.List.{flat_map};
 ghost use Rattle.arrayvec.specs.ArrayVec.{array_vec_len};
@@ -12,13 +12,13 @@ use dp_conf::first_part;
 use dp_plan::{NoMemory, NoteKind};
 use std::marker::Model;
 
-/// How many bytes of a line are shown at most.
+/// The greatest number of bytes of a line that are shown.
 const MOST_SHOWN: usize = 200;
 
-/// Room for what is shown of a line: a byte takes four at most.
+/// Room for the shown part of a line: a byte takes at most four.
 const ROOM: usize = 800;
 
-/// A line of a file, as it is shown. Its memory is its own, so that the text of the file may be let go.
+/// A line of a file, as it is shown. It has its own memory, so that the text of the file can be dropped.
 #[derive(Clone, Debug, Drop)]
 pub struct FileLine<'a> {
     path: &'a str,
@@ -49,7 +49,8 @@ impl<'a> FileLine<'a> {
         }
     }
 
-    /// The line of the number, counted from 1, of the text of a file: its first 200 bytes, and each byte that is not printed as `\xNN`.
+    /// The line with the number, counted from 1, in the text of a file: its first 200 bytes, and each byte that cannot be printed as
+    /// `\xNN`.
     pub fn at(path: &'a str, text: &[u8], number: usize) -> Self
         ensures { result ≡ line_at path.now text.now number }
     {
@@ -70,7 +71,7 @@ impl<'a> FileLine<'a> {
         self.number
     }
 
-    /// What is shown of the line.
+    /// The part of the line that is shown.
     pub fn shown(&self) -> &[u8]
         ensures { result.now ≡ self.now.shown }
     {
@@ -78,7 +79,7 @@ impl<'a> FileLine<'a> {
     }
 }
 
-/// The digit of a number below 16.
+/// The digit for a number below 16.
 fn hex_digit(number: u8) -> u8
     requires { number < 16 }
     ensures { result ≡ spec.hex_digit number }
@@ -106,7 +107,7 @@ fn show_byte(shown: &mut ArrayVec<u8, ROOM>, byte: u8)
     shown.push(hex_digit(byte % 16));
 }
 
-/// The first so many bytes of a line, or all where it has no more.
+/// The first so many bytes of a line, or all if it has fewer.
 fn front(line: &[u8], most: usize) -> &[u8]
     ensures front { result.now ≡ take most line.now }
     ensures short { length result.now ≤ most }
@@ -117,7 +118,7 @@ fn front(line: &[u8], most: usize) -> &[u8]
     &line[..most]
 }
 
-/// No more bytes than are shown of a line, as they are shown.
+/// At most the shown number of bytes of a line, as they are shown.
 fn show_bytes(bytes: &[u8]) -> ArrayVec<u8, ROOM>
     requires { length bytes.now ≤ 200 }
     ensures { result.items ≡ flat_map spec.shown_byte bytes.now }
@@ -129,14 +130,14 @@ fn show_bytes(bytes: &[u8]) -> ArrayVec<u8, ROOM>
     shown
 }
 
-/// What is shown of a line.
+/// The part of a line that is shown.
 fn show(line: &[u8]) -> ArrayVec<u8, ROOM>
     ensures { result.items ≡ spec.line_told line.now }
 {
     show_bytes(front(line, MOST_SHOWN))
 }
 
-/// The line of the number among lines, counted from 1.
+/// The line with the number, counted from 1, in a list of lines.
 pub(crate) fn line_among<'a>(lines: &[&'a [u8]], number: usize) -> &'a [u8]
     ensures { result.now ≡ spec.line_among (map (λ line. line.now) lines.now) number }
 {
@@ -146,7 +147,7 @@ pub(crate) fn line_among<'a>(lines: &[&'a [u8]], number: usize) -> &'a [u8]
     }
 }
 
-/// The line of the number, counted from 1, in a text.
+/// The line with the number, counted from 1, in a text.
 pub fn line_in(text: &[u8], number: usize) -> &[u8]
     ensures { result.now ≡ spec.line_among (parts_of text.now) number }
 {
@@ -163,7 +164,7 @@ pub fn line_in(text: &[u8], number: usize) -> &[u8]
     b""
 }
 
-/// What is said of a note.
+/// The sentence that explains a note.
 fn note_sentence(kind: NoteKind) -> &'static str
     ensures { result.now ≡ spec.note_sentence kind }
 {
@@ -183,7 +184,7 @@ fn note_sentence(kind: NoteKind) -> &'static str
     }
 }
 
-/// Adds where a line stands.
+/// Adds the position of a line.
 fn push_where(out: &mut Block, line: &FileLine<'_>) -> Result<(), NoMemory>
     ensures { OnOk result (out.new.begun ≡ out.old.begun ++ spec.where_text line.now) }
 {
@@ -203,7 +204,7 @@ fn push_shown(out: &mut Block, line: &FileLine<'_>) -> Result<(), NoMemory>
     out.push(b"\n")
 }
 
-/// Adds where a line stands, and the line itself.
+/// Adds the position of a line, then the line itself.
 fn push_line(out: &mut Block, line: &FileLine<'_>) -> Result<(), NoMemory>
     ensures { OnOk result (out.new.begun ≡ out.old.begun ++ spec.line_text line.now) }
 {
@@ -211,7 +212,7 @@ fn push_line(out: &mut Block, line: &FileLine<'_>) -> Result<(), NoMemory>
     push_shown(out, line)
 }
 
-/// Adds what is said of a note.
+/// Adds the sentence that explains a note.
 fn push_sentence(out: &mut Block, kind: NoteKind) -> Result<(), NoMemory>
     ensures { OnOk result (out.new.begun ≡ out.old.begun ++ spec.sentence_text (spec.note_sentence kind)) }
 {
@@ -220,7 +221,7 @@ fn push_sentence(out: &mut Block, kind: NoteKind) -> Result<(), NoMemory>
     out.push(b"\n")
 }
 
-/// Adds what stands below a note of a line.
+/// Adds the explanation of a note.
 pub(crate) fn push_explanation(
     out: &mut Block,
     line: &FileLine<'_>,

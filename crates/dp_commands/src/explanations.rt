@@ -1,10 +1,10 @@
-//! What explains the refusals of events.
+//! The explanations of refused events.
 ghost use Rattle.std.specs.Prelude.{◌≡◌, ℕ, List};
 ghost use Rattle.dp_machine.specs.declared.refusal.Refusal.{Refusal as refusals};
 
 use dp_machine::Refusal;
 
-/// What explains the refusals of events.
+/// The explanations of refused events.
 pub trait Explanations {
     // The explanation of each refusal.
     ghost explanation_of: { refusals → List ℕ };

@@ -1,4 +1,4 @@
-//! What the program ends with in place of a status, with the numbers and the names that are printed.
+//! The faults that the program ends with instead of a status, with their numbers and printed names.
 ghost use Rattle.std.specs.Prelude.{◌≡◌};
 ghost use Rattle.dp_commands.specs.Codes.{code_number, code_name};
 
@@ -8,16 +8,16 @@ use dp_plan::{LoadFault, NameFault, NoMemory, PlanKind};
 use dp_queue::{QueueFault, QueueKind};
 use std::alloc::AllocFailed;
 
-/// What a fault is. It tells which text has the line of the fault, where there is one.
+/// The kind of a fault. It tells which text has the line of the fault, if there is one.
 #[derive(Clone, Copy, Debug, PartialEq, Eq)]
 pub enum Code {
     /// A line of the dialplan's text is refused.
     Line(LineKind),
-    /// The name of a line is none.
+    /// The name in a line is invalid.
     Name(NameFault),
     /// A line of a context or of the global variables is refused.
     Plan(PlanKind),
-    /// A line of the text of queues is refused, as one of a dialplan's text is.
+    /// A line of the text of queues is refused, like a line of a dialplan's text.
     QueueLine(LineKind),
     /// A line of a queue is refused.
     Queue(QueueKind),
@@ -29,9 +29,9 @@ pub enum Code {
     WriteFailed,
     /// The seats of a board were not settled.
     Settle(SettleFault),
-    /// A line of the script is none that scripts have.
+    /// A line of the script is of no known form.
     BadScript,
-    /// The text of a break is none.
+    /// The text of a break is invalid.
     BadBreak,
 }
 
@@ -55,7 +55,7 @@ impl Code {
         }
     }
 
-    /// The name of the fault, as it is printed beside its number.
+    /// The printed name of the fault.
     pub fn name(self) -> &'static str
         ensures { result.now ≡ code_name self }
     {
@@ -75,7 +75,7 @@ impl Code {
     }
 }
 
-/// A fault with its line, counted from 1 in its own text, where it has one; or out of memory.
+/// A fault with its line, counted from 1 in its own text, if it has one; or that memory ran out.
 #[derive(Clone, Copy, Debug, PartialEq, Eq)]
 pub enum PbxFault {
     Coded { code: Code, line: Option<usize> },

@@ -35,7 +35,7 @@ impl<T: AppTable> Names for NamesOf<T> {
     }
 }
 
-/// The name of the context of the number.
+/// The name of the context with the number.
 fn context_name(plan: &Dialplan, number: usize) -> &[u8]
     ensures { result.now ≡ context_name plan.now number }
 {
@@ -45,8 +45,8 @@ fn context_name(plan: &Dialplan, number: usize) -> &[u8]
     }
 }
 
-/// Adds where the entry of the numbers stands, `CONTEXT,NAME,PRIORITY`, or nothing where there is none. The error comes only where a growth
-/// was refused.
+/// Adds the position of the entry with these numbers, `CONTEXT,NAME,PRIORITY`, or nothing if there is no such entry. It fails only if
+/// memory runs out.
 pub fn push_spot(out: &mut Block, plan: &Dialplan, id: EntryId) -> Result<(), NoMemory>
     ensures { OnOk result (out.new.begun ≡ out.old.begun ++ spec.spot_text plan.now id) }
 {
@@ -57,7 +57,7 @@ pub fn push_spot(out: &mut Block, plan: &Dialplan, id: EntryId) -> Result<(), No
     push_place(out, context, entry.name.spelling(), entry.priority.get())
 }
 
-/// Adds the priority after that of the entry of the numbers.
+/// Adds the priority after that of the entry with these numbers.
 fn push_next_priority(out: &mut Block, plan: &Dialplan, id: EntryId) -> Result<(), NoMemory>
     ensures { OnOk result (out.new.begun ≡ out.old.begun ++ spec.next_priority plan.now id) }
 {
@@ -67,7 +67,7 @@ fn push_next_priority(out: &mut Block, plan: &Dialplan, id: EntryId) -> Result<(
     }
 }
 
-/// Adds the label of the entry of the numbers.
+/// Adds the label of the entry with these numbers.
 fn push_label(out: &mut Block, plan: &Dialplan, id: EntryId) -> Result<(), NoMemory>
     ensures { OnOk result (out.new.begun ≡ out.old.begun ++ spec.label_text plan.now id) }
 {
@@ -80,7 +80,7 @@ fn push_label(out: &mut Block, plan: &Dialplan, id: EntryId) -> Result<(), NoMem
     }
 }
 
-/// Adds a finding, `KIND CONTEXT,NAME,PRIORITY` and what it is about.
+/// Adds a finding, `KIND CONTEXT,NAME,PRIORITY` and its subject.
 fn push_finding(out: &mut Block, plan: &Dialplan, finding: &Finding) -> Result<(), NoMemory>
     ensures { OnOk result (out.new.begun ≡ out.old.begun ++ spec.finding_text plan.now finding.now) }
 {
@@ -130,7 +130,7 @@ fn push_finding(out: &mut Block, plan: &Dialplan, finding: &Finding) -> Result<(
     }
 }
 
-/// Adds the line of a finding. The error comes only where a growth was refused.
+/// Adds the line of a finding. It fails only if memory runs out.
 pub fn push_finding_line(
     out: &mut Block,
     plan: &Dialplan,
@@ -152,7 +152,7 @@ fn push_findings(out: &mut Block, plan: &Dialplan, findings: &[Finding]) -> Resu
     Ok(())
 }
 
-/// Adds the lines of the findings, and how many there are.
+/// Adds the lines of the findings, then their number.
 fn push_audit(out: &mut Block, plan: &Dialplan, findings: &[Finding]) -> Result<(), NoMemory>
     ensures { OnOk result (out.new.begun ≡ out.old.begun ++ spec.audit_text plan.now findings.now) }
 {
@@ -162,14 +162,14 @@ fn push_audit(out: &mut Block, plan: &Dialplan, findings: &[Finding]) -> Result<
     out.push(b" findings\n")
 }
 
-/// What an audit reports: its text, and its status.
+/// The result of an audit: its text, and its status.
 #[derive(Drop)]
 struct Outcome {
     text: Block,
     status: u8,
 }
 
-/// What is reported of the findings in a dialplan.
+/// The report of the findings in a dialplan.
 fn report_of(alloc: Global, plan: &Dialplan, findings: &[Finding]) -> Result<Outcome, NoMemory>
     ensures { IfOk result (λ report. spec.outcome_told report ≡ spec.audit_outcome plan.now findings.now) }
 {
@@ -181,7 +181,7 @@ fn report_of(alloc: Global, plan: &Dialplan, findings: &[Finding]) -> Result<Out
     })
 }
 
-/// What is reported of an audit of a dialplan.
+/// The report of an audit of a dialplan.
 fn report(alloc: Global, plan: &Dialplan) -> Result<Outcome, NoMemory>
     ensures { IfOk result (λ report. spec.outcome_told report ≡ spec.audit_outcome plan.now (findings_of (has_row standard_rows) plan.now)) }
 {
@@ -189,7 +189,7 @@ fn report(alloc: Global, plan: &Dialplan) -> Result<Outcome, NoMemory>
     report_of(alloc, plan, &findings)
 }
 
-/// What is reported of an audit of a dialplan's text, or its fault.
+/// The report of an audit of a dialplan's text, or the text's fault.
 #[tactic(auto, unfolding(crate::specs::Audit::audit_of))]
 fn audit_report(alloc: Global, plan: &[u8]) -> Result<Outcome, PbxFault>
     ensures report { Answers spec.outcome_told reason_of result (spec.audit_of plan.now) }
@@ -200,11 +200,11 @@ fn audit_report(alloc: Global, plan: &[u8]) -> Result<Outcome, PbxFault>
     Ok(report)
 }
 
-/// Loads a dialplan and writes what an audit finds in it: a line `KIND CONTEXT,NAME,PRIORITY` for each finding, with what it is
-/// about after it, in the order of the file, and then `ok N findings`. The status is 0 where nothing is found, else 1.
+/// Loads a dialplan and writes what an audit finds in it: a line `KIND CONTEXT,NAME,PRIORITY` for each finding, followed by its subject, in
+/// the order of the file, and then `ok N findings`. The status is 0 if nothing is found, else 1.
 ///
-/// A faulty dialplan has its first fault, and nothing is written. All is written at once; where that write fails, what was
-/// written stays written. Which findings there are is this program's own choice.
+/// A faulty dialplan has its first fault, and nothing is written. Everything is written at once; if that write fails, what was written
+/// stays written. Which findings there are is this program's own choice.
 pub fn audit<W: WriteTold>(alloc: Global, plan: &[u8], writer: &mut W) -> Result<u8, PbxFault>
     ensures writes { spec.WritesAudit (W.contents writer.old) (W.contents writer.new) (spec.audit_of plan.now) result }
     ensures told { W.has_failed writer.new ≡ (W.has_failed writer.old || is_write_failed result) }

@@ -1,4 +1,4 @@
-//! The dialplan in force, as a verbose run tells of it: the name of its file, and the lines of its entries.
+//! The dialplan in force in a verbose run: the name of its file, and the lines of its entries.
 ghost use Rattle.std.specs.Prelude.{◌≡◌, IfOk, IfErr, false};
 ghost use Rattle.std.specs.Option.{option_map};
 ghost use Rattle.dp_conf.specs.Answers.{Refuses};
@@ -13,12 +13,12 @@ use dp_plan::{Dialplan, EntryLines, LoadedPlan, NoMemory};
 use std::alloc::Global;
 use std::marker::Model;
 
-/// The names of the files of a run's dialplans, as a verbose run tells them.
+/// The names of the files of a run's dialplans, as a verbose run prints them.
 #[derive(Clone, Copy)]
 pub struct PlanNames<'a> {
-    /// That of the dialplan.
+    /// The name of the dialplan's file.
     pub plan: &'a str,
-    /// That of the second dialplan, where there is one.
+    /// The name of the second dialplan's file, if there is one.
     pub second_plan: Option<&'a str>,
 }
 
@@ -37,7 +37,7 @@ fn load_lines(alloc: Global, text: &[u8]) -> Result<EntryLines, PbxFault>
     Ok(lines)
 }
 
-/// The dialplan in force. A contract sees the name of its file, that of the second dialplan's file, and the lines of its entries.
+/// The dialplan in force. A contract sees it as the name of its file, that of the second dialplan's file, and the lines of its entries.
 #[derive(Drop)]
 pub(crate) struct PlanInForce<'a> {
     file: &'a str,
@@ -77,14 +77,14 @@ impl<'a> PlanInForce<'a> {
         self.file
     }
 
-    /// The line of the entry of these numbers, or None where there is no such entry.
+    /// The line of the entry with these numbers, or None if there is no such entry.
     pub(crate) fn line(&self, id: EntryId) -> Option<usize>
         ensures { result ≡ line_at self.now.lines id }
     {
         self.lines.line(id)
     }
 
-    /// Goes on after an event, by whether it was refused.
+    /// Continues after an event, given whether the event was refused.
     pub(crate) fn go_on(
         &mut self,
         alloc: Global,
@@ -99,7 +99,7 @@ impl<'a> PlanInForce<'a> {
         }
     }
 
-    /// Puts the second dialplan in force, which has this text. The text has loaded before, so the only error is out of memory.
+    /// Puts the second dialplan in force, which has this text. The text has loaded before, so it fails only if memory runs out.
     fn put_second(&mut self, alloc: Global, text: &[u8]) -> Result<(), NoMemory>
         ensures { OnOk result (self.new ≡ spec.with_second self.old text.now) }
     {
@@ -114,7 +114,7 @@ impl<'a> PlanInForce<'a> {
     }
 }
 
-/// The dialplan in force before the first event, which has this text, or its fault.
+/// The dialplan in force before the first event, which has this text, or the fault of the text.
 pub(crate) fn first_in_force<'a>(
     alloc: Global,
     names: PlanNames<'a>,

@@ -1,4 +1,4 @@
-//! How scripts are read, line by line, whatever their lines may ask for.
+//! How scripts are read line by line, for lines of any kind.
 ghost use Rattle.std.specs.Prelude.{◌≡◌, ℕ, ◌++◌, [], List, Option, IfOk, IfErr, OnOk, Ok, is_some, false};
 ghost use Rattle.std.specs.Option.{unwrap_or};
 ghost use Rattle.dp_conf.specs.Answers.{Answers, Refuses};
@@ -14,14 +14,14 @@ use std::alloc::Global;
 
 /// How the lines of a script are read.
 pub trait ReadLine {
-    /// What a line of the script asks for.
+    /// The meaning of a line of the script.
     type Turn: Drop;
 
     // What a line of the text stands for: nothing, where it is passed over; and None where it is faulty.
     ghost stands_for: { Self → List ℕ → Option (List (Line Self.Turn)) };
 
-    /// Adds what a line of the text stands for at the end, and says whether it is sound: a faulty line stands for nothing. The error
-    /// comes only where a growth was refused.
+    /// Adds the meaning of a line of the text at the end, and says whether the line is valid: a faulty line has no meaning. It fails only
+    /// if memory runs out.
     fn read_line(
         &self,
         alloc: Global,
@@ -32,7 +32,7 @@ pub trait ReadLine {
         ensures lines { OnOk result (lines.new.items ≡ lines.old.items ++ unwrap_or (stands_for self.now part.now) []) };
 }
 
-/// Adds what the line of this number stands for at the end, or gives its fault.
+/// Adds the meaning of the line with this number at the end, or gives the line's fault.
 fn read_numbered<R: ReadLine>(
     alloc: Global,
     reader: &R,
@@ -57,8 +57,7 @@ fn read_numbered<R: ReadLine>(
     }
 }
 
-/// The lines of a script in order, by what each stands for; or the fault of its first faulty line. A line is what stands between two
-/// line feeds.
+/// The meaning of the lines of a script, in order; or the fault of its first faulty line. A line is the text between two line feeds.
 pub fn read_script_by<R: ReadLine>(
     alloc: Global,
     reader: &R,

@@ -1,4 +1,4 @@
-//! Reports on a dialplan: what it loads as, and which entry answers a call.
+//! The reports on a dialplan: how it loads, and which entry answers a call.
 ghost use Rattle.std.specs.Prelude.{◌≡◌, ◌++◌, ◌||◌, IfOk, OnOk, length, map, false};
 ghost use Rattle.std.specs.List.{flat_map};
 ghost use Rattle.dp_conf.specs.Answers.{Answers};
@@ -40,7 +40,7 @@ fn push_notes(out: &mut Block, notes: &[Note]) -> Result<(), NoMemory>
     Ok(())
 }
 
-/// How many entries the contexts have, all together. No list is longer than a `usize`, so that 128 bits hold the sum.
+/// The total number of entries in the contexts. No list is longer than a `usize`, so 128 bits hold the sum.
 fn count_entries(contexts: &[Context]) -> u128
     ensures { result ≡ spec.entries_in contexts.now }
 {
@@ -51,7 +51,7 @@ fn count_entries(contexts: &[Context]) -> u128
     count
 }
 
-/// Adds the line that a dialplan was loaded.
+/// Adds the line for a dialplan that was loaded.
 fn push_counts(out: &mut Block, plan: &Dialplan) -> Result<(), NoMemory>
     ensures { OnOk result (out.new.begun ≡ out.old.begun ++ spec.counts_line plan.now) }
 {
@@ -62,8 +62,8 @@ fn push_counts(out: &mut Block, plan: &Dialplan) -> Result<(), NoMemory>
     out.push(b" entries\n")
 }
 
-/// A dialplan that was read, and its notes. Its drop is one function, so that it is proved once, and not on each way out of all that hold
-/// one.
+/// A dialplan that was read, and its notes. It is dropped in one function, so that the drop is proved once, and not on each way out of
+/// everything that holds one.
 pub struct LoadedPlan {
     /// The dialplan.
     pub plan: Dialplan,
@@ -76,7 +76,7 @@ impl Drop for LoadedPlan {
     }
 }
 
-/// The dialplan of a text with its notes, or its fault. Where memory is refused that is told in place of a fault.
+/// The dialplan that a text holds with its notes, or the text's fault. If memory runs out that is the error instead of a fault.
 pub fn read_plan(alloc: Global, text: &[u8]) -> Result<LoadedPlan, PbxFault>
     ensures read { Answers (λ read. (read.plan, read.notes.items)) reason_of result (plan_fault (plan_and_notes text.now)) }
     ensures quiet { is_write_failed result ≡ false }
@@ -85,7 +85,7 @@ pub fn read_plan(alloc: Global, text: &[u8]) -> Result<LoadedPlan, PbxFault>
     Ok(LoadedPlan { plan, notes })
 }
 
-/// Adds what is reported of a dialplan with its notes.
+/// Adds the report on a dialplan with its notes.
 fn push_check(out: &mut Block, plan: &Dialplan, notes: &[Note]) -> Result<(), NoMemory>
     ensures { OnOk result (out.new.begun ≡ out.old.begun ++ spec.check_text (plan.now, notes.now)) }
 {
@@ -93,7 +93,7 @@ fn push_check(out: &mut Block, plan: &Dialplan, notes: &[Note]) -> Result<(), No
     push_counts(out, plan)
 }
 
-/// What is reported of a dialplan with its notes.
+/// The report on a dialplan with its notes.
 fn check_text(alloc: Global, plan: &Dialplan, notes: &[Note]) -> Result<Block, NoMemory>
     ensures { IfOk result (λ text. text.begun ≡ spec.check_text (plan.now, notes.now)) }
 {
@@ -102,7 +102,7 @@ fn check_text(alloc: Global, plan: &Dialplan, notes: &[Note]) -> Result<Block, N
     Ok(text)
 }
 
-/// What is reported of a dialplan's text, or its fault.
+/// The report on a dialplan's text, or the text's fault.
 #[tactic(auto, unfolding(crate::specs::Report::check_of))]
 fn check_report(alloc: Global, plan: &[u8]) -> Result<Block, PbxFault>
     ensures text { Answers (λ text. text.begun) reason_of result (spec.check_of plan.now) }
@@ -113,12 +113,11 @@ fn check_report(alloc: Global, plan: &[u8]) -> Result<Block, PbxFault>
     Ok(text)
 }
 
-/// Loads a dialplan and writes what it loads as: a line `note LINE KIND` for each note, in the order of the lines, and
-/// then `ok C contexts E entries`. The status is 0. A context counts where only its header stands, and an include is no
-/// entry.
+/// Loads a dialplan and writes how it loads: a line `note LINE KIND` for each note, in the order of the lines, and then `ok C contexts E
+/// entries`. The status is 0. A context counts even if it has only its header, and an include is no entry.
 ///
-/// A faulty dialplan has its first fault, and nothing is written. All is written at once; where that write fails,
-/// what was written stays written.
+/// A faulty dialplan has its first fault, and nothing is written. Everything is written at once; if that write fails, what was written
+/// stays written.
 pub fn check<W: WriteTold>(alloc: Global, plan: &[u8], writer: &mut W) -> Result<u8, PbxFault>
     ensures writes { spec.Reports (W.contents writer.old) (W.contents writer.new) (spec.check_of plan.now) result }
     ensures told { W.has_failed writer.new ≡ (W.has_failed writer.old || is_write_failed result) }
@@ -135,7 +134,7 @@ fn lines_of(alloc: Global, text: &[u8]) -> Result<Vec<&[u8]>, NoMemory>
     text.split(|byte| *byte == b'\n').collect(alloc)
 }
 
-/// Adds the line of a note and below it its explanation, by the lines of the text.
+/// Adds the line of a note followed by its explanation, given the lines of the text.
 fn push_explained_note(
     out: &mut Block,
     path: &str,
@@ -150,7 +149,7 @@ fn push_explained_note(
     push_explanation(out, &line, note.kind)
 }
 
-/// Adds the lines of the notes and below each its explanation, by the lines of the text.
+/// Adds the lines of the notes, each followed by its explanation, given the lines of the text.
 fn push_explained_notes(
     out: &mut Block,
     path: &str,
@@ -166,7 +165,7 @@ fn push_explained_notes(
     Ok(())
 }
 
-/// What is reported of a dialplan with its notes where these are explained, by the lines of its text.
+/// The report on a dialplan with its notes explained, given the lines of its text.
 fn explained_text(
     alloc: Global,
     path: &str,
@@ -183,7 +182,7 @@ fn explained_text(
     Ok(text)
 }
 
-/// What is reported of the text of a file where its notes are explained, or its fault.
+/// The report on the text of a file with its notes explained, or the text's fault.
 #[tactic(auto, unfolding(crate::specs::Report::check_explained_of))]
 fn explain_report(alloc: Global, path: &str, plan: &[u8]) -> Result<Block, PbxFault>
     ensures text { Answers (λ text. text.begun) reason_of result (spec.check_explained_of path.now plan.now) }
@@ -195,9 +194,8 @@ fn explain_report(alloc: Global, path: &str, plan: &[u8]) -> Result<Block, PbxFa
     Ok(text)
 }
 
-/// Does what [`check`] does, and writes below each note's line its explanation: `PATH:LINE`, the line as it stands, and what is said
-/// of such a note, each indented in a line of its own. Of the line at most 200 bytes are shown, and bytes that are not printed as
-/// `\xNN`.
+/// Does what [`check`] does, and writes an explanation below the line of each note: `PATH:LINE`, the line itself, and the sentence on such
+/// a note, each indented on a line of its own. It shows at most 200 bytes of the line, and bytes that cannot be printed as `\xNN`.
 pub fn check_explained<W: WriteTold>(
     alloc: Global,
     path: &str,
@@ -213,7 +211,7 @@ pub fn check_explained<W: WriteTold>(
     Ok(0)
 }
 
-/// The canonical listing of a dialplan's text, or its fault.
+/// The canonical listing of a dialplan's text, or the text's fault.
 #[tactic(auto, unfolding(crate::specs::Report::list_of))]
 fn listing_of(alloc: Global, plan: &[u8]) -> Result<Vec<u8>, PbxFault>
     ensures text { Answers (λ text. text.items) reason_of result (spec.list_of plan.now) }
@@ -226,7 +224,7 @@ fn listing_of(alloc: Global, plan: &[u8]) -> Result<Vec<u8>, PbxFault>
 
 /// Loads a dialplan and writes its canonical listing. The status is 0; its notes are not written.
 ///
-/// A faulty dialplan has its first fault, and nothing is written. Where the write fails, what was written stays written.
+/// A faulty dialplan has its first fault, and nothing is written. If the write fails, what was written stays written.
 pub fn list_plan<W: WriteTold>(alloc: Global, plan: &[u8], writer: &mut W) -> Result<u8, PbxFault>
     ensures writes { spec.Reports (W.contents writer.old) (W.contents writer.new) (spec.list_of plan.now) result }
     ensures told { W.has_failed writer.new ≡ (W.has_failed writer.old || is_write_failed result) }
@@ -248,8 +246,8 @@ pub(crate) fn without_dashes(alloc: Global, text: &[u8]) -> Result<Vec<u8>, NoMe
     Ok(digits)
 }
 
-/// The entry that answers a dialled text at a priority, from a context on. Dashes make no difference, so they are dropped first: else
-/// each name that is asked would go past them.
+/// The entry that answers a dialled text at a priority, searched from a context. Dashes make no difference, so they are dropped first:
+/// otherwise each name that is tried would have to pass over them.
 #[tactic(auto, using(crate::proofs::DashesLemmas::found_undashed))]
 pub(crate) fn find_answer(
     alloc: Global,
@@ -266,7 +264,7 @@ pub(crate) fn find_answer(
     Ok(find(plan, &order, &digits, priority.get()))
 }
 
-/// Adds the line of an entry that was looked for.
+/// Adds the line of the entry that was found.
 pub(crate) fn push_match(
     out: &mut Block,
     plan: &Dialplan,
@@ -283,7 +281,7 @@ pub(crate) fn push_match(
     }
 }
 
-/// The line of an entry that was looked for.
+/// The line of the entry that was found.
 fn match_line(alloc: Global, plan: &Dialplan, found: Option<EntryId>) -> Result<Block, NoMemory>
     ensures { IfOk result (λ line. line.begun ≡ spec.match_line plan.now found) }
 {
@@ -325,12 +323,12 @@ fn match_report(
     Ok(line)
 }
 
-/// Loads a dialplan and writes which of its entries answers the dialled text at the priority, where a call begins in the
-/// context: `CONTEXT,NAME,PRIORITY APP` with the entry's own context and name, or `none`. The status is 0.
+/// Loads a dialplan and writes which of its entries answers the dialled text at the priority, if a call begins in the context:
+/// `CONTEXT,NAME,PRIORITY APP` with the entry's own context and name, or `none`. The status is 0.
 ///
-/// The context is searched first and then what it includes; of the names that match, the most specific one that has the
-/// priority answers (dialplan, pattern matching). A context that the dialplan lacks has no entries. A faulty dialplan
-/// has its first fault, and nothing is written. Where the write fails, what was written stays written.
+/// The context is searched first, and then what it includes. Of the names that match, the most specific one with the priority answers
+/// (dialplan, pattern matching). A context that the dialplan lacks has no entries. A faulty dialplan has its first fault, and nothing is
+/// written. If the write fails, what was written stays written.
 pub fn match_one<W: WriteTold>(
     alloc: Global,
     plan: &[u8],

@@ -25,8 +25,8 @@ use dp_plan::{NoMemory, Text};
 use dp_table::StandardApps;
 use std::alloc::Global;
 
-/// Gives the machine one event, and adds its line to what waits. It says whether the event was refused. The error comes only where
-/// a growth was refused; then no line was added.
+/// Gives the machine one event, and adds its line to the waiting lines. It says whether the event was refused. It fails only if memory runs
+/// out; then no line was added.
 #[tactic(auto, unfolding(crate::specs::Trace::event_line_by))]
 pub fn take_event<A: AppTable>(
     alloc: Global,
@@ -44,8 +44,8 @@ pub fn take_event<A: AppTable>(
     Ok(reply.is_refusal())
 }
 
-/// Adds the line that shows a name in a channel to what waits. It says whether that was refused. The error comes only where a growth
-/// was refused; then no line was added.
+/// Adds the line that shows a name in a channel to the waiting lines. It says whether that was refused. It fails only if memory runs out;
+/// then no line was added.
 pub fn take_show<A: AppTable>(
     alloc: Global,
     machine: &Machine<A>,
@@ -62,7 +62,7 @@ pub fn take_show<A: AppTable>(
     Ok(machine.phase(channel).is_none())
 }
 
-/// Turns that are taken as they stand.
+/// Turns that are taken without further lines.
 #[derive(Drop)]
 struct Plain;
 
@@ -103,7 +103,7 @@ impl Taker for Plain {
     }
 }
 
-/// Writes the lines that wait where the block is full.
+/// Writes the waiting lines if the block is full.
 fn send_full<W: WriteTold>(block: &mut Block, writer: &mut W) -> Result<(), WriteFailed>
     ensures ok { OnOk result (Flows (W.contents writer.old) block.old.whole
         (W.contents writer.new) block.new.whole []) }
@@ -116,7 +116,7 @@ fn send_full<W: WriteTold>(block: &mut Block, writer: &mut W) -> Result<(), Writ
     Ok(())
 }
 
-/// Ends a run by what it came to: the lines that wait are written, unless a write has failed.
+/// Ends a run, given its result: the waiting lines are written, unless a write has failed.
 fn end<W: WriteTold>(
     block: &mut Block,
     writer: &mut W,
@@ -138,7 +138,7 @@ fn end<W: WriteTold>(
     }
 }
 
-/// What takes the turns of a run: how they are taken, the machine, and the block in which their lines wait.
+/// The runner that takes the turns of a run: how it takes them, the machine, and the block of waiting lines.
 struct Runner<T, A> {
     alloc: Global,
     taker: T,
@@ -165,7 +165,7 @@ impl<A: AppTable, T: Taker<Table = A>> Runner<T, A> {
     ghost use Rattle.dp_commands.specs.steps.Streams.{StreamsAll};
     ghost use Rattle.dp_commands.specs.Turns.{WritesTurnsBy};
 
-    /// Takes one turn, and writes the lines that wait where they fill the block. It says whether the turn was refused.
+    /// Takes one turn, and writes the waiting lines if they fill the block. It says whether the turn was refused.
     fn take_turn<W: WriteTold>(&mut self, turn: &T::Turn, writer: &mut W) -> Result<bool, PbxFault>
         ensures streams { Takes T.step (turn.now ∷ []) (W.contents writer.old) self.old (W.contents writer.new) self.new result }
         ensures told { W.has_failed writer.new ≡ (W.has_failed writer.old || is_write_failed result) }
@@ -209,7 +209,7 @@ impl<A: AppTable, T: Taker<Table = A>> Runner<T, A> {
         Ok(refused)
     }
 
-    /// Takes the turns of all lines, and adds the lines after the last of them to what waits. It gives the status.
+    /// Takes the turns of all lines, and adds the lines after the last turn to the waiting lines. It gives the status.
     #[tactic(auto, using(crate::proofs::StreamsLemmas::StreamsAll_ends, crate::proofs::StreamsLemmas::StreamsAll_lacks, crate::proofs::StreamsLemmas::StreamsAll_stops))]
     fn take_all<W: WriteTold>(
         &mut self,
@@ -225,7 +225,7 @@ impl<A: AppTable, T: Taker<Table = A>> Runner<T, A> {
         Ok(self.taker.status(refused))
     }
 
-    /// Takes the turns of all lines, and writes all of their lines. Nothing waits before.
+    /// Takes the turns of all lines, and writes all their lines. Nothing waits before.
     fn run<W: WriteTold>(
         &mut self,
         lines: &[ScriptLine<T::Turn>],
@@ -241,11 +241,10 @@ impl<A: AppTable, T: Taker<Table = A>> Runner<T, A> {
     }
 }
 
-/// Takes the turns of the lines, one after another, and writes all of their lines, a block of lines at a time. The status is what the
-/// taker says at the end.
+/// Takes the turns of the lines one after another, and writes all their lines, a block of lines at a time. The status is that which the
+/// taker gives at the end.
 ///
-/// Where memory is refused the lines of the turns before are written. Where memory is refused or a write fails, what was written stays
-/// written.
+/// If memory runs out the lines of the earlier turns are written. If memory runs out or a write fails, what was written stays written.
 pub fn run_lines<T: Taker, W: WriteTold>(
     alloc: Global,
     taker: T,
@@ -267,7 +266,7 @@ pub fn run_lines<T: Taker, W: WriteTold>(
     runner.run(lines, writer)
 }
 
-/// Takes the turns of a run that has begun, and writes all of their lines.
+/// Takes the turns of a run that has begun, and writes all their lines.
 fn run_begun<T: Taker<Table = StandardApps, Turn = Turn>, W: WriteTold>(
     alloc: Global,
     taker: T,
@@ -282,7 +281,7 @@ fn run_begun<T: Taker<Table = StandardApps, Turn = Turn>, W: WriteTold>(
     run_lines(alloc, taker, machine, &lines, writer)
 }
 
-/// Begins the run of the texts, takes its turns, and writes all of their lines.
+/// Begins the run of the texts, takes its turns, and writes all their lines.
 pub(crate) fn run_texts<T: Taker<Table = StandardApps, Turn = Turn>, W: WriteTold>(
     alloc: Global,
     texts: RunTexts<'_>,
@@ -297,12 +296,12 @@ pub(crate) fn run_texts<T: Taker<Table = StandardApps, Turn = Turn>, W: WriteTol
     run_begun(alloc, taker, begun, writer)
 }
 
-/// Runs a script on a dialplan with its queues, and writes the trace as it goes, a block of lines at a time. The status is 1 where a turn
-/// was refused, else 0.
+/// Runs a script on a dialplan with its queues, and writes the trace as it goes, a block of lines at a time. The status is 1 if a turn was
+/// refused, else 0.
 ///
-/// The dialplan, the queues and the script are read before the first event; the fault of the dialplan is answered first, then that of
-/// the queues, then that of the script. Where memory is refused the lines of the turns before are written. Where memory is refused
-/// or a write fails, what was written stays written.
+/// The dialplan, the queues and the script are read before the first event; the fault of the dialplan comes first, then that of the queues,
+/// then that of the script. If memory runs out the lines of the earlier turns are written. If memory runs out or a write fails, what was
+/// written stays written.
 pub fn run_script<W: WriteTold>(
     alloc: Global,
     texts: RunTexts<'_>,

@@ -13,12 +13,12 @@ use dp_plan::{NoMemory, SharedText, Text};
 use std::alloc::Global;
 use std::marker::Model;
 
-/// What a line of a script asks for.
+/// The turn that a line of a script gives.
 #[derive(PartialEq, Eq, Drop)]
 pub enum Turn {
     /// An event of the machine.
     Event(Event),
-    /// `show CH NAME`: the value of a name in a channel is printed. It is no event, and changes nothing.
+    /// `show CH NAME`: the value of a name in a channel is printed. This is no event, and changes nothing.
     Show { channel: u32, name: Text },
 }
 
@@ -29,7 +29,7 @@ pub struct ScriptLine<U = Turn> {
     pub count: u32,
 }
 
-/// The text of the second dialplan, which all lines `reload` have in common.
+/// The text of the second dialplan, which all `reload` lines share.
 fn share_text(alloc: Global, second_plan: Option<&[u8]>) -> Result<Option<SharedText>, NoMemory>
     ensures { IfOk result (λ shared. shared ≡ option_map (λ text. text.now) second_plan.entry) }
 {
@@ -41,7 +41,7 @@ fn share_text(alloc: Global, second_plan: Option<&[u8]>) -> Result<Option<Shared
     Ok(Some(shared))
 }
 
-/// How the lines of a script are read beside a second dialplan, where there is one. Contracts see it as the text of that.
+/// How the lines of a script are read, with an optional second dialplan. Contracts see it as the text of that dialplan.
 #[derive(Drop)]
 pub struct PlainLines {
     second_plan: Option<SharedText>,
@@ -56,7 +56,7 @@ impl Model for PlainLines {
 }
 
 impl PlainLines {
-    /// How lines are read beside the second dialplan of this text. The error comes only where a growth was refused.
+    /// How lines are read with the second dialplan of this text. It fails only if memory runs out.
     pub fn beside(alloc: Global, second_plan: Option<&[u8]>) -> Result<Self, NoMemory>
         ensures { IfOk result (λ lines. lines ≡ option_map (λ text. text.now) second_plan.entry) }
     {
@@ -92,8 +92,8 @@ impl ReadLine for PlainLines {
     }
 }
 
-/// The lines of a script in order, or the fault of its first faulty line. A line `reload` has the text of the second dialplan, and
-/// is faulty where there is none.
+/// The lines of a script in order, or the fault of its first faulty line. A `reload` line has the text of the second dialplan, and is
+/// faulty if there is none.
 #[tactic(auto, unfolding(crate::specs::Script::script_by, crate::specs::Script::script_of))]
 pub fn read_script(
     alloc: Global,

@@ -10,10 +10,10 @@ use dp_machine::{DialStatus, Event};
 use dp_plan::{NoMemory, SharedText, Text};
 use std::alloc::Global;
 
-/// How many times a line may take its turn.
+/// The greatest number of times that a line can repeat its turn.
 const MOST_COUNT: u32 = 100_000;
 
-/// The words of a line, between its blanks. The error comes only where a growth was refused.
+/// The words of a line, which blanks separate. It fails only if memory runs out.
 pub fn words<'a>(alloc: Global, line: &'a [u8]) -> Result<Vec<&'a [u8]>, NoMemory>
     ensures { IfOk result (λ words. map (λ word. word.now) words.items ≡ spec.words_of line.now) }
 {
@@ -33,14 +33,14 @@ pub fn number_within(limit: u32, word: &[u8]) -> Option<u32>
     Some(number as u32)
 }
 
-/// The number of a channel that a word writes.
+/// The channel number that a word writes.
 pub fn read_channel(word: &[u8]) -> Option<u32>
     ensures { result ≡ spec.channel_in word.now }
 {
     number_within(u32::MAX, word)
 }
 
-/// `start CONTEXT EXTEN [CALLER]`, by the words after `start`: a call comes in. The caller is empty unless given.
+/// `start CONTEXT EXTEN [CALLER]`, given the words after `start`: a phone call comes in. The caller is empty by default.
 fn read_start(alloc: Global, words: &[&[u8]]) -> Result<Option<ScriptLine>, NoMemory>
     ensures { IfOk result (λ line. line ≡ spec.start_line (map (λ word. word.now) words.now)) }
 {
@@ -60,7 +60,7 @@ fn read_start(alloc: Global, words: &[&[u8]]) -> Result<Option<ScriptLine>, NoMe
     Ok(Some(ScriptLine { turn, count: 1 }))
 }
 
-/// `step CH [COUNT]`, by the words after `step`: the channel takes so many steps, 1 unless given.
+/// `step CH [COUNT]`, given the words after `step`: the channel takes a number of steps, 1 by default.
 fn read_step(words: &[&[u8]]) -> Option<ScriptLine>
     ensures { result ≡ spec.step_line (map (λ word. word.now) words.now) }
 {
@@ -73,7 +73,7 @@ fn read_step(words: &[&[u8]]) -> Option<ScriptLine>
     Some(ScriptLine { turn, count })
 }
 
-/// `digit CH D`, by the words after `digit`: the caller dials the byte D.
+/// `digit CH D`, given the words after `digit`: the caller dials the byte D.
 fn read_digit(words: &[&[u8]]) -> Option<ScriptLine>
     ensures { result ≡ spec.digit_line (map (λ word. word.now) words.now) }
 {
@@ -96,7 +96,7 @@ fn digit_line(channel: u32, word: &[u8]) -> Option<ScriptLine>
     }
 }
 
-/// What came of a call to devices, by the word that names it: one of five, each in capitals.
+/// The result of a call to devices that a word names: one of five, each in capitals.
 fn read_status(word: &[u8]) -> Option<DialStatus>
     ensures { result ≡ spec.status_in word.now }
 {
@@ -118,7 +118,7 @@ fn read_status(word: &[u8]) -> Option<DialStatus>
     None
 }
 
-/// `result CH STATUS`, by the words after `result`: the call to devices that the channel waits for came to this.
+/// `result CH STATUS`, given the words after `result`: the call to devices for which the channel waits had this result.
 fn read_result(words: &[&[u8]]) -> Option<ScriptLine>
     ensures { result ≡ spec.result_line (map (λ word. word.now) words.now) }
 {
@@ -139,7 +139,7 @@ fn once(event: Event) -> ScriptLine
     }
 }
 
-/// The channel that is the one word of these.
+/// The channel that the words name, if there is just one word.
 fn one_channel(words: &[&[u8]]) -> Option<u32>
     ensures { result ≡ spec.one_channel (map (λ word. word.now) words.now) }
 {
@@ -149,7 +149,7 @@ fn one_channel(words: &[&[u8]]) -> Option<u32>
     }
 }
 
-/// A copy of the name that is the one word of these.
+/// A copy of the name that the words give, if there is just one word.
 fn one_name(alloc: Global, words: &[&[u8]]) -> Result<Option<Text>, NoMemory>
     ensures { IfOk result (λ name. name ≡ spec.one_name (map (λ word. word.now) words.now)) }
 {
@@ -162,7 +162,7 @@ fn one_name(alloc: Global, words: &[&[u8]]) -> Result<Option<Text>, NoMemory>
     }
 }
 
-/// `timeout CH`, `poll CH` or `hangup CH`, by the first word and those after it.
+/// `timeout CH`, `poll CH` or `hangup CH`, given the first word and the words after it.
 fn read_channel_line(word: &[u8], words: &[&[u8]]) -> Option<ScriptLine>
     ensures { result ≡ spec.channel_line word.now (map (λ word. word.now) words.now) }
 {
@@ -181,7 +181,7 @@ fn read_channel_line(word: &[u8], words: &[&[u8]]) -> Option<ScriptLine>
     None
 }
 
-/// `offer QUEUE`, `answer AGENT`, `decline AGENT` or `done AGENT`, by the first word and those after it.
+/// `offer QUEUE`, `answer AGENT`, `decline AGENT` or `done AGENT`, given the first word and the words after it.
 fn read_agent_line(
     alloc: Global,
     word: &[u8],
@@ -208,7 +208,7 @@ fn read_agent_line(
     Ok(None)
 }
 
-/// The second dialplan is put in force, where there is one.
+/// The reload of the second dialplan, if there is one.
 fn read_second(second_plan: Option<&SharedText>) -> Result<Option<ScriptLine>, NoMemory>
     ensures { IfOk result (λ line. line ≡ spec.reload_by (option_map (λ text. text.now) second_plan.entry)) }
 {
@@ -219,7 +219,7 @@ fn read_second(second_plan: Option<&SharedText>) -> Result<Option<ScriptLine>, N
     Ok(Some(once(Event::Reload { text })))
 }
 
-/// `reload`, by the words after it, of which there is none: the second dialplan is put in force.
+/// `reload`, given the words after it, of which there are none: the second dialplan is put in force.
 fn read_reload(
     second_plan: Option<&SharedText>,
     words: &[&[u8]],
@@ -233,7 +233,7 @@ fn read_reload(
     }
 }
 
-/// `show CH NAME`, by the words after `show`.
+/// `show CH NAME`, given the words after `show`.
 fn read_show(alloc: Global, words: &[&[u8]]) -> Result<Option<ScriptLine>, NoMemory>
     ensures { IfOk result (λ line. line ≡ spec.show_line (map (λ word. word.now) words.now)) }
 {
@@ -249,7 +249,7 @@ fn read_show(alloc: Global, words: &[&[u8]]) -> Result<Option<ScriptLine>, NoMem
     Ok(Some(ScriptLine { turn, count: 1 }))
 }
 
-/// Whether a line is passed over: it has no words, or begins with `;`.
+/// Whether a line is skipped: it has no words, or begins with `;`.
 pub(crate) fn is_skipped(words: &[&[u8]]) -> bool
     ensures { result ≡ spec.is_skipped (map (λ word. word.now) words.now) }
 {
@@ -259,7 +259,7 @@ pub(crate) fn is_skipped(words: &[&[u8]]) -> bool
     }
 }
 
-/// What a line stands for by its words, where a line `reload` puts the second dialplan in force; or None where it is faulty.
+/// The meaning of a line, given its words and the second dialplan, which a `reload` line loads; or None if the line is faulty.
 pub(crate) fn read_words(
     alloc: Global,
     second_plan: Option<&SharedText>,

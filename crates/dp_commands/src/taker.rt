@@ -14,7 +14,7 @@ pub trait Taker: Drop {
     /// The table of the applications.
     type Table: AppTable;
 
-    /// What a line of the script asks for.
+    /// The turn that a line of the script gives.
     type Turn;
 
     // What a turn makes of the taker and of a world, its lines, and whether it is refused.
@@ -26,8 +26,8 @@ pub trait Taker: Drop {
     // The status of a run after its last turn, by whether a turn was refused.
     ghost status: { Self → Bool → ℕ };
 
-    /// Takes one turn, and adds its lines to what waits. It says whether the turn was refused. The error comes only where a growth
-    /// was refused; then no line was added.
+    /// Takes one turn, and adds its lines to the waiting lines. It says whether the turn was refused. It fails only if memory runs out;
+    /// then no line was added.
     fn take(
         &mut self,
         alloc: Global,
@@ -41,12 +41,12 @@ pub trait Taker: Drop {
         ensures refused { IfOk result (λ refused. refused ≡ (step (self.old, machine.old) turn.now).refused) }
         ensures err { OnErr result (block.new.whole ≡ block.old.whole) };
 
-    /// Adds the lines after the last turn to what waits. The error comes only where a growth was refused; then no line was added.
+    /// Adds the lines after the last turn to the waiting lines. It fails only if memory runs out; then no line was added.
     fn finish(&self, block: &mut Block) -> Result<(), NoMemory>
         ensures ok { OnOk result (block.new.whole ≡ block.old.whole ++ last self.now) }
         ensures err { OnErr result (block.new.whole ≡ block.old.whole) };
 
-    /// The status of a run after its last turn, by whether a turn was refused.
+    /// The status of a run after its last turn, given whether a turn was refused.
     fn status(&self, refused: bool) -> u8
         ensures { result ≡ status self.now refused };
 }

@@ -5,10 +5,9 @@
 pub struct RunTexts<'a> {
     /// The dialplan.
     pub plan: &'a [u8],
-    /// The file of queues, where there is one. Without it a run has no queues.
+    /// The text of the queue file, if there is one. Without it a run has no queues.
     pub queues: Option<&'a [u8]>,
-    /// The dialplan that a line `reload` puts in force, where there is one. Its text is not looked into before; without it
-    /// such a line is faulty.
+    /// The dialplan that a `reload` line puts in force, if there is one. Its text is not examined before; without it such a line is faulty.
     pub second_plan: Option<&'a [u8]>,
     /// The script.
     pub script: &'a [u8],

@@ -35,7 +35,7 @@ use std::sync::Wait;
 use std::sync::ledger::Blank;
 use std::thread::Threads;
 
-/// Why a board was not settled, though each seat was handed in.
+/// Why a board was not settled although each seat was handed in.
 fn settle_fault(fault: SettleFault) -> PbxFault
     requires { spec.misses_no_seat fault ≡ true }
     ensures code { spec.is_settle_fault result ≡ true }
@@ -47,7 +47,7 @@ fn settle_fault(fault: SettleFault) -> PbxFault
     }
 }
 
-/// The history of a board that was settled by all of its seats, or why it was not.
+/// The history of a board that all its seats settled, or why it was not settled.
 fn settled_history<S: Session>(
     alloc: Global,
     board: Board<StandardApps, S>,
@@ -63,7 +63,7 @@ fn settled_history<S: Session>(
     }
 }
 
-/// The history of events that the seats of a board give at once.
+/// The history of the events that the seats of a board give at once.
 fn act_and_settle<S: Session + Send + Sync, R: Threads + Wait + Sync, G: Gate + Sync>(
     rt: &R,
     alloc: Global,
@@ -113,14 +113,14 @@ fn has_refusal(entries: &[Entry]) -> bool
     entries.iter().any(|entry| entry.reply.is_refusal())
 }
 
-/// The events of a run, of which the calls that come in first were given, and whether one of these was refused.
+/// The events of a run, of which the leading phone calls were given, and whether one of these was refused.
 #[derive(Drop)]
 struct GivenEvents {
     events: Vec<Event>,
     is_refused: bool,
 }
 
-/// Gives the machine the calls that come in first.
+/// Gives the machine the leading phone calls.
 fn give_calls(
     alloc: Global,
     machine: &mut Machine<StandardApps>,
@@ -139,14 +139,14 @@ fn give_calls(
     Ok(GivenEvents { events, is_refused })
 }
 
-/// What a run in threads has before its board opens: the machine after the calls that come in first, and what these leave.
+/// The state of a run in threads before its board opens: the machine after the leading phone calls, and the events that were given.
 #[derive(Drop)]
 struct Opened {
     machine: Machine<StandardApps>,
     given: GivenEvents,
 }
 
-/// The run that has begun and was given the calls that come in first.
+/// The run that has begun, after its leading phone calls.
 fn opened_of(begun: Begun, given: GivenEvents) -> Opened
     ensures machine { result.machine ≡ begun.machine }
     ensures given { result.given ≡ given }
@@ -157,7 +157,7 @@ fn opened_of(begun: Begun, given: GivenEvents) -> Opened
     }
 }
 
-/// What a run in threads has before its board opens.
+/// The state of a run in threads before its board opens.
 fn begin_shared(alloc: Global, texts: RunTexts<'_>) -> Result<Opened, PbxFault>
     ensures begun { Answers (λ opened. (opened.machine, spec.shared_events opened.given.events.items, opened.given.is_refused)) reason_of result
         (begun_of (run.run_of_texts texts.entry)) }
@@ -170,7 +170,7 @@ fn begin_shared(alloc: Global, texts: RunTexts<'_>) -> Result<Opened, PbxFault>
     }
 }
 
-/// Adds the line of a settled history to what waits.
+/// Adds the line of a settled history to the waiting lines.
 fn push_settled(block: &mut Block, seats: u32, calls: usize) -> Result<(), NoMemory>
     ensures ok { OnOk result (block.new ≡ waiting
         (block.old.whole ++ (block.old.begun ++ spec.settled_line seats calls)) []) }
@@ -201,7 +201,7 @@ fn write_settled<W: WriteTold>(
     Ok(())
 }
 
-/// Writes the line of a history, and gives the status: 1 where a call that came first or an entry was refused.
+/// Writes the line of a history, and gives the status: 1 if a leading phone call or an entry was refused.
 fn report<W: WriteTold>(
     alloc: Global,
     history: &History<StandardApps>,
@@ -225,13 +225,13 @@ fn report<W: WriteTold>(
 /// How a run is shared.
 #[derive_where(Clone, Copy)]
 pub struct Sharing<'a, G> {
-    /// In how many threads it runs: with 0 it runs in one.
+    /// The number of threads: with 0 it runs in one.
     pub threads: u32,
-    /// Between whose calls each event is given.
+    /// The gate whose two function calls enclose each event.
     pub gate: &'a G,
 }
 
-/// The history of a run in threads over the board of a session, which is yet to open. It has a seat for each thread.
+/// The history of a run in threads over the board of a session that is yet to open. The board has a seat for each thread.
 fn history_of<S: Session + Send + Sync, R: Threads + Wait + Sync, G: Gate + Sync>(
     rt: &R,
     alloc: Global,
@@ -256,7 +256,7 @@ fn history_of<S: Session + Send + Sync, R: Threads + Wait + Sync, G: Gate + Sync
     }
 }
 
-/// The history of a run in threads whose board is yet to open. It has a seat for each thread.
+/// The history of a run in threads whose board is yet to open. The board has a seat for each thread.
 fn share<G: Gate + Sync, R: Threads + Wait + Sync>(
     rt: &R,
     alloc: Global,
@@ -272,7 +272,7 @@ fn share<G: Gate + Sync, R: Threads + Wait + Sync>(
     history_of::<Brand, _, _>(rt, alloc, blank, opened, sharing)
 }
 
-/// A history and the status of its run, where its line is written.
+/// A history and the status of its run, once its line is written.
 fn conclude<W: WriteTold>(
     alloc: Global,
     history: History<StandardApps>,
@@ -293,13 +293,14 @@ fn conclude<W: WriteTold>(
     beside(status, history)
 }
 
-/// Runs a script on a dialplan with its queues in so many threads, and writes `settled N seats M calls`: so many seats, and how many
-/// events they shared, each of which is a call of the history. The calls that the script begins with come in first; then a board opens,
-/// and the events after these are dealt to its seats in turn, each of which gives its own in a thread, between the calls of the gate.
-/// Lines that show a value are passed over. The history is answered, and the status: 1 where an event was refused, else 0.
+/// Runs a script on a dialplan with its queues in so many threads, and writes `settled N seats M calls`: the number of seats, and the
+/// number of events that they shared, each of which is a call in the history. The phone calls at the start of the script come in first.
+/// Then a board opens, and the events after these are dealt to its seats in turn. Each seat gives its events in a thread, between the
+/// function calls of the gate. Lines that show a value are skipped. The results are the history and the status: 1 if an event was refused,
+/// else 0.
 ///
-/// All texts are read first, and their faults come as in a run without threads. Where memory is refused nothing is written. Each seat
-/// is handed in, so none is missing where the board is settled.
+/// All texts are read first, with the same faults as in a run without threads. If memory runs out nothing is written. Every seat is handed
+/// in, so none is missing when the board is settled.
 pub fn run_threads<G: Gate + Sync, W: WriteTold, R: Threads + Wait + Sync>(
     rt: &R,
     alloc: Global,

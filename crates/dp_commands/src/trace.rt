@@ -11,7 +11,7 @@ use dp_plan::{Context, Dialplan, Entry, NoMemory};
 use itoa::{Buffer, Integer};
 use std::alloc::Global;
 
-/// Adds a number in decimal. The error comes only where a growth was refused.
+/// Adds a number in decimal. It fails only if memory runs out.
 pub fn push_number<I: Integer>(out: &mut Block, number: I) -> Result<(), NoMemory>
     ensures kept { out.new.whole ≡ out.old.whole }
     ensures ok { OnOk result (out.new.begun ≡ out.old.begun ++ I.text number) }
@@ -67,7 +67,7 @@ fn push_ready(out: &mut Block, place: Option<&Place>) -> Result<(), NoMemory>
     )
 }
 
-/// Adds ` -> ` and the state of the channel of this number.
+/// Adds ` -> ` and the state of the channel with this number.
 #[tactic(auto, unfolding(crate::specs::Trace::state_text))]
 pub fn push_after<A: AppTable>(
     out: &mut Block,
@@ -83,7 +83,7 @@ pub fn push_after<A: AppTable>(
     push_phase(out, machine.queues(), phase, machine.place(number))
 }
 
-/// Adds ` -> ` and the state of a channel by its phase and its place. The arrow goes in with the word of the state, at once.
+/// Adds ` -> ` and the state of a channel, given its phase and its place. The arrow is added together with the word of the state.
 #[inline(always)]
 fn push_phase(
     out: &mut Block,
@@ -109,7 +109,7 @@ fn push_phase(
     }
 }
 
-/// Adds ` -> ` and the state of a channel that waits in the queue of a number.
+/// Adds ` -> ` and the state of a channel that waits in the queue with a number.
 fn push_queued(out: &mut Block, queues: &Queues, queue: usize) -> Result<(), NoMemory>
     ensures kept { out.new.whole ≡ out.old.whole }
     ensures ok { OnOk result (out.new.begun ≡ out.old.begun ++ (codes " -> " ++ (codes "queued " ++ spec.queue_name queues.now queue))) }
@@ -118,7 +118,7 @@ fn push_queued(out: &mut Block, queues: &Queues, queue: usize) -> Result<(), NoM
     push_queue(out, queues, queue)
 }
 
-/// Adds the state of a channel that talks with the agent of a number, in the queue of a number.
+/// Adds the state of a channel that talks with the agent with a number, in the queue with a number.
 fn push_talking(
     out: &mut Block,
     queues: &Queues,
@@ -135,7 +135,7 @@ fn push_talking(
     push_agent(out, queues, agent)
 }
 
-/// Adds the name of the queue of a number.
+/// Adds the name of the queue with a number.
 fn push_queue(out: &mut Block, queues: &Queues, number: usize) -> Result<(), NoMemory>
     ensures kept { out.new.whole ≡ out.old.whole }
     ensures ok { OnOk result (out.new.begun ≡ out.old.begun ++ spec.queue_name queues.now number) }
@@ -146,7 +146,7 @@ fn push_queue(out: &mut Block, queues: &Queues, number: usize) -> Result<(), NoM
     }
 }
 
-/// Adds the name of the agent of a number.
+/// Adds the name of the agent with a number.
 fn push_agent(out: &mut Block, queues: &Queues, number: usize) -> Result<(), NoMemory>
     ensures kept { out.new.whole ≡ out.old.whole }
     ensures ok { OnOk result (out.new.begun ≡ out.old.begun ++ spec.agent_name queues.now number) }
@@ -157,7 +157,7 @@ fn push_agent(out: &mut Block, queues: &Queues, number: usize) -> Result<(), NoM
     }
 }
 
-/// Adds an entry of a context, `CONTEXT,NAME,PRIORITY APP`, its name in the canonical spelling.
+/// Adds an entry of a context, `CONTEXT,NAME,PRIORITY APP`, with its name in canonical spelling.
 fn push_entry_of(out: &mut Block, context: &Context, entry: &Entry) -> Result<(), NoMemory>
     ensures kept { out.new.whole ≡ out.old.whole }
     ensures ok { OnOk result (out.new.begun ≡ out.old.begun ++ spec.entry_by context.now (Some entry.now)) }
@@ -171,7 +171,7 @@ fn push_entry_of(out: &mut Block, context: &Context, entry: &Entry) -> Result<()
     out.push(entry.application.bytes())
 }
 
-/// Adds the entry of the dialplan that has these numbers.
+/// Adds the entry of the dialplan with these numbers.
 #[tactic(auto, unfolding(crate::specs::Trace::entry_text))]
 pub(crate) fn push_entry(out: &mut Block, plan: &Dialplan, id: EntryId) -> Result<(), NoMemory>
     ensures kept { out.new.whole ≡ out.old.whole }
@@ -280,7 +280,7 @@ fn push_done<A: AppTable>(
     push_after(out, machine, number)
 }
 
-/// Adds the line of a reply to an event of the channel of this number, with the machine after the event.
+/// Adds the line of a reply to an event of the channel with this number, given the machine after the event.
 pub(crate) fn push_reply<A: AppTable>(
     out: &mut Block,
     machine: &Machine<A>,
@@ -301,8 +301,8 @@ pub(crate) fn push_reply<A: AppTable>(
     }
 }
 
-/// Adds the line of a reply to what waits, by the channel that the event names and the machine after the event. Where
-/// memory is refused the whole lines stay as they were.
+/// Adds the line of a reply to the waiting lines, given the channel that the event names and the machine after the event. If memory runs
+/// out the whole lines stay as they were.
 pub(crate) fn push_line<A: AppTable>(
     block: &mut Block,
     machine: &Machine<A>,
@@ -336,7 +336,7 @@ fn push_value<A: AppTable>(
     out.push(&value)
 }
 
-/// Adds the value of a name in a channel, or the refusal where no channel has the number.
+/// Adds the value of a name in a channel, or the refusal if no channel has the number.
 #[tactic(auto, unfolding(crate::specs::Trace::show_text))]
 pub(crate) fn push_show<A: AppTable>(
     alloc: Global,
@@ -354,7 +354,7 @@ pub(crate) fn push_show<A: AppTable>(
     }
 }
 
-/// Adds the line that shows a name in a channel to what waits. Where memory is refused the whole lines stay as they were.
+/// Adds the line that shows a name in a channel to the waiting lines. If memory runs out the whole lines stay as they were.
 pub(crate) fn push_show_line<A: AppTable>(
     alloc: Global,
     block: &mut Block,

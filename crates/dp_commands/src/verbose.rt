@@ -1,5 +1,4 @@
-//! Verbose runs of a dialplan by a script: above the line of a step stands which entry it runs, and above that of a refusal its
-//! explanation.
+//! Verbose runs of a dialplan by a script: above the line of a step is the entry that it runs, and above that of a refusal its explanation.
 ghost use Rattle.std.specs.Prelude.{◌≡◌, ◌++◌, ◌||◌, IfOk, IfErr, OnOk, OnErr, Ok, false};
 ghost use Rattle.std.specs.Option.{option_map};
 ghost use Rattle.dp_app.specs.Rows.{with_functions};
@@ -28,7 +27,7 @@ use dp_table::StandardApps;
 use std::alloc::Global;
 use std::marker::{Model, PhantomData};
 
-/// The arguments of the entry that an event runs, as they are expanded now. Only a step runs an entry.
+/// The arguments of the entry that an event runs, as they expand now. Only a step runs an entry.
 pub(crate) fn arguments_of<A: AppTable>(
     alloc: Global,
     machine: &mut Machine<A>,
@@ -59,7 +58,7 @@ fn push_line_number(out: &mut Block, line: Option<usize>) -> Result<(), NoMemory
     }
 }
 
-/// Adds the application of the entry of these numbers.
+/// Adds the application of the entry with these numbers.
 fn push_application(out: &mut Block, plan: &Dialplan, id: EntryId) -> Result<(), NoMemory>
     ensures kept { out.new.whole ≡ out.old.whole }
     ensures ok { OnOk result (out.new.begun ≡ out.old.begun ++ spec.application_in (entry_at plan.now id)) }
@@ -70,7 +69,7 @@ fn push_application(out: &mut Block, plan: &Dialplan, id: EntryId) -> Result<(),
     }
 }
 
-/// Adds where an entry was loaded, `FILE:LINE`, indented.
+/// Adds the source of an entry, `FILE:LINE`, indented.
 fn push_source(out: &mut Block, in_force: &PlanInForce<'_>, id: EntryId) -> Result<(), NoMemory>
     ensures kept { out.new.whole ≡ out.old.whole }
     ensures ok { OnOk result (out.new.begun ≡ out.old.begun ++ spec.source_text in_force.now id) }
@@ -97,7 +96,7 @@ fn push_call(
     out.push_byte(b')')
 }
 
-/// Adds which entry a step runs, `FILE:LINE APP(ARGS)`, in a line of its own.
+/// Adds the entry that a step runs, `FILE:LINE APP(ARGS)`, on a line of its own.
 fn push_ran_text(
     out: &mut Block,
     in_force: &PlanInForce<'_>,
@@ -114,7 +113,7 @@ fn push_ran_text(
     out.push_byte(b'\n')
 }
 
-/// Adds a byte, with two blanks before it where it begins a line.
+/// Adds a byte, with two blanks before it if it begins a line.
 fn push_indented_byte(out: &mut Block, begins: bool, byte: u8) -> Result<(), NoMemory>
     ensures kept { out.new.whole ≡ out.old.whole }
     ensures ok { OnOk result (out.new.begun ≡ out.old.begun ++ spec.indented_byte begins byte) }
@@ -146,7 +145,7 @@ pub fn push_explanation<E: Explanations>(out: &mut Block, refusal: Refusal) -> R
     push_indented(out, E::explanation(refusal).as_bytes())
 }
 
-/// Adds what stands above the line of a reply, by the dialplan in force and the arguments of the entry that was run.
+/// Adds the text above the line of a reply, given the dialplan in force and the arguments of the entry that was run.
 pub(crate) fn push_above<E: Explanations>(
     out: &mut Block,
     in_force: &PlanInForce<'_>,
@@ -166,7 +165,7 @@ pub(crate) fn push_above<E: Explanations>(
     }
 }
 
-/// Adds what stands above the line of a `show`, by whether it is refused.
+/// Adds the text above the line of a `show`, given whether the `show` is refused.
 fn push_above_show<E: Explanations>(out: &mut Block, refused: bool) -> Result<(), NoMemory>
     ensures kept { out.new.whole ≡ out.old.whole }
     ensures ok { OnOk result (out.new.begun ≡ out.old.begun ++ spec.above_show E.explanation_of refused) }
@@ -177,8 +176,8 @@ fn push_above_show<E: Explanations>(out: &mut Block, refused: bool) -> Result<()
     push_explanation::<E>(out, Refusal::NoChannel)
 }
 
-/// Adds the line that shows a name in a channel to what waits, and above it the explanation where that is refused. It says whether it
-/// was.
+/// Adds the line that shows a name in a channel to the waiting lines, with an explanation above it if that is refused. It says whether it
+/// was refused.
 fn take_show<E: Explanations, A: AppTable>(
     alloc: Global,
     machine: &Machine<A>,
@@ -201,7 +200,7 @@ fn take_show<E: Explanations, A: AppTable>(
     Ok(refused)
 }
 
-/// What takes the turns of a script and writes more above their lines. Contracts see it as the dialplan in force.
+/// A taker of a script's turns that writes more above their lines. Contracts see it as the dialplan in force.
 pub struct VerboseTaker<'a, E> {
     in_force: PlanInForce<'a>,
     explanations: PhantomData<E>,
@@ -225,7 +224,8 @@ impl<'a, E> Model for VerboseTaker<'a, E> {
 }
 
 impl<'a, E: Explanations> VerboseTaker<'a, E> {
-    /// Before the first turn, by the names of the files of a run's dialplans and the text of the first; or the fault of that.
+    /// The state before the first turn, given the names of the files of a run's dialplans and the text of the first; or the fault of that
+    /// text.
     pub fn first(alloc: Global, names: PlanNames<'a>, text: &[u8]) -> Result<Self, PbxFault>
         ensures plan { IfOk result (λ taker. taker ≡ spec.first_in_force names.entry.plan.now
             (option_map (λ name. name.now) names.entry.second_plan) text.now) }
@@ -241,7 +241,7 @@ impl<'a, E: Explanations> VerboseTaker<'a, E> {
         }
     }
 
-    /// Gives the machine one event, and adds its line to what waits with more above it. It says whether the event was refused.
+    /// Gives the machine one event, and adds its line to the waiting lines, with more text above it. It says whether the event was refused.
     #[tactic(auto, unfolding(crate::specs::Trace::event_line_by))]
     fn take_event<A: AppTable>(
         &mut self,
@@ -271,8 +271,8 @@ impl<'a, E: Explanations> VerboseTaker<'a, E> {
         Ok(refused)
     }
 
-    /// Takes one turn over the machine of a table of applications, and adds its line to what waits with more above it. It says whether
-    /// the turn was refused. The error comes only where a growth was refused; then no line was added.
+    /// Takes one turn over the machine of a table of applications, and adds its line to the waiting lines, with more text above it. It says
+    /// whether the turn was refused. It fails only if memory runs out; then no line was added.
     pub fn take_turn<A: AppTable>(
         &mut self,
         alloc: Global,
@@ -333,7 +333,7 @@ impl<'a, E: Explanations> Taker for VerboseTaker<'a, E> {
     }
 }
 
-/// Runs the script of the texts, whose dialplan is in force at first, and writes more above the lines.
+/// Runs the script of the texts, whose dialplan is first in force, and writes more above the lines.
 fn run_in_force<E: Explanations, W: WriteTold>(
     alloc: Global,
     texts: RunTexts<'_>,
@@ -348,9 +348,9 @@ fn run_in_force<E: Explanations, W: WriteTold>(
     run_texts(alloc, texts, taker, writer)
 }
 
-/// Runs a script on a dialplan with its queues as [`crate::run_script`] does, and writes more above some of the lines: above that of a
-/// step that runs an entry `FILE:LINE APP(ARGS)`, with its arguments as they were expanded, and above that of a refusal its explanation,
-/// each indented by two blanks. After a reload FILE and LINE are those of the second dialplan.
+/// Runs a script on a dialplan with its queues as [`crate::run_script`] does, and writes more above some of the lines: above the line of a
+/// step that runs an entry `FILE:LINE APP(ARGS)`, with its expanded arguments, and above the line of a refusal its explanation. Each is
+/// indented by two blanks. After a reload FILE and LINE are those of the second dialplan.
 pub fn run_verbose<E: Explanations, W: WriteTold>(
     alloc: Global,
     texts: RunTexts<'_>,

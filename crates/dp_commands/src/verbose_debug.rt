@@ -26,7 +26,7 @@ use dp_table::StandardApps;
 use std::alloc::Global;
 use std::marker::{Model, PhantomData};
 
-/// Adds the line of a halt after so many events, where there was one.
+/// Adds the line of a halt after a number of events, if there was one.
 fn push_halted(out: &mut Block, halted: bool, taken: u64) -> Result<(), NoMemory>
     ensures kept { out.new.whole ≡ out.old.whole }
     ensures ok { OnOk result (out.new.begun ≡ out.old.begun ++ halt_text halted taken) }
@@ -37,8 +37,8 @@ fn push_halted(out: &mut Block, halted: bool, taken: u64) -> Result<(), NoMemory
     Ok(())
 }
 
-/// A debugger that takes the turns of a script with more above their lines. Contracts see its break, the number of events taken, and the
-/// dialplan in force.
+/// A debugger that takes the turns of a script and writes more above their lines. Contracts see it as its break, the number of events
+/// taken, and the dialplan in force.
 struct VerboseWatched<'a, E> {
     debugger: Debugger,
     held: Break,
@@ -104,8 +104,8 @@ impl<'a, E: Explanations> Taker for VerboseWatched<'a, E> {
 }
 
 impl<'a, E: Explanations> VerboseWatched<'a, E> {
-    /// Gives the debugger one event, and adds its lines to what waits with more above that of the reply. It says whether the event was
-    /// refused.
+    /// Gives the debugger one event, and adds its lines to the waiting lines, with more text above that of the reply. It says whether the
+    /// event was refused.
     #[tactic(auto, unfolding(crate::specs::Trace::event_line_by))]
     fn take_event(
         &mut self,
@@ -142,7 +142,7 @@ impl<'a, E: Explanations> VerboseWatched<'a, E> {
     }
 }
 
-/// Debugs the script of the texts, whose dialplan is in force at first, and writes more above the lines.
+/// Debugs the script of the texts, whose dialplan is first in force, and writes more above the lines.
 fn debug_in_force<E: Explanations, W: WriteTold>(
     alloc: Global,
     texts: RunTexts<'_>,
@@ -166,8 +166,8 @@ fn debug_in_force<E: Explanations, W: WriteTold>(
     run_texts(alloc, texts, watched, writer)
 }
 
-/// Runs a script on a dialplan with its queues under a debugger as [`crate::debug_script`] does, and writes more above the lines of
-/// events, as [`crate::run_verbose`] does: after the line of a halt, where there is one.
+/// Runs a script on a dialplan with its queues under a debugger as [`crate::debug_script`] does, and writes more above the lines of events,
+/// as [`crate::run_verbose`] does. This text comes after the line of a halt, if there is one.
 #[tactic(auto, unfolding(crate::specs::Debug::debug_of))]
 pub fn debug_verbose<E: Explanations, W: WriteTold>(
     alloc: Global,

@@ -1,4 +1,4 @@
--- Which breaks hold before an event.
+-- The breaks that hold before an event.
 use Rattle.std.specs.Prelude.{ℕ, Bool, true, false, ◌&&◌, ◌==◌, List, Option, Some, None}
 use Rattle.std.specs.List.{position}
 use Rattle.dp_conf.specs.Words.{same_text, same_word}
@@ -17,7 +17,7 @@ use Rattle.dp_machine.specs.declared.event.Event.TheVariants.{Start, Step, Digit
 use Rattle.dp_debug.specs.declared.breaks.Break.{Break}
 use Rattle.dp_debug.specs.declared.breaks.Break.TheVariants.{At, App}
 
--- two places are one: the same bytes, dashes too, and the same priority
+-- whether two places are the same: they have the same bytes, including dashes, and the same priority
 abbrev pub same_place : Place → Place → Bool
 same_place a b = same_text a.context b.context && same_text a.exten b.exten && a.priority == b.priority
 
@@ -41,7 +41,7 @@ abbrev pub has_application : Option Entry → List ℕ → Bool
 has_application None name = false
 has_application (Some entry) name = same_word entry.application name
 
--- whether the entry of these numbers has it
+-- whether the entry with these numbers has the application
 abbrev pub runs_at : PlanOf → Option EntryId → List ℕ → Bool
 runs_at plan None name = false
 runs_at plan (Some id) name = has_application (entry_at plan id) name
@@ -51,21 +51,21 @@ abbrev pub names_app : Break → Bool
 names_app (At place) = false
 names_app (App name) = true
 
--- whether a break holds before a step of the channel of a number that would run this entry: the channel is ready and stands at that
--- place, or the entry has that application
+-- whether a break holds before a step of the channel with a number that would run this entry: the channel is ready at that place, or the
+-- entry has that application
 abbrev pub holds_at : World → ℕ → Option EntryId → Break → Bool
 holds_at w number entry (At place) = stands_at (channel_at w.channels number) place
 holds_at w number entry (App name) = runs_at w.plan entry name
 
--- whether a break holds before a step of the channel of a number
+-- whether a break holds before a step of the channel with a number
 abbrev pub holds_for : World → ℕ → Break → Bool
 holds_for w number held = holds_at w number (next_entry w number) held
 
--- the first of the breaks that holds before a step of the channel of a number
+-- the first break that holds before a step of the channel with a number
 unfoldable pub first_for : World → ℕ → List Break → Option ℕ
 first_for w number breaks = position (holds_for w number) breaks
 
--- the first of the breaks that holds before an event; before others than steps none does
+-- the first break that holds before an event; only a step can have one
 abbrev pub first_before : World → Event → List Break → Option ℕ
 first_before w (Start context exten caller) breaks = None
 first_before w (Step number) breaks = first_for w number breaks

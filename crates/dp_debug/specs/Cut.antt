@@ -1,4 +1,4 @@
--- Where a debugged run halts: before the least event, of those whose breaks are asked, before which a break holds.
+-- Where a debugged run halts: before the first event, of those whose breaks are checked, before which a break holds.
 use Rattle.std.specs.Prelude.{◌≡◌, ℕ, ◌≤◌, ◌<◌, List, ◌++◌, length, slice_get, slice_range, take, Option, Some, None}
 use Rattle.std.specs.Option.{option_and_then}
 use Rattle.dp_app.specs.Rows.{Meanings}
@@ -12,20 +12,20 @@ use Rattle.dp_debug.specs.declared.halt.Halt.{Halt}
 use Rattle.dp_debug.specs.declared.halt.Why.{Why}
 use Rattle.dp_debug.specs.declared.halt.Why.TheVariants.{End, Break as at_break, NoMemory}
 
--- the first break that holds before the event of a number, in the world after the events from one number up to it
+-- the first break that holds before the event with a number, in the world after the events from one number up to it
 unfoldable pub first_at : Meanings → World → List Event → ℕ → List Break → ℕ → Option ℕ
 first_at meanings w events from breaks number =
     option_and_then (λ event. first_before (world_after meanings w (slice_range events from number)) event breaks) (slice_get events number)
 
--- why a run halts before the event of a number: all were taken, or the first break that holds there is this one and the breaks
--- are asked there, or a growth was refused
+-- why a run halts before the event with a number: all events were taken, or this is the first break that holds there and the breaks are
+-- checked there, or memory ran out
 abbrev pub IsWhy : ℕ → ℕ → ℕ → Option ℕ → Why → Type 0
 IsWhy count asked taken first End = taken ≡ count
 IsWhy count asked taken first (at_break number) = (asked ≤ taken) × (first ≡ Some number)
 IsWhy count asked taken first NoMemory = Unit {0}
 
--- a run over the events from one number on, which asks the breaks from another on: where it halts, the replies after it and the
--- world. Before no event that it took and asked did a break hold
+-- a run over the events from one number on, which checks the breaks from another number on: where it halts, the replies then and the world
+-- then; no break held before any event that it checked and took
 pub record IsRun (meanings : Meanings) (w : World) (events : List Event) (breaks : List Break) (from asked : ℕ) (old : List Reply) (halt : Halt)
     (new : List Reply) (after : World) : Type 0 where
   pub begun : from ≤ halt.taken
@@ -35,7 +35,7 @@ pub record IsRun (meanings : Meanings) (w : World) (events : List Event) (breaks
   pub none : (number : ℕ) → asked ≤ number → number < halt.taken → first_at meanings w events from breaks number ≡ None
   pub why : IsWhy (length events) asked halt.taken (first_at meanings w events from breaks halt.taken) halt.why
 
--- so many events were taken, the first of the list: the replies to them, and the world after them
+-- the first so many events of the list were taken: the replies to them, and the world after them
 pub record HasTaken (meanings : Meanings) (w : World) (events : List Event) (taken : ℕ) (trace : List Reply) (after : World) : Type 0 where
   pub within : taken ≤ length events
   pub replies : trace ≡ replies_to meanings w (take taken events)

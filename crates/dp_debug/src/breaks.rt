@@ -12,13 +12,13 @@ use dp_machine::{Dialplan, EntryId, Event, Machine, Phase, Place, Text};
 /// Where a debugged run halts.
 #[derive(Debug, PartialEq, Eq, Drop)]
 pub enum Break {
-    /// Before a step of a channel that is ready at this place. The bytes of the extension are compared, dashes too.
+    /// Before a step of a channel that is ready at this place. The bytes of the extension are compared, including dashes.
     At(Place),
     /// Before a step of a channel whose entry has this application, in any ASCII case.
     App(Text),
 }
 
-/// Whether two places are one.
+/// Whether two places are the same.
 fn same_place(a: &Place, b: &Place) -> bool
     ensures { result ≡ spec.same_place a.now b.now }
 {
@@ -42,7 +42,7 @@ fn is_ready(phase: &Phase) -> bool
     }
 }
 
-/// Whether the channel of this number is ready at the place.
+/// Whether the channel with this number is ready at the place.
 fn stands_at<T: AppTable>(machine: &Machine<T>, channel: u32, place: &Place) -> bool
     ensures { result ≡ spec.stands_at (worlds.channel_at machine.now.channels channel) place.now }
 {
@@ -52,7 +52,7 @@ fn stands_at<T: AppTable>(machine: &Machine<T>, channel: u32, place: &Place) -> 
     }
 }
 
-/// Whether the entry of these numbers has the application.
+/// Whether the entry with these numbers has the application.
 fn runs_at(plan: &Dialplan, id: Option<EntryId>, name: &[u8]) -> bool
     ensures { result ≡ spec.runs_at plan.now id name.now }
 {
@@ -82,7 +82,7 @@ fn asks_entry(breaks: &[Break]) -> bool
     breaks.iter().any(|held| names_app(held))
 }
 
-/// The entry that a step of the channel of this number would run, where a break asks for it.
+/// The entry that a step of the channel with this number would run, if a break asks for it.
 fn entry_for<T: AppTable>(
     machine: &mut Machine<T>,
     channel: u32,
@@ -98,7 +98,7 @@ fn entry_for<T: AppTable>(
     }
 }
 
-/// Whether the break holds before a step of the channel of this number, which would run this entry.
+/// Whether the break holds before a step of the channel with this number, which would run this entry.
 fn holds_at<T: AppTable>(
     machine: &Machine<T>,
     channel: u32,
@@ -113,7 +113,7 @@ fn holds_at<T: AppTable>(
     }
 }
 
-/// The number of the first break that holds before a step of the channel of this number, which would run this entry.
+/// The number of the first break that holds before a step of the channel with this number, which would run this entry.
 fn first_at<T: AppTable>(
     machine: &Machine<T>,
     channel: u32,
@@ -127,7 +127,7 @@ fn first_at<T: AppTable>(
         .position(|held| holds_at(machine, channel, entry, held))
 }
 
-/// The number of the first break that holds before a step of the channel of this number.
+/// The number of the first break that holds before a step of the channel with this number.
 fn first_for<T: AppTable>(machine: &mut Machine<T>, channel: u32, breaks: &[Break]) -> Option<usize>
     ensures first { result ≡ spec.first_for machine.old channel breaks.now }
     ensures same { machine.new ≡ machine.old }
@@ -136,7 +136,7 @@ fn first_for<T: AppTable>(machine: &mut Machine<T>, channel: u32, breaks: &[Brea
     first_at(machine, channel, entry, breaks)
 }
 
-/// The number of the first break that holds before the event. Before others than steps none does. It never allocates.
+/// The number of the first break that holds before the event. Only a step can have one. It never allocates.
 pub(crate) fn first_before<T: AppTable>(
     machine: &mut Machine<T>,
     event: &Event,

@@ -13,7 +13,7 @@ use dp_machine::{Event, Machine, NoMemory, Reply};
 use std::alloc::Global;
 use std::marker::Model;
 
-/// A debugger, which contracts see as the replies to the events that its run took.
+/// A debugger. Contracts see it as the replies to the events that its run took.
 #[derive(Drop)]
 pub struct Debugger {
     trace: Vec<Reply>,
@@ -29,7 +29,7 @@ impl Model for Debugger {
 }
 
 impl Debugger {
-    /// A debugger that has run nothing.
+    /// A debugger that has not run anything.
     pub fn new(alloc: Global) -> Self
         ensures { result ≡ [] }
     {
@@ -38,17 +38,17 @@ impl Debugger {
         }
     }
 
-    /// The replies to the events that the run took. A reply that names an entry is read in the dialplan that was in force at its
-    /// event: who keeps the events knows it, since it is that of the last `Reload` before the event that was done, and the first
-    /// one where there is none.
+    /// The replies to the events that the run took. A reply that names an entry must be read in the dialplan that was in force at its
+    /// event. The owner of the events knows it: it is that of the last successful `Reload` before the event, or the first one if there is
+    /// none.
     pub fn trace(&self) -> &[Reply]
         ensures { result.now ≡ self.now }
     {
         &self.trace
     }
 
-    /// Runs the machine over the events until a break holds before one, with an empty trace. Where memory is refused it halts
-    /// after the events that it took.
+    /// Runs the machine over the events until a break holds before one, with an empty trace. If memory runs out it halts after the events
+    /// that it took.
     pub fn run<T: AppTable>(
         &mut self,
         alloc: Global,
@@ -62,9 +62,9 @@ impl Debugger {
         go_on(alloc, &mut self.trace, machine, events, 0, breaks)
     }
 
-    /// Goes on with a run that has halted before the event of this number: that one is taken without asking the breaks, and
-    /// then as [`Debugger::run`] does; the trace goes on. Where memory is refused at that event nothing has changed. Where
-    /// there is no such event it is at the end.
+    /// Continues a run that has halted before the event with this number: it takes that event without checking the breaks, then does as
+    /// [`Debugger::run`] does; the trace grows. If memory runs out at that event nothing has changed. If there is no such event it is at
+    /// the end.
     pub fn resume<T: AppTable>(
         &mut self,
         alloc: Global,

@@ -5,9 +5,9 @@
 pub enum Why {
     /// All events were taken.
     End,
-    /// The break of this number, counted from 0, is the first that holds.
+    /// The break with this number, counted from 0, is the first that holds.
     Break(usize),
-    /// A growth was refused.
+    /// Memory ran out.
     NoMemory,
 }
 

@@ -1,4 +1,4 @@
-//! A law of runs that halt and go on.
+//! A law of runs that halt and continue.
 ghost use Rattle.std.specs.Prelude.{ℕ, ◌+◌, List, []};
 ghost use Rattle.dp_app.specs.Rows.{Meanings};
 ghost use Rattle.dp_machine.specs.World.{World};
@@ -8,9 +8,9 @@ ghost use Rattle.dp_debug.specs.Cut.{HasTaken, IsRun};
 ghost use Rattle.dp_debug.specs.declared.breaks.Break.{Break};
 ghost use Rattle.dp_debug.specs.declared.halt.Halt.{Halt};
 
-/// A run that halts, and goes on over the same list from where it has halted, gives the machine the first events of the list,
-/// as many as the second halt says: each once, in their order. The trace is the replies to these, and the world the one after
-/// them. So it is after the first halt, and after each further one. It does nothing.
+/// A run that halts, and continues over the same list from where it halted, gives the machine the first events of the list, as many as the
+/// second halt says: each once, in their order. The trace has the replies to them, and the world is the one after them. This holds after
+/// the first halt, and after each further one. This function does nothing.
 pub fn joined()
     ensures both { (meanings : Meanings) (w between after : World) (events : List Event) (breaks : List Break)
         (first second : Halt)

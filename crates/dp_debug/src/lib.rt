@@ -1,4 +1,4 @@
-//! A debugger of dialplans: a run of the machine that halts before a step where a break holds.
+//! A debugger of dialplans: a run of the machine that halts before a step at which a break holds.
 #![tactic(auto)]
 
 mod breaks;

@@ -278,12 +278,12 @@ impl Question for GivenAgain {
 
 /// Where memory is refused each reader says what it said before, and the event, given once more, has its own reply.
 #[test]
-fn rows_are_given_again(rt: HostRuntime) -> Result<(), Fail> {
+fn events_are_retried_after_no_memory(rt: HostRuntime) -> Result<(), Fail> {
     check::<GivenAgain>(rt.alloc(), ROWS)
 }
 
 /// What is larger than the small is answered as the small is.
 #[test]
-fn large_rows_are_answered(rt: HostRuntime) -> Result<(), Fail> {
+fn large_values_and_many_calls_are_handled(rt: HostRuntime) -> Result<(), Fail> {
     check::<GivenAgain>(rt.alloc(), SIZES)
 }

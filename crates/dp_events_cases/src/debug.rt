@@ -103,6 +103,6 @@ impl Checked for Debugged {
 }
 
 #[test]
-fn a_run_goes_on(rt: HostRuntime) -> Result<(), Fail> {
+fn a_debugged_run_resumes_after_no_memory(rt: HostRuntime) -> Result<(), Fail> {
     check_on::<Debugged>(rt.alloc(), PLAN)
 }

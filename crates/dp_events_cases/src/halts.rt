@@ -139,6 +139,6 @@ impl Question for Halts {
 }
 
 #[test]
-fn debugged_runs_halt_so(rt: HostRuntime) -> Result<(), Fail> {
+fn debugged_runs_halt_at_breaks_and_at_the_end(rt: HostRuntime) -> Result<(), Fail> {
     check::<Halts>(rt.alloc(), ROWS)
 }

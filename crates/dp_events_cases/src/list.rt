@@ -38,6 +38,6 @@ impl Question for Listed {
 }
 
 #[test]
-fn a_listing_is_given_again(rt: HostRuntime) -> Result<(), Fail> {
+fn a_listing_is_retried_after_no_memory(rt: HostRuntime) -> Result<(), Fail> {
     check::<Listed>(rt.alloc(), LISTED)
 }

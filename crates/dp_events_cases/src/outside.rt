@@ -150,6 +150,6 @@ impl Question for FromOutside {
 
 /// What is set and sent from outside does what the rules say, and changes nothing where memory is refused.
 #[test]
-fn events_come_from_outside(rt: HostRuntime) -> Result<(), Fail> {
+fn names_are_set_and_channels_sent_from_outside(rt: HostRuntime) -> Result<(), Fail> {
     check::<FromOutside>(rt.alloc(), ROWS)
 }

@@ -6,46 +6,46 @@ use Rattle.dp_conf.specs.Blanks.{trim}
 use Rattle.dp_conf.specs.Cut.{cut_once}
 use Rattle.dp_conf.specs.Levels.{cut_outside}
 
--- zeros alone
+-- whether a text has only zeros
 abbrev pub all_zeros : List ℕ → Bool
 all_zeros text = list_all (λ digit. digit == 48) text
 
--- one or more zeros
+-- whether a text is one or more zeros
 abbrev pub is_zeros : List ℕ → Bool
 is_zeros [] = false
 is_zeros (b ∷ bs) = all_zeros (b ∷ bs)
 
--- the text without one minus sign at its front
+-- the text without a leading minus sign
 abbrev pub without_sign : List ℕ → List ℕ
 without_sign [] = []
 without_sign (b ∷ bs) = if b == 45 then bs else b ∷ bs
 
--- the text is empty, or a whole number that is zero, however long
+-- whether the text is empty, or a whole number that is zero, of any length
 abbrev pub is_false : List ℕ → Bool
 is_false [] = true
 is_false (b ∷ bs) = is_zeros (without_sign (b ∷ bs))
 
--- a condition holds if it is not false without the blanks at its ends
+-- whether a condition holds: without blanks at its ends it is not false
 unfoldable pub holds : List ℕ → Bool
 holds condition = not (is_false (trim condition))
 
--- a side of a choice; one of blanks alone is as if it were not there
+-- a side of a choice; a side of blanks alone counts as absent
 abbrev pub present_by : List ℕ → List ℕ → Option (List ℕ)
 present_by side [] = None
 present_by side (b ∷ bs) = Some side
 
--- the first or the second of two sides, if it is there
+-- the first or second of two sides, if it is present
 abbrev pub side_of : Bool → List ℕ → Option (List ℕ × List ℕ) → Option (List ℕ)
 side_of true sides None = Some sides
 side_of false sides None = None
 side_of true sides (Some cut) = Some cut.0
 side_of false sides (Some cut) = Some cut.1
 
--- the first or the second of two sides, which the first `:` outside parentheses parts, where there is more in it than blanks
+-- the first or second of two sides, which the first `:` outside parentheses separates, if it has more than blanks
 abbrev pub taken_side : Bool → List ℕ → Option (List ℕ)
 taken_side is_first sides = option_and_then (λ side. present_by side (trim side)) (side_of is_first sides (cut_outside 58 sides))
 
--- a choice by its condition and its sides
+-- the side that a condition chooses
 abbrev pub chosen_by : Option (List ℕ × List ℕ) → Option (List ℕ)
 chosen_by None = None
 chosen_by (Some cut) = taken_side (holds cut.0) cut.1

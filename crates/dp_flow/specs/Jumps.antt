@@ -1,4 +1,4 @@
--- Jumps to targets, subroutines and their ends.
+-- Jumps to targets, and the entry into subroutines and their end.
 use Rattle.std.specs.Prelude.{ℕ, ◌+◌, ◌-◌, List, [], ◌∷◌, ◌++◌, Option, Some, None, length, slice_get, take, codes}
 use Rattle.std.specs.Fmt.{decimal}
 use Rattle.std.specs.Option.{option_map, option_and_then}
@@ -15,11 +15,11 @@ use Rattle.dp_app.specs.declared.target.Target.TheVariants.{To, Existing, Parts}
 use Rattle.dp_app.specs.declared.place.Place.{Place}
 use Rattle.dp_flow.specs.Conditions.{chosen_side}
 
--- the cell stays as it is
+-- the outcome of a move with the cell unchanged
 abbrev pub stays : CellOf → Move → Outcome
 stays cell going = record { cell = cell; next = going }
 
--- a jump to a target by its text
+-- a jump to a target, given its text
 abbrev pub jump_to : List ℕ → Move
 jump_to target = Jump (Parts (arguments_of target))
 
@@ -27,7 +27,7 @@ jump_to target = Jump (Parts (arguments_of target))
 abbrev pub goto_row : Row
 goto_row arguments cell = stays cell (jump_to arguments)
 
--- a jump to the side that is taken, or the next priority where none is
+-- a jump to the side that is taken, or the next priority if there is none
 abbrev pub jump_if : Option (List ℕ) → Move
 jump_if None = Next
 jump_if (Some side) = jump_to side
@@ -36,18 +36,18 @@ jump_if (Some side) = jump_to side
 abbrev pub goto_if_row : Row
 goto_if_row arguments cell = stays cell (jump_if (chosen_side arguments))
 
--- the priority of a subroutine, and the arguments for it
+-- the priority of a subroutine, and its arguments
 pub record SubroutineCall : Type 0 where
   pub priority : List ℕ
   pub arguments : List (List ℕ)
 
--- the arguments between a target's parentheses; there is none between `()`
+-- the arguments between a target's parentheses; `()` has none
 abbrev pub inner_arguments : List ℕ → List (List ℕ)
 inner_arguments [] = []
 inner_arguments (b ∷ bs) = arguments_of (b ∷ bs)
 
--- the last part of a subroutine's target, by its first `(`: the arguments end at the last `)` after it, without which there
--- is no target
+-- the last part of a subroutine's target, given its first `(`: the arguments end at the last `)` after it, and without a `)` there is no
+-- target
 abbrev pub called_by : List ℕ → Option (List ℕ × List ℕ) → Option SubroutineCall
 called_by part None = Some (record { priority = part; arguments = [] })
 called_by part (Some cut) =
@@ -66,7 +66,7 @@ argument_locals number (value ∷ values) = record { name = codes "ARG" ++ decim
 abbrev pub place_after : Place → Place
 place_after place = record { context = place.context; exten = place.exten; priority = place.priority + 1 }
 
--- a subroutine is entered, by the parts before the last one: a frame is pushed that goes back to the place after this one
+-- the entry into a subroutine, given the parts before the last one: it pushes a frame that returns to the place after this one
 abbrev pub enter_subroutine : CellOf → List (List ℕ) → Option SubroutineCall → Outcome
 enter_subroutine cell front None = stays cell Hang
 enter_subroutine cell front (Some c) = record {
@@ -74,7 +74,7 @@ enter_subroutine cell front (Some c) = record {
   next = Jump (Existing (front ++ c.priority ∷ []));
 }
 
--- a subroutine is entered by its target's parts
+-- the entry into a subroutine, given the parts of its target
 abbrev pub gosub_parts : List (List ℕ) → CellOf → Outcome
 gosub_parts parts cell = enter_subroutine cell (take (length parts - 1) parts) (subroutine_call parts)
 
@@ -82,7 +82,7 @@ gosub_parts parts cell = enter_subroutine cell (take (length parts - 1) parts) (
 unfoldable pub gosub_row : Row
 gosub_row arguments cell = gosub_parts (arguments_of arguments) cell
 
--- a subroutine is entered by the side that is taken, where one is
+-- the entry into the subroutine of the side that is taken, if there is one
 abbrev pub gosub_if : Option (List ℕ) → CellOf → Outcome
 gosub_if None cell = stays cell Next
 gosub_if (Some side) cell = gosub_row side cell
@@ -91,16 +91,16 @@ gosub_if (Some side) cell = gosub_row side cell
 unfoldable pub gosub_if_row : Row
 gosub_if_row arguments cell = gosub_if (chosen_side arguments) cell
 
--- the channel goes back to a place, where there is one
+-- the move back to a place, if there is one
 abbrev pub back_to : Option Place → Move
 back_to None = Hang
 back_to (Some place) = Jump (To place)
 
--- the end of a subroutine, by the store and the place that its frame leaves
+-- the end of a subroutine, given the store and the place that its frame leaves
 abbrev pub return_outcome : CellOf → StoreOf Place × Option Place → Outcome
 return_outcome cell popped = record { cell = record cell { store = popped.0 }; next = back_to popped.1 }
 
--- the row of `Return`: the innermost frame goes, and then the value is set
+-- the row of `Return`: it removes the innermost frame, then sets the value
 unfoldable pub return_row : Row
 return_row arguments cell =
     return_outcome cell (popped_setting cell.store (codes "GOSUB_RETVAL") arguments (innermost cell.store.frames))

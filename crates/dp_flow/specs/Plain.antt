@@ -1,4 +1,4 @@
--- The rows of applications that leave the cell as it is.
+-- The rows of applications that do not change the cell.
 use Rattle.dp_app.specs.Rows.{Row}
 use Rattle.dp_app.specs.declared.moves.Move.TheVariants.{Next, Hang}
 use Rattle.dp_flow.specs.Jumps.{stays}

@@ -1,4 +1,4 @@
--- What each application may change of a cell.
+-- The parts of a cell that each application may change.
 use Rattle.std.specs.Prelude.{true, false}
 use Rattle.dp_app.specs.declared.touch.Touch.{Touch}
 

@@ -15,10 +15,10 @@ park_move phase is_closing = if is_closing then Hang else Park phase
 abbrev pub wait_row : Row
 wait_row arguments cell = stays cell (park_move Pause cell.is_closing)
 
--- the row of `WaitExten`: no digit came yet
+-- the row of `WaitExten`: no digit has come yet
 abbrev pub wait_exten_row : Row
 wait_exten_row arguments cell = stays cell (park_move (Digits [] false) cell.is_closing)
 
--- the row of `Background`: no digit came yet, and a time-out goes on
+-- the row of `Background`: no digit has come yet, and after a time-out the channel goes on
 abbrev pub background_row : Row
 background_row arguments cell = stays cell (park_move (Digits [] true) cell.is_closing)

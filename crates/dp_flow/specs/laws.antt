@@ -1,2 +1,2 @@
--- Proofs of what the ghost members of applications and tables say, which stand here since these members name them.
+-- Proofs of what the ghost members of applications and tables say. They are here because these members name them.
 pub mod Lawful

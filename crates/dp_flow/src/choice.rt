@@ -23,7 +23,7 @@ fn is_zeros(text: &[u8]) -> bool
     }
 }
 
-/// The text without one minus sign at its front.
+/// The text without a leading minus sign.
 fn without_sign(text: &[u8]) -> &[u8]
     ensures { result.now ≡ spec.without_sign text.now }
 {
@@ -33,8 +33,8 @@ fn without_sign(text: &[u8]) -> &[u8]
     }
 }
 
-/// Whether a condition holds: without its blanks it is neither empty nor a whole number that is zero, however long (a
-/// choice of this program).
+/// Whether a condition holds: without its blanks it is neither empty nor a whole number that is zero, of any length (a choice of this
+/// program).
 #[tactic(auto, unfolding(crate::specs::Conditions::holds))]
 pub fn holds(condition: &[u8]) -> bool
     ensures { result ≡ spec.holds condition.now }
@@ -43,7 +43,7 @@ pub fn holds(condition: &[u8]) -> bool
     !text.is_empty() && !is_zeros(without_sign(text))
 }
 
-/// The side of a choice, where there is more in it than blanks.
+/// The side of a choice, if it has more than blanks.
 fn present(side: &[u8]) -> Option<&[u8]>
     ensures { option_map (λ s. s.now) result ≡ spec.present_by side.now (trim side.now) }
 {
@@ -53,7 +53,7 @@ fn present(side: &[u8]) -> Option<&[u8]>
     Some(side)
 }
 
-/// The first or the second of two sides, which the first `:` outside parentheses parts, where there is more in it than blanks.
+/// The first or second of two sides, which the first `:` outside parentheses separates, if it has more than blanks.
 pub fn taken_side(is_first: bool, sides: &[u8]) -> Option<&[u8]>
     ensures { option_map (λ s. s.now) result ≡ spec.taken_side is_first sides.now }
 {
@@ -65,7 +65,7 @@ pub fn taken_side(is_first: bool, sides: &[u8]) -> Option<&[u8]>
     }
 }
 
-/// The side of `CONDITION?SIDE:SIDE` that is taken, where it is there.
+/// The side of `CONDITION?SIDE:SIDE` that is taken, if there is one.
 #[tactic(auto, unfolding(crate::specs::Conditions::chosen_side))]
 pub fn chosen_side(arguments: &[u8]) -> Option<&[u8]>
     ensures { option_map (λ s. s.now) result ≡ spec.chosen_side arguments.now }

@@ -1,5 +1,5 @@
-//! The application that calls devices, after the Asterisk documentation's page on `Dial`. Media and devices are left out: what
-//! comes of the call is told by an event.
+//! The application that calls devices, after the Asterisk documentation's page on `Dial`. Media and devices are left out: an event gives
+//! the result of the call.
 ghost use Rattle.std.specs.Prelude.{◌≡◌, IfOk, OnErr, map};
 ghost use Rattle.dp_app.specs.Cells.{KeepsLoans, cell_now};
 ghost use Rattle.dp_flow.specs.Dialling as spec;
@@ -9,7 +9,7 @@ use dp_app::{Application, Cell, Move, Phase, Touch, has_option, is_given, part};
 use dp_conf::{NoMemory, split_args};
 use std::alloc::Global;
 
-/// Calls the devices that the parts of the arguments name. After a refused growth the cell is as before.
+/// Calls the devices that the parts of the arguments name. If memory runs out the cell is as before.
 fn dial_by_parts(alloc: Global, parts: &[&[u8]], cell: &mut Cell) -> Result<Move, NoMemory>
     ensures ok { IfOk result (λ going. spec.dial_by (map (λ part. part.now) parts.now) (cell_now cell.old)
         ≡ record { cell = cell_now cell.new; next = going }) }
@@ -27,11 +27,11 @@ fn dial_by_parts(alloc: Global, parts: &[&[u8]], cell: &mut Cell) -> Result<Move
     Ok(Move::Next)
 }
 
-/// `Dial(devices[,time[,options[,URL]]])`: the devices are called, and the channel waits for what comes of it, which
-/// `DIALSTATUS` then reads. The devices are one text, which nothing looks into. A time that is not empty lets a time-out end
-/// the call to them, and an option `g` outside parentheses lets the channel go on when the far side has answered and hung up;
-/// other options and the URL have no effect (a choice of this program). Without devices `DIALSTATUS` is `CHANUNAVAIL` and the
-/// channel goes on, and during `h` the call ends in place of the wait (both choices of this program).
+/// `Dial(devices[,time[,options[,URL]]])`: the devices are called, and the channel waits for the result, which is then the value of
+/// `DIALSTATUS`. The devices are one text, which is not examined. If there is a time, a time-out ends the call to the devices. With the
+/// option `g` outside parentheses the channel goes on when the far side has answered and hung up; other options and the URL have no effect
+/// (a choice of this program). Without devices `DIALSTATUS` is `CHANUNAVAIL` and the channel goes on, and during `h` the call ends instead
+/// of waiting (both choices of this program).
 pub struct Dial;
 
 impl Application for Dial {

@@ -16,15 +16,15 @@ use dp_vars::{Local, LocalName};
 use itoa::Buffer;
 use std::alloc::Global;
 
-/// The priority of a subroutine, and the text of the arguments for it, where it has some.
+/// The priority of a subroutine, and the text of its arguments, if it has any.
 #[derive(Clone, Copy)]
 pub struct SubroutineCall<'a> {
     pub priority: &'a [u8],
     pub arguments: &'a [u8],
 }
 
-/// The last part of a subroutine's target. Its arguments stand between its first `(` and its last `)`, and with no `)` it is
-/// no target (a choice of this program).
+/// The last part of a subroutine's target. Its arguments are between its first `(` and its last `)`, and without a `)` it is no target (a
+/// choice of this program).
 pub fn called_by(part: &[u8]) -> Option<SubroutineCall<'_>>
     ensures { option_map calls.called_now result ≡ spec.called_by part.now (cut_once 40 part.now) }
 {
@@ -53,7 +53,7 @@ fn argument_name(alloc: Global, number: usize) -> Result<LocalName, NoMemory>
     Ok(name)
 }
 
-/// Adds the local of a number.
+/// Adds the local with a number.
 fn push_local(
     alloc: Global,
     locals: &mut Vec<Local>,
@@ -68,9 +68,9 @@ fn push_local(
     Ok(())
 }
 
-/// The locals of a subroutine by its arguments' text: `ARG1`, `ARG2` and so on.
+/// The locals of a subroutine, given the text of its arguments: `ARG1`, `ARG2` and so on.
 ///
-/// The error comes only where a growth was refused.
+/// It fails only if memory runs out.
 pub fn locals_of(alloc: Global, arguments: &[u8]) -> Result<Vec<Local>, NoMemory>
     ensures { IfOk result (λ locals. locals.items ≡ spec.argument_locals 1 (spec.inner_arguments arguments.now)) }
 {
@@ -89,7 +89,7 @@ pub fn locals_of(alloc: Global, arguments: &[u8]) -> Result<Vec<Local>, NoMemory
     Ok(locals)
 }
 
-/// The place after a place. The error comes only where a growth was refused.
+/// The place after a place. It fails only if memory runs out.
 pub fn place_after(place: &Place) -> Result<Place, NoMemory>
     requires { place.now.priority ≤ most_priority }
     ensures { IfOk result (λ after. after ≡ spec.place_after place.now) }
@@ -99,8 +99,7 @@ pub fn place_after(place: &Place) -> Result<Place, NoMemory>
     Ok(after)
 }
 
-/// A subroutine is entered, by the parts of its target, of which the last one is apart. After a refused growth the cell is
-/// as before.
+/// Enters a subroutine, given the parts of its target, with the last part separate. If memory runs out the cell is as before.
 fn enter(
     alloc: Global,
     front: &[&[u8]],
@@ -120,7 +119,7 @@ fn enter(
     Ok(Move::Jump(Target::Existing(target)))
 }
 
-/// A subroutine is entered by the parts of its target. After a refused growth the cell is as before.
+/// Enters a subroutine, given the parts of its target. If memory runs out the cell is as before.
 #[inline(always)]
 fn enter_by_parts(alloc: Global, parts: &[&[u8]], cell: &mut Cell) -> Result<Move, NoMemory>
     requires { cell.old.place.now.priority ≤ most_priority }
@@ -139,7 +138,7 @@ fn enter_by_parts(alloc: Global, parts: &[&[u8]], cell: &mut Cell) -> Result<Mov
     Ok(going)
 }
 
-/// A subroutine is entered by the text of a target that has more than three parts.
+/// Enters a subroutine, given the text of a target with more than three parts.
 fn enter_by_many(alloc: Global, target: &[u8], cell: &mut Cell) -> Result<Move, NoMemory>
     requires { cell.old.place.now.priority ≤ most_priority }
     ensures ok { IfOk result (λ going. spec.gosub_parts (arguments_of target.now) (cell_now cell.old)
@@ -152,7 +151,7 @@ fn enter_by_many(alloc: Global, target: &[u8], cell: &mut Cell) -> Result<Move, 
     Ok(going)
 }
 
-/// A subroutine is entered by the text of its target. After a refused growth the cell is as before.
+/// Enters a subroutine, given the text of its target. If memory runs out the cell is as before.
 #[tactic(auto, unfolding(crate::specs::Jumps::gosub_row))]
 fn enter_by_text(alloc: Global, target: &[u8], cell: &mut Cell) -> Result<Move, NoMemory>
     requires { cell.old.place.now.priority ≤ most_priority }
@@ -175,8 +174,8 @@ fn enter_by_text(alloc: Global, target: &[u8], cell: &mut Cell) -> Result<Move, 
     enter_by_parts(alloc, &[trim(first), trim(second), trim(third)], cell)
 }
 
-/// `Gosub([[context,]extension,]priority[(arguments)])`: a frame is pushed that goes back to the place after this one, with
-/// the arguments as its locals `ARG1`, `ARG2` and so on, and the channel goes to the target if an entry is found there.
+/// `Gosub([[context,]extension,]priority[(arguments)])`: pushes a frame that returns to the place after this one, with the arguments as its
+/// locals `ARG1`, `ARG2` and so on. The channel goes to the target if an entry is found there.
 pub struct Gosub;
 
 impl Application for Gosub {
@@ -208,8 +207,8 @@ impl Application for Gosub {
     }
 }
 
-/// `GosubIf(condition?[target][:target])`: `Gosub` of the side that is taken. A side that is not there, or of blanks alone, is
-/// the next priority.
+/// `GosubIf(condition?[target][:target])`: does `Gosub` with the side that is taken. A side that is missing, or of blanks alone, means the
+/// next priority.
 pub struct GosubIf;
 
 impl Application for GosubIf {
@@ -247,8 +246,8 @@ impl Application for GosubIf {
     }
 }
 
-/// `Return([value])`: the innermost frame goes, `GOSUB_RETVAL` is set to the value, and the channel goes back to the frame's
-/// place. With no frame the call ends.
+/// `Return([value])`: removes the innermost frame, sets `GOSUB_RETVAL` to the value, and sends the channel back to the frame's place.
+/// Without a frame the call ends.
 pub struct Return;
 
 impl Application for Return {
@@ -287,7 +286,7 @@ impl Application for Return {
     }
 }
 
-/// `StackPop()`: the innermost frame goes, where there is one, and the channel goes on.
+/// `StackPop()`: removes the innermost frame, if there is one, and the channel goes on.
 pub struct StackPop;
 
 impl Application for StackPop {

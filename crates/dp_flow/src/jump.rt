@@ -8,7 +8,7 @@ use dp_app::{Application, Cell, Move, Target, TargetParts, Touch};
 use dp_conf::NoMemory;
 use std::alloc::Global;
 
-/// A jump to a target by its text.
+/// A jump to a target, given its text.
 fn jump_to(alloc: Global, target: &[u8]) -> Result<Move, NoMemory>
     ensures { IfOk result (λ going. going ≡ spec.jump_to target.now) }
 {
@@ -16,7 +16,7 @@ fn jump_to(alloc: Global, target: &[u8]) -> Result<Move, NoMemory>
     Ok(Move::Jump(Target::Parts(parts)))
 }
 
-/// A jump to a side by its text, or to the next priority where there is none.
+/// A jump to a side, given its text, or to the next priority if there is none.
 pub fn jump_if(alloc: Global, side: Option<&[u8]>) -> Result<Move, NoMemory>
     ensures { IfOk result (λ going. going ≡ spec.jump_if (option_map (λ side. side.now) side.entry)) }
 {
@@ -54,8 +54,8 @@ impl Application for Goto {
     }
 }
 
-/// `GotoIf(condition?[target][:target])`: the channel goes to the target on the side that is taken. A side that is not there,
-/// or of blanks alone, is the next priority.
+/// `GotoIf(condition?[target][:target])`: the channel goes to the target on the side that is taken. A side that is missing, or of blanks
+/// alone, means the next priority.
 pub struct GotoIf;
 
 impl Application for GotoIf {

@@ -1,5 +1,5 @@
-//! The applications of the flow of a call, after the Asterisk documentation's application reference: jumps, subroutines,
-//! variables, waits, and those that media is left out of.
+//! The applications for the flow of a call, after the Asterisk documentation's application reference: jumps, subroutines, variables, waits,
+//! and those whose media is left out.
 #![tactic(auto)]
 
 mod choice;

@@ -1,5 +1,5 @@
-//! The applications that leave the cell as it is, after the Asterisk documentation's application reference. Media is left
-//! out, so those that only play or print go on.
+//! The applications that do not change the cell, after the Asterisk documentation's application reference. Media is left out, so
+//! applications that only play or print go on.
 ghost use Rattle.std.specs.Prelude.{◌≡◌};
 
 use dp_app::{Application, Cell, Move, Touch};

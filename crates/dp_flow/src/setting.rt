@@ -9,7 +9,7 @@ use dp_app::{Application, Cell, Move, Touch};
 use dp_conf::{NoMemory, Text, before_last, cut_once, trim};
 use std::alloc::Global;
 
-/// The argument of a function that is set, by what stands after its `(`: the `)` has to be the last byte.
+/// The argument of a function that is set, given the text after its `(`: the `)` has to be the last byte.
 pub fn argument_of(after: &[u8]) -> Option<&[u8]>
     ensures { option_map (λ argument. argument.now) result ≡ spec.argument_of after.now }
 {
@@ -21,7 +21,7 @@ pub fn argument_of(after: &[u8]) -> Option<&[u8]>
     }
 }
 
-/// Sets a function of an argument. After a refused growth the cell is as before.
+/// Sets a function with an argument. If memory runs out the cell is as before.
 fn set_function(
     alloc: Global,
     cell: &mut Cell,
@@ -46,7 +46,7 @@ fn set_function(
     Ok(())
 }
 
-/// Sets a name, a variable or a function. After a refused growth the cell is as before.
+/// Sets a name, a variable or a function. If memory runs out the cell is as before.
 fn set_name(alloc: Global, cell: &mut Cell, name: &[u8], value: &[u8]) -> Result<(), NoMemory>
     ensures ok { OnOk result (cell_now cell.new ≡ spec.with_value (cell_now cell.old) name.now value.now) }
     ensures err { OnErr result (cell_now cell.new ≡ cell_now cell.old) }
@@ -66,9 +66,9 @@ fn set_name(alloc: Global, cell: &mut Cell, name: &[u8], value: &[u8]) -> Result
     }
 }
 
-/// `Set(NAME=value)`: the name, without its blanks, has the value from now on, as it stands. A local of the innermost frame
-/// that has one of that name is written, else the channel's variable. `GLOBAL(name)`, `LOCAL(name)` and `CALLERID(num)` write
-/// a global, a local of the innermost frame, and the caller's number; other functions have no effect.
+/// `Set(NAME=value)`: the name, without its blanks, has the value from now on, unchanged. It is written to the local of the innermost frame
+/// that has one of that name, else to the channel's variable. `GLOBAL(name)`, `LOCAL(name)` and `CALLERID(num)` write a global, a local of
+/// the innermost frame, and the caller's number; other functions have no effect.
 pub struct Set;
 
 impl Application for Set {

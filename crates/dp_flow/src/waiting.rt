@@ -8,7 +8,7 @@ use dp_app::{Application, Cell, Move, Phase, Touch};
 use dp_conf::{NoMemory, Text};
 use std::alloc::Global;
 
-/// The channel waits in this phase. One that runs the extension `h` is hung up and cannot wait, so its call ends.
+/// The channel waits in this phase. A channel that runs the extension `h` is hung up and cannot wait, so its call ends.
 pub(crate) fn park_move(phase: Phase, is_closing: bool) -> Move
     ensures { result ≡ spec.park_move phase is_closing }
 {
@@ -18,7 +18,7 @@ pub(crate) fn park_move(phase: Phase, is_closing: bool) -> Move
     Move::Park(phase)
 }
 
-/// Digits, of which none came yet. It never allocates.
+/// Digits, of which none has come yet. It never allocates.
 fn no_digits(alloc: Global, is_background: bool) -> Phase
     ensures { result ≡ Digits [] is_background }
 {
@@ -28,8 +28,8 @@ fn no_digits(alloc: Global, is_background: bool) -> Phase
     }
 }
 
-/// `Wait(seconds)`: the channel waits until a time-out and goes on then; the number of seconds has no effect, and digits
-/// have none. During `h` the call ends in place of the wait (a choice of this program).
+/// `Wait(seconds)`: the channel waits until a time-out and then goes on; neither the number of seconds nor digits have an effect. During
+/// `h` the call ends instead of waiting (a choice of this program).
 pub struct Wait;
 
 impl Application for Wait {
@@ -57,8 +57,8 @@ impl Application for Wait {
     }
 }
 
-/// `WaitExten(seconds)`: the channel waits for the digits of an extension. A time-out with no digit goes on if the next
-/// priority is there, else to the extension `t`. During `h` the call ends in place of the wait (a choice of this program).
+/// `WaitExten(seconds)`: the channel waits for the digits of an extension. On a time-out without a digit it goes on if the next priority
+/// exists, else to the extension `t`. During `h` the call ends instead of waiting (a choice of this program).
 pub struct WaitExten;
 
 impl Application for WaitExten {
@@ -86,8 +86,8 @@ impl Application for WaitExten {
     }
 }
 
-/// `Background(files)`: nothing is played here, and the channel waits for the digits of an extension. A time-out with no
-/// digit goes on at the next priority. During `h` the call ends in place of the wait (a choice of this program).
+/// `Background(files)`: nothing is played here, and the channel waits for the digits of an extension. On a time-out without a digit it goes
+/// on at the next priority. During `h` the call ends instead of waiting (a choice of this program).
 pub struct Background;
 
 impl Application for Background {

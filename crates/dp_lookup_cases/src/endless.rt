@@ -163,11 +163,11 @@ impl Question for Loops {
 }
 
 #[test]
-fn calls_go_on_in_another_extension(rt: HostRuntime) -> Result<(), Fail> {
+fn fall_throughs_are_found(rt: HostRuntime) -> Result<(), Fail> {
     check::<FallThroughs>(rt.alloc(), FALL_THROUGHS)
 }
 
 #[test]
-fn runs_are_endless(rt: HostRuntime) -> Result<(), Fail> {
+fn endless_runs_are_found(rt: HostRuntime) -> Result<(), Fail> {
     check::<Loops>(rt.alloc(), LOOPS)
 }

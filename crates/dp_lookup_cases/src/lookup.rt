@@ -30,6 +30,6 @@ fn check_tables(alloc: Global) -> Result<(), Fail> {
 }
 
 #[test]
-fn look_ups_have_these_answers(rt: HostRuntime) -> Result<(), Fail> {
+fn look_ups_in_small_dialplans(rt: HostRuntime) -> Result<(), Fail> {
     check_tables(rt.alloc())
 }

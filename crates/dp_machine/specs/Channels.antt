@@ -1,4 +1,4 @@
--- What becomes of one channel: where it goes, and how it ends.
+-- How one channel changes: where it goes, and how it ends.
 use Rattle.std.specs.Prelude.{ℕ, ◌+◌, Bool, true, false, not, ◌&&◌, List, [], ◌∷◌, Option, Some, None, codes, if◌then◌else◌}
 use Rattle.dp_plan.specs.Plan.{PlanOf}
 use Rattle.dp_vars.specs.Stores.{set}
@@ -26,7 +26,7 @@ ready_in c exten = ready_at c (place_of c.place.context exten 1)
 abbrev pub going_on : Channel → Channel
 going_on c = ready_at c (place_of c.place.context c.place.exten (c.place.priority + 1))
 
--- the channel with a name set: a local of the innermost frame that has it as one, else its variable
+-- the channel with a name set: the local of the innermost frame that has the name, else the channel's variable
 abbrev pub with_value : Channel → List ℕ → List ℕ → Channel
 with_value c name value = record c { store = set c.store name value }
 
@@ -34,17 +34,17 @@ with_value c name value = record c { store = set c.store name value }
 abbrev pub without_frames : Channel → Channel
 without_frames c = record c { store = record c.store { frames = [] } }
 
--- whether a hang-up goes on at the extension `h`: once, and where it is found in the channel's context
+-- whether a hang-up continues at the extension `h`: only once, and only if it is found in the channel's context
 abbrev pub runs_hang_up : PlanOf → Channel → Bool
 runs_hang_up plan c = not c.is_closing && is_found plan c.place.context (codes "h") 1
 
--- the channel after a hang-up: its frames are dropped, and it runs the extension `h` of its context or is over
+-- the channel after a hang-up: it loses its frames, and runs the extension `h` of its context or is over
 unfoldable pub hung_up : PlanOf → Channel → Channel
 hung_up plan c =
     if runs_hang_up plan c then record (ready_in (without_frames c) (codes "h")) { is_closing = true }
     else record (without_frames c) { phase = Ended }
 
--- the channel at the place of a target; where there is none it is hung up
+-- the channel at the place of a target; without a place it is hung up
 abbrev pub at_target : PlanOf → Channel → Option Place → Channel
 at_target plan c None = hung_up plan c
 at_target plan c (Some place) = ready_at c place
@@ -56,32 +56,32 @@ after_move plan c (Jump target) = at_target plan c (target_place plan c.place ta
 after_move plan c (Park phase) = record c { phase = phase }
 after_move plan c Hang = hung_up plan c
 
--- the channel after its application; a name that the table lacks is a hang-up
+-- the channel after its application; a name that the table lacks hangs it up
 abbrev pub after_application : PlanOf → Channel → Option Move → Channel
 after_application plan c None = hung_up plan c
 after_application plan c (Some move) = after_move plan c move
 
--- whether the extension of a place is not there, and `i` is found in its context
+-- whether the extension of a place does not exist, but `i` is found in its context
 abbrev pub is_invalid : PlanOf → Place → Bool
 is_invalid plan place = not (is_found plan place.context place.exten 1) && is_found plan place.context (codes "i") 1
 
--- the channel at the extension `i`, which reads what was dialled
+-- the channel at the extension `i`, where it reads what was dialled
 abbrev pub invalid : Channel → Channel
 invalid c = ready_in (with_value c (codes "INVALID_EXTEN") c.place.exten) (codes "i")
 
--- the channel after one more digit: it waits for more where the digits may go on, else it goes where they lead
+-- the channel after one more digit: it waits for more if the digits may continue, else it goes where they lead
 abbrev pub after_digit : Bool → Channel → List ℕ → Bool → Channel
 after_digit true c digits is_background = record c { phase = Digits digits is_background }
 after_digit false c digits is_background = ready_in c digits
 
--- the channel that waited for digits by `WaitExten`, and none came: it goes on, or else to the extension `t`, or is hung up
+-- the channel that waited for digits in `WaitExten` without any: it goes on, or to the extension `t`, or is hung up
 abbrev pub after_wait : PlanOf → Channel → Channel
 after_wait plan c =
     if is_found plan c.place.context c.place.exten (c.place.priority + 1) then going_on c
     else if is_found plan c.place.context (codes "t") 1 then ready_in c (codes "t")
     else hung_up plan c
 
--- the channel that waited for digits and for which none came in time, by whether `Background` asked for them
+-- the channel that waited for digits of which none came in time, given whether `Background` asked for them
 abbrev pub without_digits : PlanOf → Channel → Bool → Channel
 without_digits plan c true = going_on c
 without_digits plan c false = after_wait plan c
@@ -91,7 +91,7 @@ abbrev pub timed_out : PlanOf → Channel → List ℕ → Bool → Channel
 timed_out plan c [] is_background = without_digits plan c is_background
 timed_out plan c (b ∷ bs) is_background = ready_in c (b ∷ bs)
 
--- the channel that leaves its queue, which reads why
+-- the channel that leaves its queue and reads why
 abbrev pub left_queue : Channel → List ℕ → Channel
 left_queue c status = going_on (with_value c (codes "QUEUESTATUS") status)
 
@@ -105,24 +105,24 @@ goes_on_after (Talking queue agent goes_on) = goes_on
 goes_on_after (Dialling goes_on has_timer) = false
 goes_on_after Ended = false
 
--- the channel after the end of its talk, by whether it goes on
+-- the channel after its talk, given whether it goes on
 abbrev pub after_talk : PlanOf → Channel → Bool → Channel
 after_talk plan c true = left_queue c (codes "CONTINUE")
 after_talk plan c false = hung_up plan c
 
--- the channel that reads what came of its call to devices
+-- the channel that reads the result of its call to devices
 abbrev pub with_dial_status : Channel → List ℕ → Channel
 with_dial_status c status = with_value c (codes "DIALSTATUS") status
 
--- the channel after the end of the time of its call to devices
+-- the channel after its call to devices has timed out
 abbrev pub after_no_answer : Channel → Channel
 after_no_answer c = going_on (with_dial_status c (codes "NOANSWER"))
 
--- the channel after a hang-up while its call to devices lasts
+-- the channel after a hang-up during its call to devices
 abbrev pub after_cancel : PlanOf → Channel → Channel
 after_cancel plan c = hung_up plan (with_dial_status c (codes "CANCEL"))
 
--- whether a channel is hung up with the far side, which answered: where it does not go on
+-- whether a channel is hung up together with the far side that answered: only if it does not go on
 abbrev pub ends_call : DialStatus → Bool → Bool
 ends_call Answer goes_on = not goes_on
 ends_call Busy goes_on = false
@@ -136,11 +136,11 @@ after_dialling plan c status goes_on =
     if ends_call status goes_on then hung_up plan (with_dial_status c (status_name status))
     else going_on (with_dial_status c (status_name status))
 
--- what an event of an agent makes of a channel
+-- how an event of an agent changes a channel
 pub data Change : Type 0 where
   -- it stays as it is
   Stays : Change
-  -- it talks with the agent of a number, in the queue of a number
+  -- it talks with the agent with a number, in the queue with a number
   Talks : ℕ → ℕ → Change
   -- its talk ends
   TalkEnds : Change

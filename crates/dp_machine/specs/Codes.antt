@@ -1,4 +1,4 @@
--- The numbers of the refusals and the names that are printed beside them, and the names of what comes of a call to devices.
+-- The numbers of the refusals and their printed names, and the names of the results of a call to devices.
 use Rattle.std.specs.Prelude.{ℕ, List, codes}
 use Rattle.dp_machine.specs.declared.refusal.Refusal.{Refusal}
 use Rattle.dp_machine.specs.declared.refusal.Refusal.TheVariants.{NoChannel, NotReady, NotWaiting, NoTimer, NoQueue, NobodyWaiting, NoMember, NotRinging, NotTalking, Ended, NumbersSpent, BadDigit, BadPlan, NotDialling}
@@ -39,7 +39,7 @@ refusal_name BadDigit = codes "BadDigit"
 refusal_name BadPlan = codes "BadPlan"
 refusal_name NotDialling = codes "NotDialling"
 
--- the value of `DIALSTATUS` for what comes of a call to devices
+-- the value of `DIALSTATUS` for the result of a call to devices
 abbrev pub status_name : DialStatus → List ℕ
 status_name Answer = codes "ANSWER"
 status_name Busy = codes "BUSY"

@@ -1,4 +1,4 @@
--- What each event makes of a world, and the reply.
+-- How each event changes a world, and the reply to it.
 use Rattle.std.specs.Prelude.{ℕ, ◌+◌, Bool, true, false, ◌&&◌, ◌||◌, ◌==◌, nat_lt, nat_le, List, [], ◌∷◌, ◌++◌, length, Option, Some, None, Result, Ok, Err, slice_get, if◌then◌else◌, codes}
 use Rattle.std.specs.Option.{option_and_then, option_map, unwrap_or}
 use Rattle.dp_plan.specs.Plan.{PlanOf}
@@ -38,35 +38,35 @@ use Rattle.dp_machine.specs.declared.reply.Reply.{Reply}
 use Rattle.dp_machine.specs.declared.reply.Reply.TheVariants.{Started, Ran, Invalid, NoEntry, Offered, Done, Refused}
 use Rattle.dp_machine.specs.declared.shared_state.SharedState.{SharedState}
 
--- what a channel's event makes of the channel and of what all channels share, and the reply
+-- how a channel's event changes the channel and what all channels share, and the reply
 pub record Own : Type 0 where
   pub channel : Channel
   pub shared : SharedState
   pub reply : Reply
 
--- what a call that comes in makes of the channels, and the reply
+-- how an incoming phone call changes the channels, and the reply
 pub record Entered : Type 0 where
   pub channels : List Channel
   pub reply : Reply
 
--- what an agent's event makes of what all channels share, which channel it changes and how, and the reply
+-- how an agent's event changes what all channels share, which channel it changes and how, and the reply
 pub record Served : Type 0 where
   pub shared : SharedState
   pub who : ℕ
   pub change : Change
   pub reply : Reply
 
--- what an application makes of its channel and of what all channels share, and where it sends the channel
+-- how an application changes its channel and what all channels share, and where it sends the channel
 pub record Applied : Type 0 where
   pub channel : Channel
   pub shared : SharedState
   pub going : Option Move
 
--- a refused event leaves all as it was
+-- a refused event changes nothing
 abbrev pub refuse : Refusal → SharedState → Channel → Own
 refuse refusal shared c = record { channel = c; shared = shared; reply = Refused refusal }
 
--- an event that is taken, and leaves this channel and this shared part
+-- an event that is taken and results in this channel and this shared part
 abbrev pub take_event : SharedState → Channel → Own
 take_event shared c = record { channel = c; shared = shared; reply = Done }
 
@@ -74,19 +74,19 @@ take_event shared c = record { channel = c; shared = shared; reply = Done }
 abbrev pub with_queues : SharedState → QueuesOf → SharedState
 with_queues shared queues = record { globals = shared.globals; queues = queues }
 
--- the shared part with a global set
+-- the shared part with one global set
 abbrev pub with_shared_global : SharedState → List ℕ → List ℕ → SharedState
 with_shared_global shared name value = record shared { globals = insert shared.globals name value }
 
--- the shared part after a channel that leaves its queue: the agents that rang for it are idle
+-- the shared part after a channel has left its queue: the agents that rang for it are idle
 abbrev pub without_caller : SharedState → ℕ → SharedState
 without_caller shared number = with_queues shared (leave_row shared.queues number).0
 
--- the shared part after the end of a channel's talk
+-- the shared part after a channel's talk has ended
 abbrev pub without_talk : SharedState → ℕ → SharedState
 without_talk shared number = with_queues shared (end_talk_row shared.queues number).0
 
--- what an application sees of a channel and of what all channels share
+-- the part of a channel and of what all channels share that an application sees
 abbrev pub cell_of : SharedState → ℕ → Channel → CellOf
 cell_of shared number c = record {
   number = number;
@@ -98,7 +98,7 @@ cell_of shared number c = record {
   queues = shared.queues;
 }
 
--- the channel and the shared part after an application, and where it sends the channel
+-- the channel and the shared part after an application, and where the application sends the channel
 abbrev pub application_outcome : Channel → CellOf × Option Move → Applied
 application_outcome c after = record {
   channel = record c { caller = after.0.caller; store = after.0.store };
@@ -110,19 +110,19 @@ application_outcome c after = record {
 abbrev pub after_run : PlanOf → EntryId → Applied → Own
 after_run plan id after = record { channel = after_application plan after.channel after.going; shared = after.shared; reply = Ran id }
 
--- a step where no entry is found: to the extension `i` if the extension is not there, else a hang-up
+-- a step that finds no entry: it goes to the extension `i` if the extension does not exist, else it hangs up
 unfoldable pub unfound : PlanOf → SharedState → Channel → Own
 unfound plan shared c =
     if is_invalid plan c.place then record { channel = invalid c; shared = shared; reply = Invalid }
     else record { channel = hung_up plan c; shared = shared; reply = NoEntry }
 
--- a step, by the entry at the channel's place: its application is run with its arguments expanded
+-- a step, given the entry at the channel's place: it runs the entry's application with expanded arguments
 abbrev pub step_at : Meanings → PlanOf → SharedState → ℕ → Channel → Option Located → Own
 step_at meanings plan shared number c None = unfound plan shared c
 step_at meanings plan shared number c (Some found) =
     after_run plan found.id (application_outcome c (after_dispatch (meanings.rows found.entry.application) (arguments_seen meanings.functions shared number c found.entry.arguments) (cell_of shared number c)))
 
--- a step, by the channel's phase
+-- a step, given the channel's phase
 abbrev pub step_in : Meanings → Phase → PlanOf → SharedState → ℕ → Channel → Own
 step_in meanings Ready plan shared number c = step_at meanings plan shared number c (entry_found plan c.place)
 step_in meanings (Digits digits is_background) plan shared number c = refuse NotReady shared c
@@ -136,25 +136,25 @@ step_in meanings phase_ended plan shared number c = refuse Ended shared c
 unfoldable pub step_row : Meanings → PlanOf → SharedState → ℕ → Channel → Own
 step_row meanings plan shared number c = step_in meanings c.phase plan shared number c
 
--- the digits of a telephone
+-- whether a byte is a telephone digit
 abbrev pub is_digit : ℕ → Bool
 is_digit byte = nat_le 48 byte && nat_le byte 57 || byte == 42 || byte == 35 || nat_le 65 byte && nat_le byte 68
 
--- a digit that a channel waits for
+-- a digit for which a channel waits
 abbrev pub collect : PlanOf → SharedState → Channel → List ℕ → Bool → Own
 collect plan shared c digits is_background = take_event shared (after_digit (could_go_on plan c.place.context digits) c digits is_background)
 
--- the context in which the digits of those that wait in the queue of a number are looked up
+-- the context in which the digits of channels that wait in the queue with a number are looked up
 abbrev pub way_out_of : QueuesOf → ℕ → List ℕ
 way_out_of queues queue = unwrap_or (option_map (λ q. q.settings.context) (slice_get queues.queues queue)) []
 
--- a digit of a channel that waits in a queue: where it is found in the queue's context the channel leaves and goes there, its status as it was
+-- a digit of a channel that waits in a queue: if the queue's context has it the channel leaves and goes there, with its status as it was
 abbrev pub way_out : PlanOf → SharedState → ℕ → Channel → ℕ → List ℕ → Own
 way_out plan shared number c digit context =
     if is_found plan context (digit ∷ []) 1 then take_event (without_caller shared number) (ready_at c (place_of context (digit ∷ []) 1))
     else take_event shared c
 
--- a digit of a telephone, by the channel's phase
+-- a telephone digit, given the channel's phase
 abbrev pub dial_in : Phase → ℕ → PlanOf → SharedState → ℕ → Channel → Own
 dial_in Ready digit plan shared number c = refuse NotWaiting shared c
 dial_in (Digits digits is_background) digit plan shared number c = collect plan shared c (digits ++ digit ∷ []) is_background
@@ -164,7 +164,7 @@ dial_in (Talking queue agent goes_on) digit plan shared number c = refuse NotWai
 dial_in (Dialling goes_on has_timer) digit plan shared number c = take_event shared c
 dial_in phase_ended digit plan shared number c = refuse Ended shared c
 
--- whether the channel is over
+-- whether a channel is over, given its phase
 abbrev pub is_over : Phase → Bool
 is_over Ready = false
 is_over (Digits digits is_background) = false
@@ -174,7 +174,7 @@ is_over (Talking queue agent goes_on) = false
 is_over (Dialling goes_on has_timer) = false
 is_over phase_ended = true
 
--- the event `Digit`: a byte that is no digit is refused where the channel is not over, whatever it waits for
+-- the event `Digit`: a byte that is no digit is refused unless the channel is over, whatever it waits for
 unfoldable pub digit_row : ℕ → PlanOf → SharedState → ℕ → Channel → Own
 digit_row digit plan shared number c =
     if is_over c.phase || is_digit digit then dial_in c.phase digit plan shared number c else refuse BadDigit shared c
@@ -183,7 +183,7 @@ digit_row digit plan shared number c =
 abbrev pub leave : SharedState → ℕ → Channel → List ℕ → Own
 leave shared number c status = take_event (without_caller shared number) (left_queue c status)
 
--- the end of the time in a queue
+-- the end of a channel's time in a queue
 abbrev pub time_in_queue : Bool → SharedState → ℕ → Channel → Own
 time_in_queue false shared number c = refuse NoTimer shared c
 time_in_queue true shared number c = leave shared number c (codes "TIMEOUT")
@@ -193,7 +193,7 @@ abbrev pub dial_time : Bool → SharedState → Channel → Own
 dial_time false shared c = refuse NoTimer shared c
 dial_time true shared c = take_event shared (after_no_answer c)
 
--- the event `Timeout`, by the channel's phase
+-- the event `Timeout`, given the channel's phase
 abbrev pub timeout_in : Phase → PlanOf → SharedState → ℕ → Channel → Own
 timeout_in Ready plan shared number c = refuse NotWaiting shared c
 timeout_in (Digits digits is_background) plan shared number c = take_event shared (timed_out plan c digits is_background)
@@ -207,12 +207,12 @@ timeout_in phase_ended plan shared number c = refuse Ended shared c
 unfoldable pub timeout_row : PlanOf → SharedState → ℕ → Channel → Own
 timeout_row plan shared number c = timeout_in c.phase plan shared number c
 
--- a channel asks whether it is to leave its queue
+-- a channel asks whether it has to leave its queue
 abbrev pub poll_queue : Bool → SharedState → ℕ → Channel → Own
 poll_queue false shared number c = take_event shared c
 poll_queue true shared number c = leave shared number c (codes "LEAVEEMPTY")
 
--- the event `Poll`, by the channel's phase
+-- the event `Poll`, given the channel's phase
 abbrev pub poll_in : Phase → PlanOf → SharedState → ℕ → Channel → Own
 poll_in Ready plan shared number c = refuse NotWaiting shared c
 poll_in (Digits digits is_background) plan shared number c = refuse NotWaiting shared c
@@ -226,11 +226,11 @@ poll_in phase_ended plan shared number c = refuse Ended shared c
 unfoldable pub poll_row : PlanOf → SharedState → ℕ → Channel → Own
 poll_row plan shared number c = poll_in c.phase plan shared number c
 
--- a hang-up while a call to devices lasts
+-- a hang-up during a call to devices
 abbrev pub dial_cancelled : PlanOf → SharedState → Channel → Own
 dial_cancelled plan shared c = take_event shared (after_cancel plan c)
 
--- the event `Hangup`, by the channel's phase: it leaves its queue, or its talk ends, or its call to devices, and it is hung up
+-- the event `Hangup`, given the channel's phase: the channel leaves its queue, or its talk or its call to devices ends, and it is hung up
 abbrev pub hang_up_in : Phase → PlanOf → SharedState → ℕ → Channel → Own
 hang_up_in Ready plan shared number c = take_event shared (hung_up plan c)
 hang_up_in (Digits digits is_background) plan shared number c = take_event shared (hung_up plan c)
@@ -244,7 +244,7 @@ hang_up_in phase_ended plan shared number c = refuse Ended shared c
 unfoldable pub hang_up_row : PlanOf → SharedState → ℕ → Channel → Own
 hang_up_row plan shared number c = hang_up_in c.phase plan shared number c
 
--- the event `DialResult`, by the channel's phase
+-- the event `DialResult`, given the channel's phase
 abbrev pub dial_result_in : Phase → DialStatus → PlanOf → SharedState → ℕ → Channel → Own
 dial_result_in Ready status plan shared number c = refuse NotDialling shared c
 dial_result_in (Digits digits is_background) status plan shared number c = refuse NotDialling shared c
@@ -258,7 +258,7 @@ dial_result_in phase_ended status plan shared number c = refuse Ended shared c
 unfoldable pub dial_result_row : DialStatus → PlanOf → SharedState → ℕ → Channel → Own
 dial_result_row status plan shared number c = dial_result_in c.phase status plan shared number c
 
--- a value that is set from outside, by what its name sets
+-- a value that is set from outside, given what its name sets
 abbrev pub assigned : SettingTarget → List ℕ → SharedState → Channel → Own
 assigned (Variable name) value shared c = take_event shared (with_value c name value)
 assigned (Global name) value shared c = take_event (with_shared_global shared name value) c
@@ -266,12 +266,12 @@ assigned (Local name) value shared c = take_event shared (record c { store = set
 assigned Caller value shared c = take_event shared (record c { caller = value })
 assigned Nothing value shared c = take_event shared c
 
--- the event `Assign` with a channel: one that is over keeps what it has
+-- the event `Assign` with a channel: a channel that is over keeps its values
 unfoldable pub assign_row : FunctionTable → List ℕ → List ℕ → PlanOf → SharedState → ℕ → Channel → Own
 assign_row functions name value plan shared number c =
     if is_over c.phase then refuse Ended shared c else assigned (functions.target name) value shared c
 
--- the event `Redirect`, by the channel's phase: one that waits for an agent or a far side, or talks, is refused
+-- the event `Redirect`, given the channel's phase: a channel that waits for an agent or a far side, or talks, is refused
 abbrev pub redirect_in : Phase → Place → PlanOf → SharedState → ℕ → Channel → Own
 redirect_in Ready place plan shared number c = take_event shared (ready_at c place)
 redirect_in (Digits digits is_background) place plan shared number c = take_event shared (ready_at c place)
@@ -285,7 +285,7 @@ redirect_in phase_ended place plan shared number c = refuse Ended shared c
 unfoldable pub redirect_row : Place → PlanOf → SharedState → ℕ → Channel → Own
 redirect_row place plan shared number c = redirect_in c.phase place plan shared number c
 
--- an event of one channel, by what it asks
+-- an event of one channel, given what it asks
 abbrev pub own_row : Meanings → ChannelEvent → PlanOf → SharedState → ℕ → Channel → Own
 own_row meanings asked_step = step_row meanings
 own_row meanings (asked_digit digit) = digit_row digit
@@ -296,7 +296,7 @@ own_row meanings (asked_result status) = dial_result_row status
 own_row meanings (asked_assign name value) = assign_row meanings.functions name.now value.now
 own_row meanings (asked_redirect place) = redirect_row place.now
 
--- a channel that a call opens at a place
+-- a new channel at a place, opened by a phone call
 abbrev pub new_channel : List ℕ → List ℕ → List ℕ → Channel
 new_channel context exten caller = record {
   place = place_of context exten 1;
@@ -313,7 +313,7 @@ start_call channels context exten caller =
     then (record { channels = channels ++ new_channel context exten caller ∷ []; reply = Started (length channels + 1) })
     else (record { channels = channels; reply = Refused NumbersSpent })
 
--- an event of an agent that changes no channel, or is refused
+-- an event of an agent that changes no channel, or that is refused
 abbrev pub unmet : SharedState → Reply → Served
 unmet shared reply = record { shared = shared; who = 0; change = Stays; reply = reply }
 
@@ -333,7 +333,7 @@ unfoldable pub serve_offer : SharedState → List ℕ → Served
 serve_offer shared queue =
     unmet (with_queues shared (offer_row shared.queues queue).0) (offer_reply (offer_row shared.queues queue).1)
 
--- an agent and a channel talk
+-- an agent and a channel begin to talk
 abbrev pub begin_talk : SharedState → Option Call → Served
 begin_talk shared None = unmet shared (Refused NotRinging)
 begin_talk shared (Some call) = record { shared = shared; who = call.channel; change = Talks call.queue call.agent; reply = Done }
@@ -347,7 +347,7 @@ unfoldable pub serve_decline : SharedState → List ℕ → Served
 serve_decline shared agent =
     unmet (with_queues shared (decline_row shared.queues agent).0) (if (decline_row shared.queues agent).1 then Done else Refused NotRinging)
 
--- the talk of an agent and a channel ends
+-- an agent and a channel end their talk
 abbrev pub end_talk : SharedState → Option Call → Served
 end_talk shared None = unmet shared (Refused NotTalking)
 end_talk shared (Some call) = record { shared = shared; who = call.channel; change = TalkEnds; reply = Done }
@@ -356,7 +356,7 @@ end_talk shared (Some call) = record { shared = shared; who = call.channel; chan
 unfoldable pub agent_done : SharedState → List ℕ → Served
 agent_done shared agent = end_talk (with_queues shared (done_row shared.queues agent).0) (done_row shared.queues agent).1
 
--- the world after a call that comes in, and the reply
+-- the world after an incoming phone call, and the reply
 abbrev pub world_with_call : World → Entered → World × Reply
 world_with_call w e = (record w { channels = e.channels }, e.reply)
 
@@ -364,12 +364,12 @@ world_with_call w e = (record w { channels = e.channels }, e.reply)
 abbrev pub world_with_own : World → ℕ → Own → World × Reply
 world_with_own w number own = (record w { channels = with_channel w.channels number own.channel; shared = own.shared }, own.reply)
 
--- a channel's event reads the dialplan, what all channels share and its own channel, and writes the last two
+-- a channel's event reads the dialplan, what all channels share and its own channel, and changes the last two
 abbrev pub own_event : World → ℕ → (PlanOf → SharedState → ℕ → Channel → Own) → Option Channel → World × Reply
 own_event w number row None = (w, Refused NoChannel)
 own_event w number row (Some c) = world_with_own w number (row w.plan w.shared number c)
 
--- the world after an event of the channel of a number, by what it asks, and the reply
+-- the world after an event of the channel with a number, given what the event asks, and the reply
 abbrev pub asked_event : Meanings → World → ℕ → ChannelEvent → World × Reply
 asked_event meanings w number asked = own_event w number (own_row meanings asked) (channel_at w.channels number)
 
@@ -378,7 +378,7 @@ abbrev pub served_channels : World → Served → Option Channel → List Channe
 served_channels w s None = w.channels
 served_channels w s (Some c) = with_channel w.channels s.who (after_change w.plan s.change c)
 
--- what all channels share says the reply to an agent's event, and which channel it changes
+-- the world after an agent's event, and the reply: what all channels share decides the reply and which channel changes
 abbrev pub agent_event : World → Served → World × Reply
 agent_event w s = (record w { channels = served_channels w s (channel_at w.channels s.who); shared = s.shared }, s.reply)
 
@@ -408,7 +408,7 @@ event_row meanings w (Reload text) = after_reload meanings.functions w text
 event_row meanings w (Assign channel name value) = assign_event meanings.functions w channel name value
 event_row meanings w (Redirect number place) = own_event w number (redirect_row place) (channel_at w.channels number)
 
--- the entry that the next step of a channel would run, by its phase
+-- the entry that the next step of a channel would run, given its phase
 abbrev pub next_in : Phase → PlanOf → Channel → Option EntryId
 next_in Ready plan c = option_map (λ found. found.id) (entry_found plan c.place)
 next_in (Digits digits is_background) plan c = None
@@ -418,11 +418,11 @@ next_in (Talking queue agent goes_on) plan c = None
 next_in (Dialling goes_on has_timer) plan c = None
 next_in phase_ended plan c = None
 
--- the entry that the next step of the channel of a number would run
+-- the entry that the next step of the channel with a number would run
 abbrev pub next_entry : World → ℕ → Option EntryId
 next_entry w number = option_and_then (λ c. next_in c.phase w.plan c) (channel_at w.channels number)
 
--- the entry at a channel's place, where its next step would run it
+-- the entry at a channel's place if its next step would run it
 abbrev pub located_in : Phase → PlanOf → Channel → Option Located
 located_in Ready plan c = entry_found plan c.place
 located_in (Digits digits is_background) plan c = None
@@ -437,11 +437,11 @@ abbrev pub arguments_in : FunctionTable → World → ℕ → Channel → Option
 arguments_in functions w number c =
     option_map (λ found. arguments_seen functions w.shared number c found.entry.arguments) (located_in c.phase w.plan c)
 
--- the same of the channel of a number
+-- the expanded arguments of the entry that the next step of the channel with a number would run
 abbrev pub arguments_ahead : FunctionTable → World → ℕ → Option (List ℕ)
 arguments_ahead functions w number = option_and_then (λ c. arguments_in functions w number c) (channel_at w.channels number)
 
--- the channel that an event names, and 0, which no channel has, where it names none
+-- the channel that an event names; 0, which no channel has, if it names none
 abbrev pub channel_of : Event → ℕ
 channel_of (Start context exten caller) = 0
 channel_of (Step number) = number
@@ -468,7 +468,7 @@ is_refused (Offered channel rung) = false
 is_refused Done = false
 is_refused (Refused refusal) = true
 
--- whether a refusal is told without memory: each is but that of a dialplan, which is loaded to tell
+-- whether a refusal is given without use of memory: all are but that of a dialplan, which has to be loaded first
 abbrev pub is_at_once : Refusal → Bool
 is_at_once NoChannel = true
 is_at_once NotReady = true
@@ -485,7 +485,7 @@ is_at_once BadDigit = true
 is_at_once BadPlan = false
 is_at_once NotDialling = true
 
--- whether a reply is such a refusal
+-- whether a reply is a refusal that is given without use of memory
 abbrev pub is_refused_at_once : Reply → Bool
 is_refused_at_once (Started number) = false
 is_refused_at_once (Ran id) = false

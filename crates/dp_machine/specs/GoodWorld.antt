@@ -1,4 +1,4 @@
--- What is true of a world at all times: channels, waiting lists and agents say the same of who waits and who talks.
+-- The invariant of a world: channels, waiting lists and agents agree on who waits and who talks.
 use Rattle.std.specs.Prelude.{◌≡◌, ℕ, ◌≤◌, false, List, [], length, Option, Some, None}
 use Rattle.std.specs.Option.{option_and_then}
 use Rattle.dp_queue.specs.Agents.{is_talking, state_at}
@@ -19,7 +19,7 @@ use Rattle.dp_machine.specs.declared.event.Event.{Event}
 use Rattle.dp_machine.specs.declared.event.Event.TheVariants.{Start, Step, Digit, Timeout, Poll, Hangup, DialResult, Offer, Answer, Decline, AgentDone, Reload, Assign, Redirect}
 use Rattle.dp_machine.specs.declared.shared_state.SharedState.{SharedState}
 
--- the queue in which a channel waits by its phase
+-- the queue in which a channel waits, given its phase
 abbrev pub queue_in : Phase → Option ℕ
 queue_in Ready = None
 queue_in (Digits digits is_background) = None
@@ -29,7 +29,7 @@ queue_in (Talking queue agent goes_on) = None
 queue_in (Dialling goes_on has_timer) = None
 queue_in Ended = None
 
--- the queue and the agent with which a channel talks by its phase
+-- the queue and the agent with which a channel talks, given its phase
 abbrev pub talk_in : Phase → Option (ℕ × ℕ)
 talk_in Ready = None
 talk_in (Digits digits is_background) = None
@@ -39,7 +39,7 @@ talk_in (Talking queue agent goes_on) = Some (queue, agent)
 talk_in (Dialling goes_on has_timer) = None
 talk_in Ended = None
 
--- a channel that waits or talks stands at a priority of an entry and is not closing, and one that is over has no frames
+-- a channel that waits or talks is at a priority of an entry and is not closing, and a channel that is over has no frames
 abbrev pub IsSoundIn : Phase → Channel → Type 0
 IsSoundIn Ready c = Unit {0}
 IsSoundIn (Digits digits is_background) c = (c.place.priority ≤ most_priority) × (c.is_closing ≡ false)
@@ -49,7 +49,7 @@ IsSoundIn (Talking queue agent goes_on) c = (c.place.priority ≤ most_priority)
 IsSoundIn (Dialling goes_on has_timer) c = (c.place.priority ≤ most_priority) × (c.is_closing ≡ false)
 IsSoundIn Ended c = c.store.frames ≡ []
 
--- the same of the channel of a number, if there is one
+-- the channel with a number is sound, if there is one
 abbrev pub IsSoundAt : Option Channel → Type 0
 IsSoundAt None = Unit {0}
 IsSoundAt (Some c) = IsSoundIn c.phase c
@@ -58,23 +58,23 @@ IsSoundAt (Some c) = IsSoundIn c.phase c
 abbrev pub IsSoundOwn : Own → Type 0
 IsSoundOwn own = IsSoundIn own.channel.phase own.channel
 
--- the queue in which the channel of a number waits by its phase
+-- the queue in which the channel with a number waits, given its phase
 abbrev pub queue_of : Option Channel → Option ℕ
 queue_of o = option_and_then (λ c. queue_in c.phase) o
 
--- the queue and the agent with which the channel of a number talks by its phase
+-- the queue and the agent with which the channel with a number talks, given its phase
 abbrev pub talk_of : Option Channel → Option (ℕ × ℕ)
 talk_of o = option_and_then (λ c. talk_in c.phase) o
 
--- what is known of the channel of a number before an event: it waits in its queue alone, where it does not talk by its phase no agent
--- talks with it, and it is sound
+-- what is known of a channel before an event: it waits in its own queue only, no agent talks with it unless its phase says so, and it is
+-- sound
 pub record MayAct (shared : SharedState) (number : ℕ) (c : Channel) : Type 0 where
   pub waits : waits_in shared.queues.queues number ≡ queue_in c.phase
   pub silent : talk_in c.phase ≡ None → is_talking shared.queues.agents number ≡ false
   pub sound : IsSoundIn c.phase c
 
--- channels and queues: a channel stands in a waiting list exactly where it waits by its phase, an agent talks with it exactly
--- where it talks by its phase, and each channel is sound
+-- channels and queues agree: a channel is in a waiting list exactly if its phase says that it waits, an agent talks with it exactly if its
+-- phase says that it talks, and each channel is sound
 pub record AreTied (channels : List Channel) (queues : QueuesOf) : Type 0 where
   pub waits : (number : ℕ) → waits_in queues.queues number ≡ queue_of (channel_at channels number)
   pub talking : (agent queue number : ℕ) → state_at queues.agents agent ≡ AgentTalking queue number
@@ -83,14 +83,14 @@ pub record AreTied (channels : List Channel) (queues : QueuesOf) : Type 0 where
       → state_at queues.agents agent ≡ AgentTalking queue number
   pub sound : (number : ℕ) → IsSoundAt (channel_at channels number)
 
--- a good world: no more channels than have numbers, tied to the queues; and these are good, so that a channel stands once in its
--- waiting list and in no other, an agent rings for a channel of the queue that it names alone, and talks with at most one
+-- a good world: it has no more channels than there are numbers, and they agree with the queues, which are good themselves: a channel is
+-- once in its waiting list and in no other, an agent rings only for a channel of the queue that it names, and talks with at most one
 pub record IsGoodWorld (w : World) : Type 0 where
   pub within : length w.channels ≤ most_channels
   pub tied : AreTied w.channels w.shared.queues
   pub queues : IsGood w.shared.queues
 
--- where a step is asked, this channel is sound
+-- if the event is a step, this channel is sound
 abbrev pub IsSoundAfter : ChannelEvent → Channel → Type 0
 IsSoundAfter asked_step c = IsSoundIn c.phase c
 IsSoundAfter (asked_digit digit) c = Unit {0}
@@ -101,12 +101,12 @@ IsSoundAfter (asked_result status) c = Unit {0}
 IsSoundAfter (asked_assign name value) c = Unit {0}
 IsSoundAfter (asked_redirect place) c = Unit {0}
 
--- where a step is asked, the channel of a number is sound after it
+-- if the event is a step, the channel with a number is sound after it
 abbrev pub IsSoundAsked : Meanings → World → ℕ → ChannelEvent → Type 0
 IsSoundAsked meanings w number asked = (c : Channel) → channel_at w.channels number ≡ Some c
     → IsSoundAfter asked (own_row meanings asked w.plan w.shared number c).channel
 
--- where the event is a step, the channel is sound after it
+-- if the event is a step, the channel is sound after it
 abbrev pub StepsSoundly : Meanings → World → Event → Type 0
 StepsSoundly meanings w (Start context exten caller) = Unit {0}
 StepsSoundly meanings w (Step number) = (c : Channel) → channel_at w.channels number ≡ Some c → IsSoundOwn (step_row meanings w.plan w.shared number c)

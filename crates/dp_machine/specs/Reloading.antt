@@ -1,4 +1,4 @@
--- Another dialplan is put in force.
+-- How another dialplan is put in force.
 use Rattle.std.specs.Prelude.{ℕ, List, Option, Some, None, Result, Ok, Err}
 use Rattle.dp_plan.specs.Loaded.{plan_and_notes}
 use Rattle.dp_plan.specs.Plan.{PlanOf}
@@ -14,20 +14,20 @@ use Rattle.dp_machine.specs.declared.reply.Reply.{Reply}
 use Rattle.dp_machine.specs.declared.reply.Reply.TheVariants.{Done, Refused}
 use Rattle.dp_machine.specs.declared.shared_state.SharedState.{SharedState}
 
--- the dialplan that a text loads as, where it has no fault; its notes are not kept
+-- the dialplan that a text loads as, if it has no fault; its notes are dropped
 abbrev pub plan_in : Result (PlanOf × List Note) LoadFault → Option PlanOf
 plan_in (Ok read) = Some read.0
 plan_in (Err fault) = None
 
--- the shared part with globals set, one after another, each expanded over those that are then; other globals stay, and the queues
+-- the shared part with globals set one after another, each expanded with the globals set so far; other globals and the queues stay
 abbrev pub shared_with : FunctionTable → SharedState → List GlobalVariable → SharedState
 shared_with functions shared variables = record {
   globals = globals_set functions (counts_of shared.queues.queues) shared.globals variables;
   queues = shared.queues;
 }
 
--- the world after a dialplan that is given, and the reply: the dialplan is put in force and its globals are set, and the channels
--- stay as they are; one with a fault is refused
+-- the world after a reload, and the reply: the dialplan is put in force and its globals are set, and the channels stay as they are; a
+-- dialplan with a fault is refused
 abbrev pub reloaded_by : FunctionTable → World → Option PlanOf → World × Reply
 reloaded_by functions w None = (w, Refused BadPlan)
 reloaded_by functions w (Some plan) = (record { plan = plan; channels = w.channels; shared = shared_with functions w.shared plan.globals }, Done)

@@ -1,4 +1,4 @@
--- What a list of events makes of a world, and the replies.
+-- The world after a list of events, and the replies to them.
 use Rattle.std.specs.Prelude.{◌≡◌, ◌+◌, ◌-◌, ◌≤◌, List, [], ◌∷◌, ◌++◌, length, take, fold}
 use Rattle.dp_app.specs.Rows.{Meanings}
 use Rattle.dp_machine.specs.Events.{event_row}
@@ -19,7 +19,7 @@ abbrev pub replies_to : Meanings → World → List Event → List Reply
 replies_to meanings w [] = []
 replies_to meanings w (event ∷ events) = (event_row meanings w event).1 ∷ replies_to meanings (final_world meanings w event) events
 
--- the run replied to the first so many events, and left the world after them
+-- the run replied to the first so many events, and left the world as it is after them
 pub record RanFirst (meanings : Meanings) (w : World) (events : List Event) (old new : List Reply) (after : World) : Type 0 where
   pub within : length new ≤ length old + length events
   pub replies : new ≡ old ++ replies_to meanings w (take (length new - length old) events)

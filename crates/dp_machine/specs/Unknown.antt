@@ -1,4 +1,4 @@
--- What is unknown ahead of a channel: of the entry that its next step would run.
+-- What is unknown ahead of a channel, that is, in the entry that its next step would run.
 use Rattle.std.specs.Prelude.{ℕ, List, Option, Some, None, if◌then◌else◌}
 use Rattle.std.specs.Option.{option_and_then, option_map, option_or}
 use Rattle.dp_plan.specs.declared.entry.Entry.{Entry}
@@ -14,17 +14,17 @@ use Rattle.dp_machine.specs.declared.shared_state.SharedState.{SharedState}
 use Rattle.dp_machine.specs.declared.unknown.Unknown.{Unknown}
 use Rattle.dp_machine.specs.declared.unknown.Unknown.TheVariants.{Application, Asked, Group}
 
--- the first group of some arguments that the functions do not know, in what the channel of a number sees
+-- the first group in some arguments that the functions do not know, with what the channel with a number sees
 unfoldable pub unknown_seen : FunctionTable → SharedState → ℕ → Channel → List ℕ → Option (List ℕ)
 unknown_seen functions shared number c arguments = first_unknown functions (sight_in shared number c) arguments
 
--- what an application asks with some arguments that is not known, in what the channel of a number sees
+-- the unknown text that an application asks for with these arguments, with what the channel with a number sees
 unfoldable pub unknown_asked : Meanings → Knowledge → SharedState → ℕ → Channel → Entry → Option (List ℕ)
 unknown_asked meanings knowledge shared number c entry =
     any_text (knowledge.asks (sight_in shared number c) entry.application (arguments_seen meanings.functions shared number c entry.arguments))
 
--- what is unknown of the arguments of an entry: a group of theirs, else what the application asks with them; nothing where the
--- application does not look at them
+-- what is unknown in the arguments of an entry: a group in them, else what the application asks with them; nothing if the application does
+-- not look at them
 abbrev pub unknown_of_arguments : Meanings → Knowledge → SharedState → ℕ → Channel → Entry → Option Unknown
 unknown_of_arguments meanings knowledge shared number c entry =
     if knowledge.looks entry.application
@@ -32,7 +32,7 @@ unknown_of_arguments meanings knowledge shared number c entry =
     (option_map (λ asked. Asked asked) (unknown_asked meanings knowledge shared number c entry))
     else None
 
--- what is unknown of an entry: its application, where the table lacks it, else something of its arguments
+-- what is unknown of an entry: its application if the table lacks it, else something in its arguments
 abbrev pub unknown_of_entry : Meanings → Knowledge → SharedState → ℕ → Channel → Entry → Option Unknown
 unknown_of_entry meanings knowledge shared number c entry =
     if has_row meanings.rows entry.application
@@ -44,6 +44,6 @@ abbrev pub unknown_in : Meanings → Knowledge → World → ℕ → Channel →
 unknown_in meanings knowledge w number c =
     option_and_then (λ found. unknown_of_entry meanings knowledge w.shared number c found.entry) (located_in c.phase w.plan c)
 
--- the same of the channel of a number
+-- what is unknown ahead of the channel with a number
 abbrev pub unknown_ahead : Meanings → Knowledge → World → ℕ → Option Unknown
 unknown_ahead meanings knowledge w number = option_and_then (λ c. unknown_in meanings knowledge w number c) (channel_at w.channels number)

@@ -22,7 +22,7 @@ use dp_plan::NoMemory;
 use dp_queue::{Call, OfferFault};
 use std::alloc::Global;
 
-/// Why nothing is offered, as a refusal.
+/// The refusal for a failed offer.
 fn offer_refusal(fault: OfferFault) -> Refusal
     ensures { result ≡ spec.offer_refusal fault }
 {
@@ -33,7 +33,7 @@ fn offer_refusal(fault: OfferFault) -> Refusal
     }
 }
 
-/// A call of the queue of this name is offered to agents.
+/// Offers a call of the queue with this name to agents.
 #[tactic(auto, unfolding(crate::specs::Events::serve_offer))]
 pub(crate) fn offer(exchange: &mut Exchange, queue: &[u8]) -> Reply
     ensures { (channels : List Channel) → spec.agent_event (worlds.world_in exchange.old channels)
@@ -63,7 +63,7 @@ fn goes_on_after(phase: &Phase) -> bool
     }
 }
 
-/// The channel of a call, if there is one, talks with the agent.
+/// The channel of a call, if there is one, begins to talk with the agent.
 fn talk(channels: &mut Vec<Channel>, call: Call)
     ensures { (plan : PlanOf) (before after : SharedState)
         → spec.agent_event (worlds.world_of plan channels.old.items before) (spec.begin_talk after (Some call))
@@ -80,7 +80,7 @@ fn talk(channels: &mut Vec<Channel>, call: Call)
     };
 }
 
-/// The agent of this interface answers the call that it rings for.
+/// The agent with this interface answers the call for which it rings.
 #[tactic(auto, unfolding(crate::specs::Events::serve_answer))]
 pub(crate) fn answer(exchange: &mut Exchange, channels: &mut Vec<Channel>, agent: &[u8]) -> Reply
     ensures { spec.agent_event (worlds.world_in exchange.old channels.old.items)
@@ -96,7 +96,7 @@ pub(crate) fn answer(exchange: &mut Exchange, channels: &mut Vec<Channel>, agent
     }
 }
 
-/// The agent of this interface declines the call that it rings for.
+/// The agent with this interface declines the call for which it rings.
 #[tactic(auto, unfolding(crate::specs::Events::serve_decline))]
 pub(crate) fn decline(exchange: &mut Exchange, agent: &[u8]) -> Reply
     ensures { (channels : List Channel) → spec.agent_event (worlds.world_in exchange.old channels)
@@ -110,7 +110,7 @@ pub(crate) fn decline(exchange: &mut Exchange, agent: &[u8]) -> Reply
     }
 }
 
-/// The talk of the channel ends: it goes on, which it reads, or is hung up.
+/// The talk of the channel ends: the channel reads that and goes on, or is hung up.
 fn end_talk(alloc: Global, plan: &mut Directory, channel: &mut Channel) -> Result<(), NoMemory>
     requires { IsSoundIn channel.old.phase channel.old }
     ensures ok { OnOk result (channel.new ≡ after_talk plan.old channel.old (goes_on_after channel.old.phase)) }
@@ -146,7 +146,7 @@ fn part(
     end_talk(alloc, plan, &mut channels[index])
 }
 
-/// The agent of this interface is done with the call that it talks with.
+/// The agent with this interface is done with the call with which it talks.
 #[tactic(auto, unfolding(crate::specs::Events::agent_done))]
 pub(crate) fn agent_done(
     alloc: Global,

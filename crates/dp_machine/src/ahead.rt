@@ -38,7 +38,7 @@ pub(crate) fn next_entry_of(
     }
 }
 
-/// The same, looked up as a step looks up.
+/// The same entry, looked up in the way a step looks it up.
 #[tactic(auto, using(crate::proofs::LookupLemmas::located_id))]
 pub(crate) fn entry_ahead_of(plan: &mut Directory, channel: &Channel) -> Option<EntryId>
     ensures entry { result ≡ spec.next_in channel.now.phase plan.old channel.now }
@@ -56,7 +56,7 @@ pub(crate) fn entry_ahead_of(plan: &mut Directory, channel: &Channel) -> Option<
     }
 }
 
-/// The arguments of an entry of which this is the template, expanded for the channel of this number.
+/// The arguments of an entry with this template, expanded for the channel with this number.
 #[tactic(auto, unfolding(crate::specs::Seen::arguments_seen))]
 pub(crate) fn expanded<F: Functions>(
     alloc: Global,

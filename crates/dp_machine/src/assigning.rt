@@ -15,7 +15,7 @@ use dp_plan::{NoMemory, Text};
 use dp_vars::{Functions, Target};
 use std::alloc::Global;
 
-/// Sets what a name stands for. After a refused growth all is as before.
+/// Sets the target of a name. If memory runs out nothing changes.
 fn set_target(
     alloc: Global,
     exchange: &mut Exchange,
@@ -38,8 +38,7 @@ fn set_target(
     Ok(Reply::Done)
 }
 
-/// A name of the channel of this number is set from outside: what it stands for is the functions' to say. A channel that is over
-/// keeps what it has.
+/// Sets a name of the channel with this number from outside: the functions say what the name sets. A channel that is over keeps its values.
 #[tactic(auto, unfolding(crate::specs::Events::assign_row))]
 pub(crate) fn assign<F: Functions>(
     alloc: Global,
@@ -58,7 +57,7 @@ pub(crate) fn assign<F: Functions>(
     set_target(alloc, exchange, channel, F::target(name), value)
 }
 
-/// A global is set from outside.
+/// Sets a global from outside.
 pub(crate) fn assign_global(
     alloc: Global,
     exchange: &mut Exchange,

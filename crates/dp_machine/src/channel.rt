@@ -1,11 +1,11 @@
-//! A channel: where it stands, and what it waits for.
+//! A channel: its place, and what it waits for.
 
 use dp_app::{Phase, Place};
 use dp_plan::Text;
 use dp_vars::Store;
 
-/// A channel, with the number of its caller, its variables and its frames, each of which goes back to a place. Channels
-/// are numbered from 1 in the order of their starts.
+/// A channel, with the number of its caller, its variables and its frames, each of which returns to a place. Channels are numbered from 1
+/// in the order of their starts.
 #[derive(Drop)]
 pub struct Channel {
     pub place: Place,

@@ -3,7 +3,7 @@
 use crate::dial_status::DialStatus;
 use dp_app::Place;
 
-/// What an event asks of one channel. It borrows the texts and the place of the event.
+/// What an event asks of one channel. It borrows the event's texts and place.
 #[derive(Clone, Copy)]
 pub(crate) enum ChannelEvent<'a> {
     Step,
@@ -12,7 +12,7 @@ pub(crate) enum ChannelEvent<'a> {
     Poll,
     Hangup,
     DialResult(DialStatus),
-    /// A name, and the value that it is set to from outside.
+    /// A name, and the value to which it is set from outside.
     Assign(&'a [u8], &'a [u8]),
     Redirect(&'a Place),
 }

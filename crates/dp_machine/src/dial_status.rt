@@ -1,12 +1,12 @@
-//! What comes of a call to devices, after the Asterisk documentation's page on `Dial`.
+//! The results of a call to devices, after the Asterisk documentation's page on `Dial`.
 ghost use Rattle.std.specs.Prelude.{◌≡◌};
 ghost use Rattle.dp_machine.specs.Codes.{status_name};
 
-/// What comes of a call to devices. The variable `DIALSTATUS` has its name then. Two more values of that variable come by
-/// themselves: `CANCEL` where the caller hangs up before, and `NOANSWER` where the time is over.
+/// The result of a call to devices. Its name becomes the value of the variable `DIALSTATUS`. That variable has two more values without such
+/// a result: `CANCEL` if the caller hangs up first, and `NOANSWER` if the time is over.
 #[derive(Clone, Copy, Debug, PartialEq, Eq)]
 pub enum DialStatus {
-    /// The far side answered, and has hung up: the talk itself is media, and is over (a choice of this program).
+    /// The far side answered, and has hung up: the talk itself is media, and is already over (a choice of this program).
     Answer,
     /// The far side is busy.
     Busy,

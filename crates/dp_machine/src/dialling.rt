@@ -1,5 +1,5 @@
-//! The events of a channel that waits for what comes of its call to devices, after the Asterisk documentation's page on the
-//! application `Dial`.
+//! The events of a channel that waits for the result of its call to devices, after the Asterisk documentation's page on the application
+//! `Dial`.
 ghost use Rattle.std.specs.Prelude.{◌≡◌, ◌≤◌, OnErr, OnOk};
 ghost use Rattle.dp_conf.specs.Numbers.{most_priority};
 ghost use Rattle.dp_machine.specs.Channels as channels;
@@ -20,7 +20,7 @@ use dp_app::Phase;
 use dp_plan::NoMemory;
 use std::alloc::Global;
 
-/// The channel reads what came of its call to devices.
+/// The channel reads the result of its call to devices.
 fn read_status(alloc: Global, channel: &mut Channel, status: &[u8]) -> Result<(), NoMemory>
     ensures ok { OnOk result (channel.new ≡ channels.with_dial_status channel.old status.now) }
     ensures err { OnErr result (channel.new ≡ channel.old) }
@@ -28,7 +28,7 @@ fn read_status(alloc: Global, channel: &mut Channel, status: &[u8]) -> Result<()
     channel.store.set(alloc, b"DIALSTATUS", status)
 }
 
-/// Whether a channel is hung up with the far side.
+/// Whether a channel is hung up together with the far side.
 fn ends_call(status: DialStatus, goes_on: bool) -> bool
     ensures { result ≡ channels.ends_call status goes_on }
 {
@@ -41,7 +41,7 @@ fn ends_call(status: DialStatus, goes_on: bool) -> bool
     }
 }
 
-/// The call to devices came to this: the channel reads it and goes on, or is hung up with the far side.
+/// The call to devices had this result: the channel reads it and goes on, or is hung up together with the far side.
 fn end_dial(
     alloc: Global,
     plan: &mut Directory,
@@ -82,7 +82,7 @@ pub(crate) fn end_dial_time(
     Ok(Reply::Done)
 }
 
-/// The caller hangs up before anything came of the call to devices.
+/// The caller hangs up before the call to devices has a result.
 pub(crate) fn cancel_dial(
     alloc: Global,
     exchange: &mut Exchange,
@@ -96,7 +96,7 @@ pub(crate) fn cancel_dial(
     Ok(Reply::Done)
 }
 
-/// The call to devices that the channel waits for came to this.
+/// The call to devices for which the channel waits had this result.
 #[tactic(auto, unfolding(crate::specs::Events::dial_result_row))]
 pub(crate) fn take_result(
     alloc: Global,

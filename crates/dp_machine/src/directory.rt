@@ -1,4 +1,4 @@
-//! The dialplan, and what look-ups in it search in. No look-up allocates.
+//! The dialplan, and the tables that its look-ups search. No look-up allocates.
 ghost use Rattle.std.specs.Prelude.{◌≡◌, IfOk, IfSome, IsSome, Some};
 ghost use Rattle.dp_plan.specs.Lookup.{entry_at};
 ghost use Rattle.dp_machine.specs.Found as spec;
@@ -13,7 +13,7 @@ use dp_trie::Finder;
 use std::alloc::Global;
 use std::marker::Model;
 
-/// What is made of a dialplan once: what finds its entries and labels, and the templates of its entries.
+/// The tables made once for a dialplan: the finder of its entries and labels, and the templates of its entries.
 #[derive(Drop)]
 pub(crate) struct Tables {
     finder: Finder,
@@ -21,7 +21,7 @@ pub(crate) struct Tables {
 }
 
 impl Tables {
-    /// The tables of a dialplan, in which no context was asked yet.
+    /// The tables of a dialplan in which no context has been searched yet.
     pub(crate) fn of<T: AppTable>(alloc: Global, plan: &Dialplan) -> Result<Self, NoMemory>
         ensures { IfOk result (λ tables. AreTables plan.now tables) }
     {
@@ -31,7 +31,7 @@ impl Tables {
     }
 }
 
-/// The one owner of the dialplan and of its tables. A contract sees it as the dialplan.
+/// The only owner of the dialplan and of its tables. A contract sees it as the dialplan.
 #[derive(Drop)]
 pub(crate) struct Directory {
     plan: Dialplan,
@@ -58,7 +58,7 @@ impl Directory {
         Directory { plan, tables }
     }
 
-    /// Puts another dialplan with its tables in the place of this one.
+    /// Replaces the dialplan and its tables.
     pub(crate) fn replace(&mut self, plan: Dialplan, tables: Tables)
         requires { AreTables plan tables }
         ensures { self.new ≡ plan }
@@ -74,8 +74,8 @@ impl Directory {
         &self.plan
     }
 
-    /// The entry that answers for the extension of the context at the priority: that of the most specific name that matches,
-    /// in the first context that has one.
+    /// The entry that answers for the extension of the context at the priority: the one with the most specific matching name, in the first
+    /// context that has one.
     #[tactic(auto, unfolding(crate::specs::Found::id_found))]
     #[inline(always)]
     pub(crate) fn find(&mut self, context: &Text, exten: &[u8], priority: u32) -> Option<EntryId>
@@ -95,7 +95,7 @@ impl Directory {
         self.find(context, exten, priority).is_some()
     }
 
-    /// Whether a caller who has dialled so far in the context may go on.
+    /// Whether a caller in the context can dial on after these digits.
     #[tactic(auto, unfolding(crate::specs::Found::could_go_on))]
     pub(crate) fn could_go_on(&mut self, context: &Text, digits: &[u8]) -> bool
         ensures found { result ≡ spec.could_go_on self.old context.now digits.now }
@@ -115,7 +115,7 @@ impl Directory {
         self.tables.finder.find_label(exten, label)
     }
 
-    /// The entry of these numbers, which stands in the dialplan.
+    /// The entry with these numbers, which is in the dialplan.
     pub(crate) fn entry(&self, id: EntryId) -> &Entry
         requires { IsSome (entry_at self.now id) }
         ensures { Some result.now ≡ entry_at self.now id }
@@ -126,7 +126,7 @@ impl Directory {
         }
     }
 
-    /// The template of the entry of these numbers, which stands in the dialplan.
+    /// The template of the entry with these numbers, which is in the dialplan.
     pub(crate) fn template(&self, id: EntryId) -> &EntryTemplate
         requires { IsSome (entry_at self.now id) }
         ensures { IfSome (entry_at self.now id) (λ entry. IsOf entry result.now) }
@@ -137,7 +137,7 @@ impl Directory {
         }
     }
 
-    /// The entry that answers at a place, found in an order of its own.
+    /// The entry that answers at a place, found with a separate search order.
     #[tactic(auto, unfolding(crate::specs::Found::id_found))]
     pub(crate) fn entry_of(&self, alloc: Global, place: &Place) -> Result<Option<EntryId>, NoMemory>
         ensures { IfOk result (λ id. id ≡ spec.id_at self.now place.now) }

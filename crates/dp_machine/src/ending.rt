@@ -15,7 +15,7 @@ pub(crate) fn go_to_exten(channel: &mut Channel, exten: Exten)
     channel.phase = Phase::Ready;
 }
 
-/// Whether a hang-up of the channel goes on at the extension `h`.
+/// Whether a hang-up of the channel continues at the extension `h`.
 fn runs_hang_up(plan: &mut Directory, channel: &Channel) -> bool
     ensures runs { result ≡ spec.runs_hang_up plan.old channel.now }
     ensures same { plan.new ≡ plan.old }
@@ -26,8 +26,8 @@ fn runs_hang_up(plan: &mut Directory, channel: &Channel) -> bool
     plan.is_found(&channel.place.context, b"h", 1)
 }
 
-/// Hangs the channel up. It runs the extension `h` of its context, once and where that is found, or is over; its frames
-/// are dropped (a choice of this program).
+/// Hangs the channel up. It runs the extension `h` of its context, if this is found and the channel has not done so before, or is over; its
+/// frames are dropped (a choice of this program).
 #[tactic(auto, unfolding(crate::specs::Channels::hung_up))]
 pub(crate) fn hang_up(plan: &mut Directory, channel: &mut Channel)
     ensures channel { channel.new ≡ spec.hung_up plan.old channel.old }

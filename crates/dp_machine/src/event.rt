@@ -7,10 +7,10 @@ use crate::dial_status::DialStatus;
 use dp_app::Place;
 use dp_plan::{NoMemory, SharedText, Text};
 
-/// What happens to a machine. Channels are numbers; queues are named in any ASCII case, and agents by their interfaces.
+/// An event of a machine. Channels are numbers; queues are named in any ASCII case, and agents by their interfaces.
 #[derive(Debug, PartialEq, Eq, Drop)]
 pub enum Event {
-    /// A call comes in at priority 1 of the extension of the context.
+    /// A phone call comes in at priority 1 of the extension of the context.
     Start {
         context: Text,
         exten: Text,
@@ -25,11 +25,11 @@ pub enum Event {
         channel: u32,
         digit: u8,
     },
-    /// What the channel waits for does not come in time.
+    /// The time of what the channel waits for is over.
     Timeout {
         channel: u32,
     },
-    /// The channel asks whether its queue is to be left, since it is too empty.
+    /// The channel asks whether it has to leave its queue because the queue is too empty.
     Poll {
         channel: u32,
     },
@@ -37,7 +37,7 @@ pub enum Event {
     Hangup {
         channel: u32,
     },
-    /// The call to devices that the channel waits for came to this.
+    /// The call to devices for which the channel waits had this result.
     DialResult {
         channel: u32,
         status: DialStatus,
@@ -46,31 +46,31 @@ pub enum Event {
     Offer {
         queue: Text,
     },
-    /// The agent answers the call that it rings for.
+    /// The agent answers the call for which it rings.
     Answer {
         agent: Text,
     },
-    /// The agent declines the call that it rings for.
+    /// The agent declines the call for which it rings.
     Decline {
         agent: Text,
     },
-    /// The agent is done with the call that it talks with.
+    /// The agent is done with the call with which it talks.
     AgentDone {
         agent: Text,
     },
-    /// The dialplan of this text is put in force. A reply of an earlier event names an entry of the dialplan that was in force
-    /// at that event, and is to be read there. Copies of the event have the text in common, since it may be long.
+    /// The dialplan of this text is put in force. A reply to an earlier event names an entry of the dialplan that was in force at that
+    /// event, and must be read there. Copies of the event share the text, because it can be long.
     Reload {
         text: SharedText,
     },
-    /// A name is set from outside, as AMI's `Setvar` does: of a channel what the table's functions say that the name is, and with
-    /// no channel the global.
+    /// A name is set from outside, like AMI's `Setvar` does: with a channel, what the table's functions say that the name is; without a
+    /// channel, the global.
     Assign {
         channel: Option<u32>,
         name: Text,
         value: Text,
     },
-    /// The channel is sent to a place from outside, as AMI's `Redirect` does.
+    /// The channel is sent to a place from outside, like AMI's `Redirect` does.
     Redirect {
         channel: u32,
         place: Place,
@@ -78,7 +78,7 @@ pub enum Event {
 }
 
 impl Event {
-    /// The number of the channel that the event names, and 0, which no channel has, where it names none.
+    /// The number of the channel that the event names; 0, which no channel has, if it names none.
     pub fn channel(&self) -> u32
         ensures { result ≡ channel_of self.now }
     {
@@ -100,7 +100,7 @@ impl Event {
         }
     }
 
-    /// The same event once more.
+    /// A copy of the event.
     pub fn copy(&self) -> Result<Self, NoMemory>
         ensures { IfOk result (λ event. event ≡ self.now) }
     {
@@ -158,7 +158,7 @@ impl Event {
     }
 }
 
-/// The start of a call once more.
+/// A copy of the start of a call.
 fn copy_start(context: &Text, exten: &Text, caller: &Text) -> Result<Event, NoMemory>
     ensures { IfOk result (λ event. event ≡ Start context.now exten.now caller.now) }
 {
@@ -172,7 +172,7 @@ fn copy_start(context: &Text, exten: &Text, caller: &Text) -> Result<Event, NoMe
     })
 }
 
-/// The setting of a name once more.
+/// A copy of the setting of a name.
 fn copy_assign(channel: Option<u32>, name: &Text, value: &Text) -> Result<Event, NoMemory>
     ensures { IfOk result (λ event. event ≡ Assign channel name.now value.now) }
 {

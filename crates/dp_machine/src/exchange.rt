@@ -1,4 +1,4 @@
-//! What is no channel's own: the dialplan, and what all channels share.
+//! The parts that belong to no single channel: the dialplan, and what all channels share.
 ghost use Rattle.std.specs.Prelude.{◌≡◌, [], IfOk, OnErr, OnOk};
 ghost use Rattle.dp_machine.specs.Reloading.{shared_with};
 ghost use Rattle.dp_machine.specs.Seen.{globals_set};
@@ -22,14 +22,14 @@ pub(crate) struct Exchange {
     pub(crate) shared: SharedState,
 }
 
-/// What is made of a dialplan before the first call.
+/// The parts made from a dialplan before the first phone call.
 #[derive(Drop)]
 struct Groundwork {
     globals: Globals,
     tables: Tables,
 }
 
-/// What a dialplan makes over these globals.
+/// The parts that a dialplan makes over these globals.
 fn make_over<T: AppTable, C: Counts>(
     alloc: Global,
     plan: &Dialplan,
@@ -45,7 +45,7 @@ fn make_over<T: AppTable, C: Counts>(
     Ok(Groundwork { globals, tables })
 }
 
-/// What another dialplan makes over the globals that are there.
+/// The parts that another dialplan makes over the existing globals.
 fn renew<T: AppTable>(
     alloc: Global,
     plan: &Dialplan,
@@ -59,7 +59,7 @@ fn renew<T: AppTable>(
 }
 
 impl Exchange {
-    /// The exchange of a dialplan and its queues before the first call: the globals are expanded in the order of the file.
+    /// The exchange of a dialplan and its queues before the first phone call: the globals are expanded in the order of the file.
     #[tactic(auto, unfolding(crate::specs::Seen::globals_of))]
     pub(crate) fn of<T: AppTable>(
         alloc: Global,
@@ -76,7 +76,7 @@ impl Exchange {
         })
     }
 
-    /// Puts another dialplan in force, and sets its globals over those that are. After a refused growth all is as before.
+    /// Puts another dialplan in force, and sets its globals over the existing ones. If memory runs out nothing changes.
     pub(crate) fn replace<T: AppTable>(
         &mut self,
         alloc: Global,

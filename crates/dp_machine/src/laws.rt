@@ -1,4 +1,4 @@
-//! Laws of the machine that speak of whole lists of events.
+//! Laws of the machine about whole lists of events.
 ghost use Rattle.std.specs.Prelude.{◌≡◌, ℕ, List};
 ghost use Rattle.dp_app.specs.Rows.{with_functions};
 ghost use Rattle.dp_machine.specs.Isolation.{AreSameBut, IsUnseen, replies_without, without};
@@ -8,10 +8,10 @@ ghost use Rattle.dp_machine.specs.declared.event.Event.{Event};
 
 use dp_app::AppTable;
 
-/// A channel is unseen in a list of events if each event of it leaves the dialplan, the globals, the queues, the agents and
-/// the count of finished calls as they are, in the world that it meets. Then the list without these events gives each other
-/// event the same reply, and the same last world but for this channel. So it is in every world, each good one among them,
-/// and over every table. It does nothing.
+/// A channel is unseen in a list of events if each of its events leaves the dialplan, the globals, the queues, the agents and the count of
+/// finished calls unchanged in the world that it meets. Then the list without these events gives each other event the same reply, and ends
+/// in the same world but for this channel. This holds in every world, including every good one, and over every table. This function does
+/// nothing.
 pub fn isolation<T: AppTable>()
     ensures replies { (world : World) (events : List Event) (channel : ℕ) → IsUnseen (with_functions T.rows T.Functions.table) channel world events
         → replies_to (with_functions T.rows T.Functions.table) world (without channel events)

@@ -1,5 +1,5 @@
-//! The dialplan machine: channels that step through the priorities of a dialplan, wait in its queues and are ended, one
-//! event after another, over any lawful table of applications.
+//! The dialplan machine: channels that step through the priorities of a dialplan, wait in its queues and come to an end, one event after
+//! another, over any lawful table of applications.
 #![tactic(auto)]
 
 mod agents;

@@ -34,8 +34,8 @@ use dp_queue::Queues;
 use std::alloc::Global;
 use std::marker::{Model, PhantomData};
 
-/// A machine over a table of applications, with its dialplan, its channels and what they share. A contract sees it as its
-/// world, which is a good one at all times.
+/// A machine over a table of applications, with its dialplan, its channels and what they share. A contract sees it as its world, which is
+/// always a good one.
 pub struct Machine<T> {
     exchange: Exchange,
     channels: Vec<Channel>,
@@ -95,7 +95,7 @@ fn answer_to<T: AppTable>(
     }
 }
 
-/// An event of the channel of a number.
+/// An event of the channel with a number.
 #[inline(always)]
 fn ask<T: AppTable>(
     alloc: Global,
@@ -117,7 +117,7 @@ fn ask<T: AppTable>(
     answer_to::<T>(alloc, exchange, number, channel, asked)
 }
 
-/// Applies one event to an exchange and its channels. The texts of a call that comes in are copied.
+/// Applies one event to an exchange and its channels. The texts of an incoming phone call are copied.
 #[inline(always)]
 fn apply_kept_to<T: AppTable>(
     alloc: Global,
@@ -213,7 +213,7 @@ fn apply_kept_to<T: AppTable>(
     }
 }
 
-/// Applies one event to an exchange and its channels. A call that comes in gives its texts away; no other event's are kept.
+/// Applies one event to an exchange and its channels. An incoming phone call gives its texts away; those of other events are not kept.
 fn apply_to<T: AppTable>(
     alloc: Global,
     exchange: &mut Exchange,
@@ -236,9 +236,9 @@ fn apply_to<T: AppTable>(
 }
 
 impl<T: AppTable> Machine<T> {
-    /// A machine with this dialplan and these queues, in which no call has come: nobody waits in the queues, and no agent
-    /// rings or talks. The globals are expanded in the order of the file; there is no channel then, and what a channel would
-    /// give is empty (a choice of this program).
+    /// A machine with this dialplan and these queues before the first phone call: nobody waits in the queues, and no agent rings or talks.
+    /// The globals are expanded in the order of the file; there is no channel then, and whatever a channel would give is empty (a choice of
+    /// this program).
     pub fn new(alloc: Global, plan: Dialplan, queues: Queues) -> Result<Self, NoMemory>
         requires { IsAtRest queues }
         ensures { IfOk result (λ machine. machine ≡ worlds.opening_with T.Functions.table plan queues) }
@@ -252,8 +252,8 @@ impl<T: AppTable> Machine<T> {
         })
     }
 
-    /// Applies one event, and gives the reply. A refused event changes nothing, and allocates only where it gives another
-    /// dialplan, which is loaded to tell. Where memory is refused the machine is as before.
+    /// Applies one event, and gives the reply. A refused event changes nothing, and allocates only if it gives another dialplan, which must
+    /// be loaded to decide that. If memory runs out the machine is as before.
     pub fn apply(&mut self, alloc: Global, event: Event) -> Result<Reply, NoMemory>
         ensures ok { IfOk result (λ reply. spec.event_row (with_functions T.rows T.Functions.table) self.old event ≡ (self.new, reply)) }
         ensures unchanged { IfOk result (λ reply. spec.is_refused reply ≡ true → self.new ≡ self.old) }
@@ -266,7 +266,7 @@ impl<T: AppTable> Machine<T> {
         reply
     }
 
-    /// Applies one event that is kept, as `apply` does: the texts of a call that comes in are copied, and no others.
+    /// Applies one event by reference, as `apply` does: the texts of an incoming phone call are copied, and no others.
     #[inline(always)]
     pub fn apply_kept(&mut self, alloc: Global, event: &Event) -> Result<Reply, NoMemory>
         ensures ok { IfOk result (λ reply. spec.event_row (with_functions T.rows T.Functions.table) self.old event.now ≡ (self.new, reply)) }
@@ -280,8 +280,8 @@ impl<T: AppTable> Machine<T> {
         reply
     }
 
-    /// Applies the events one after another, and adds the reply to each at the end of the replies. Where memory is
-    /// refused it stops: the replies say how many events were applied.
+    /// Applies the events one after another, and adds the reply to each at the end of the replies. If memory runs out it stops: the number
+    /// of replies shows how many events were applied.
     pub fn run(
         &mut self,
         alloc: Global,
@@ -301,7 +301,7 @@ impl<T: AppTable> Machine<T> {
         Ok(())
     }
 
-    /// The phase of the channel of this number, or None where there is none.
+    /// The phase of the channel with this number, or None if there is none.
     pub fn phase(&self, number: u32) -> Option<&Phase>
         ensures { option_copied result ≡ option_map (λ channel. channel.phase)
             (worlds.channel_at self.now.channels number) }
@@ -310,7 +310,7 @@ impl<T: AppTable> Machine<T> {
         Some(&channel.phase)
     }
 
-    /// Where the channel of this number stands, or None where there is none.
+    /// The place of the channel with this number, or None if there is none.
     pub fn place(&self, number: u32) -> Option<&Place>
         ensures { option_copied result ≡ option_map (λ channel. channel.place)
             (worlds.channel_at self.now.channels number) }
@@ -319,12 +319,11 @@ impl<T: AppTable> Machine<T> {
         Some(&channel.place)
     }
 
-    /// The value of a name in the channel of this number, as `${NAME}` there reads it: what the channel gives by the names
-    /// `EXTEN`, `CONTEXT`, `PRIORITY` and `CHANNEL`, else the local of the innermost frame that has the name as one, else
-    /// the channel's variable, else the global. It is the empty text where nothing of these has the name, and where no
-    /// channel has the number. A channel that has ended has its values still.
+    /// The value of a name in the channel with this number, as `${NAME}` reads it there: what the channel gives under the names `EXTEN`,
+    /// `CONTEXT`, `PRIORITY` and `CHANNEL`, else the local of the innermost frame that has the name, else the channel's variable, else the
+    /// global. It is empty if none of these has the name, and if no channel has the number. A channel that has ended keeps its values.
     ///
-    /// The error comes only where a growth was refused.
+    /// It fails only if memory runs out.
     pub fn value(&self, alloc: Global, channel: u32, name: &[u8]) -> Result<Vec<u8>, NoMemory>
         ensures { IfOk result (λ value. value.items ≡ worlds.value_in self.now channel name.now) }
     {
@@ -334,10 +333,10 @@ impl<T: AppTable> Machine<T> {
         }
     }
 
-    /// The entry that the next step of the channel of this number would run, or None where it would run none: the channel is
-    /// not ready or not there, or stands where no entry is.
+    /// The entry that the next step of the channel with this number would run, or None if the step would run none: the channel is not
+    /// ready, does not exist, or is at a place without an entry.
     ///
-    /// The error comes only where a growth was refused.
+    /// It fails only if memory runs out.
     pub fn next_entry(&self, alloc: Global, channel: u32) -> Result<Option<EntryId>, NoMemory>
         ensures { IfOk result (λ entry. entry ≡ spec.next_entry self.now channel) }
     {
@@ -347,7 +346,7 @@ impl<T: AppTable> Machine<T> {
         }
     }
 
-    /// The same as `next_entry`, looked up as a step looks up. It never allocates, and changes nothing that a contract sees.
+    /// The same as `next_entry`, looked up in the way a step looks it up. It never allocates, and changes nothing that a contract sees.
     pub fn entry_ahead(&mut self, channel: u32) -> Option<EntryId>
         ensures entry { result ≡ spec.next_entry self.old channel }
         ensures same { self.new ≡ self.old }
@@ -358,10 +357,10 @@ impl<T: AppTable> Machine<T> {
         }
     }
 
-    /// The arguments of the entry that the next step of the channel of this number would run, as they would be expanded, or None
-    /// where it would run none. It changes nothing that a contract sees.
+    /// The arguments of the entry that the next step of the channel with this number would run, as they would be expanded, or None if the
+    /// step would run none. It changes nothing that a contract sees.
     ///
-    /// The error comes only where a growth was refused.
+    /// It fails only if memory runs out.
     pub fn arguments_ahead(
         &mut self,
         alloc: Global,
@@ -386,7 +385,7 @@ impl<T: AppTable> Machine<T> {
         &self.exchange.shared.queues
     }
 
-    /// What is true at all times: channels, waiting lists and agents say the same of who waits and who talks. It does nothing.
+    /// The invariant: channels, waiting lists and agents agree on who waits and who talks. This function does nothing.
     pub fn show_good(&self)
         ensures { good.IsGoodWorld self.now }
     {
@@ -402,12 +401,12 @@ impl<T: AppTable> Machine<T> {
 }
 
 impl<T: KnownTable> Machine<T> {
-    /// What is unknown of the entry that the next step of the channel of this number would run: its application, if the table lacks
-    /// it, else the first group of its arguments that the table's functions do not know, in the order in which groups are expanded,
-    /// else what the application asks with these arguments. None where all is known, where the application does not look at its
-    /// arguments, and where the step would run no entry. It changes nothing that a contract sees.
+    /// What is unknown of the entry that the next step of the channel with this number would run: its application if the table lacks it,
+    /// else the first group in its arguments that the table's functions do not know, in the order in which groups are expanded, else what
+    /// the application asks for with these arguments. It is None if everything is known, if the application does not look at its arguments,
+    /// and if the step would run no entry. It changes nothing that a contract sees.
     ///
-    /// The error comes only where a growth was refused.
+    /// It fails only if memory runs out.
     pub fn unknown_ahead(
         &mut self,
         alloc: Global,

@@ -1,10 +1,10 @@
-//! Queues before the first call.
+//! The queues before the first phone call.
 ghost use Rattle.std.specs.Prelude.{◌≡◌};
 ghost use Rattle.dp_machine.specs.Seen as seen;
 
 use dp_vars::Counts;
 
-/// What the globals see of queues while they are expanded: none is there, and nobody waits in any.
+/// What the globals see of queues while they are expanded: no queue exists, and nobody waits in any.
 #[derive(Clone, Copy)]
 pub(crate) struct NoQueues;
 

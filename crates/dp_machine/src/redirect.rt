@@ -9,7 +9,7 @@ use crate::reply::Reply;
 use dp_app::{Phase, Place};
 use dp_plan::NoMemory;
 
-/// Sends the channel of this number to the place. A channel that waits for an agent or for a far side, or that talks, stays.
+/// Sends the channel with this number to the place. A channel that waits for an agent or for a far side, or that talks, stays.
 #[tactic(auto, unfolding(crate::specs::Events::redirect_row))]
 pub(crate) fn redirect(
     exchange: &mut Exchange,

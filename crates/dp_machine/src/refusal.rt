@@ -13,9 +13,9 @@ pub enum Refusal {
     NotWaiting,
     /// The channel waits in a queue, or for a call to devices, without a time-out.
     NoTimer,
-    /// There is no queue of the name.
+    /// There is no queue with the name.
     NoQueue,
-    /// No channel waits in the queue for which no agent rings.
+    /// Every channel that waits in the queue already has an agent ringing for it, or none waits.
     NobodyWaiting,
     /// No member of the queue may be chosen.
     NoMember,
@@ -25,9 +25,9 @@ pub enum Refusal {
     NotTalking,
     /// The channel has ended.
     Ended,
-    /// All 65,535 numbers of channels were given.
+    /// All 65,535 channel numbers were given.
     NumbersSpent,
-    /// The byte is no digit of a telephone.
+    /// The byte is no telephone digit.
     BadDigit,
     /// The text of a dialplan has a fault.
     BadPlan,
@@ -58,7 +58,7 @@ impl Refusal {
         }
     }
 
-    /// The name of the refusal, as it is printed beside its number.
+    /// The printed name of the refusal.
     pub fn name(self) -> &'static str
         ensures { result.now ≡ refusal_name self }
     {

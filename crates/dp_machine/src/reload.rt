@@ -1,4 +1,4 @@
-//! Another dialplan is put in force, after the Asterisk documentation's pages on reloading the dialplan.
+//! Putting another dialplan in force, after the Asterisk documentation's pages on reloading the dialplan.
 ghost use Rattle.std.specs.Prelude.{◌≡◌, IfOk, List};
 ghost use Rattle.dp_plan.specs.Loaded.{plan_and_notes};
 ghost use Rattle.dp_machine.specs.steps.Follows.{Makes};
@@ -13,7 +13,7 @@ use dp_app::AppTable;
 use dp_plan::{Dialplan, LoadFault, NoMemory};
 use std::alloc::Global;
 
-/// The dialplan of a text, or None where that has a fault.
+/// The dialplan that a text holds, or None if the text has a fault.
 fn load(alloc: Global, text: &[u8]) -> Result<Option<Dialplan>, NoMemory>
     ensures { IfOk result (λ plan. plan ≡ spec.plan_in (plan_and_notes text.now)) }
 {
@@ -24,7 +24,7 @@ fn load(alloc: Global, text: &[u8]) -> Result<Option<Dialplan>, NoMemory>
     }
 }
 
-/// The dialplan of this text is put in force, and its globals are set. All of it is made before anything is replaced.
+/// Puts the dialplan of this text in force, and sets its globals. Everything is made before anything is replaced.
 pub(crate) fn reload<T: AppTable>(
     alloc: Global,
     exchange: &mut Exchange,

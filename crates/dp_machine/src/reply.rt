@@ -8,15 +8,15 @@ use dp_plan::EntryId;
 /// The reply to an event.
 #[derive(Clone, Copy, Debug, PartialEq, Eq)]
 pub enum Reply {
-    /// A channel of this number was started.
+    /// A channel with this number was started.
     Started(u32),
     /// The application of this entry was run.
     Ran(EntryId),
-    /// The extension is not there, and the channel went to the extension `i` of its context.
+    /// The extension does not exist, and the channel went to the extension `i` of its context.
     Invalid,
-    /// No entry stands where the channel stands, and it is hung up.
+    /// There is no entry at the channel's place, and the channel is hung up.
     NoEntry,
-    /// A call of this channel rings at so many agents.
+    /// A call of this channel rings at a number of agents.
     Offered { channel: u32, rung: usize },
     /// The event was taken.
     Done,

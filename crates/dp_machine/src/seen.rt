@@ -1,4 +1,4 @@
-//! What the texts of a channel see.
+//! The values that the texts of a channel read.
 ghost use Rattle.std.specs.Prelude.{◌≡◌, IfOk, Some};
 ghost use Rattle.std.specs.Option.{option_map};
 ghost use Rattle.dp_queue.specs.Counted.{counts_of};
@@ -15,7 +15,7 @@ use dp_queue::Queues;
 use dp_vars::{ChannelSeen, Functions, Pieces, Scope, value_of};
 use std::alloc::Global;
 
-/// What the texts of the channel of this number see.
+/// What the texts of the channel with this number see.
 pub(crate) fn scope_of<'a>(
     shared: &'a SharedState,
     number: u32,
@@ -39,7 +39,7 @@ pub(crate) fn scope_of<'a>(
     }
 }
 
-/// The arguments of an entry, of which these are the pieces, expanded by these functions in what the channel of this number sees.
+/// The arguments of an entry that consist of these pieces, expanded by these functions with what the channel with this number sees.
 #[tactic(auto, unfolding(crate::specs::Seen::arguments_seen))]
 pub(crate) fn expand_arguments<F: Functions>(
     alloc: Global,
@@ -57,7 +57,7 @@ pub(crate) fn expand_arguments<F: Functions>(
     Ok(bytes)
 }
 
-/// The first group of the arguments that these functions do not know, in what the channel of this number sees.
+/// The first group of the arguments that these functions do not know, with what the channel with this number sees.
 #[tactic(auto, unfolding(crate::specs::Unknown::unknown_seen))]
 pub(crate) fn unknown_in_pieces<F: Functions>(
     alloc: Global,
@@ -76,7 +76,7 @@ pub(crate) fn unknown_in_pieces<F: Functions>(
     Ok(unknown)
 }
 
-/// The value of a name in the channel of this number.
+/// The value of a name in the channel with this number.
 pub(crate) fn channel_value(
     alloc: Global,
     shared: &SharedState,

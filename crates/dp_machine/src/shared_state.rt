@@ -16,7 +16,7 @@ pub struct SharedState {
     pub queues: Queues,
 }
 
-/// What the value of a global sees: the globals as they are then, how many wait in queues, and no channel.
+/// What the value of a global sees: the globals set so far, how many wait in queues, and no channel.
 fn scope_of_globals<'a, C: Counts>(globals: &'a Globals, counts: &'a C) -> Scope<'a, Place, C>
     ensures { sight_of C.count result ≡ seen.sight_of_globals (C.count counts.now) globals.now }
 {
@@ -28,7 +28,7 @@ fn scope_of_globals<'a, C: Counts>(globals: &'a Globals, counts: &'a C) -> Scope
     }
 }
 
-/// The value of a global that is written so.
+/// The value of a global, given its text.
 #[tactic(auto, unfolding(crate::specs::Seen::global_value))]
 fn expand_global<F: Functions, C: Counts>(
     alloc: Global,
@@ -57,7 +57,7 @@ fn set_global<F: Functions, C: Counts>(
     Ok(())
 }
 
-/// Sets the globals of a dialplan one after another, each of which is expanded over those that are then.
+/// Sets the globals of a dialplan one after another, each expanded with the globals set so far.
 pub(crate) fn set_globals<F: Functions, C: Counts>(
     alloc: Global,
     globals: &mut Globals,

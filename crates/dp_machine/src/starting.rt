@@ -1,4 +1,4 @@
-//! Calls that come in.
+//! Incoming phone calls.
 ghost use Rattle.std.specs.Prelude.{◌≡◌, IfOk, OnErr, false};
 ghost use Rattle.dp_machine.specs.Events as spec;
 
@@ -10,10 +10,10 @@ use dp_plan::{NoMemory, Text};
 use dp_vars::Store;
 use std::alloc::Global;
 
-/// How many channels a machine has at most.
+/// The greatest number of channels of a machine.
 pub const MOST_CHANNELS: usize = 65_535;
 
-/// A call comes in. The event is refused where all numbers of channels were given, and then does not allocate.
+/// A phone call comes in. If all channel numbers were given the event is refused without allocating.
 #[tactic(auto, unfolding(crate::specs::Events::start_call))]
 pub(crate) fn start(
     alloc: Global,
@@ -47,7 +47,7 @@ pub(crate) fn start(
     Ok(Reply::Started(count as u32 + 1))
 }
 
-/// A call comes in by texts that are kept. Where all numbers of channels were given no text is copied.
+/// A phone call comes in with texts that are borrowed. If all channel numbers were given no text is copied.
 #[tactic(auto, unfolding(crate::specs::Events::start_call))]
 pub(crate) fn start_kept(
     alloc: Global,

@@ -26,7 +26,7 @@ use dp_app::{AppNumber, AppTable, Cell, Exten, Move, Phase, Place};
 use dp_plan::{Entry, EntryId, NoMemory};
 use std::alloc::Global;
 
-/// Moves the channel, after an application that a table may lack.
+/// Moves the channel after an application, which a table may lack.
 #[inline(always)]
 fn go(plan: &mut Directory, channel: &mut Channel, going: Option<Move>)
     requires { channel.old.place.priority ≤ most_priority }
@@ -51,15 +51,15 @@ pub(crate) fn go_on(channel: &mut Channel)
     channel.phase = Phase::Ready;
 }
 
-/// The application that an entry calls, by its name, and where the table looks first for it.
+/// The application that an entry calls, by name, and where the table first looks for it.
 #[derive(Clone, Copy)]
 struct AppCall<'a> {
     number: AppNumber,
     name: &'a [u8],
 }
 
-/// Runs the application of this name on its expanded arguments, for the channel of this number, where the table has it. What it
-/// may change is lent to it.
+/// Runs the application with this name on its expanded arguments, for the channel with this number, if the table has it. It lends the
+/// application what that may change.
 fn run_application<T: AppTable>(
     alloc: Global,
     shared: &mut SharedState,
@@ -90,7 +90,7 @@ fn run_application<T: AppTable>(
     )
 }
 
-/// Runs the application of the entry, whose arguments are expanded first, by their template.
+/// Runs the application of the entry, after it has expanded the arguments with their template.
 #[tactic(auto, unfolding(crate::specs::Seen::arguments_seen))]
 fn run_entry<T: AppTable>(
     alloc: Global,
@@ -129,7 +129,7 @@ fn run_entry<T: AppTable>(
     }
 }
 
-/// Whether the extension of a place is not there, and `i` is found in its context.
+/// Whether the extension of a place does not exist, but `i` is found in its context.
 fn is_invalid(plan: &mut Directory, place: &Place) -> bool
     ensures invalid { result ≡ channels.is_invalid plan.old place.now }
     ensures same { plan.new ≡ plan.old }
@@ -140,7 +140,7 @@ fn is_invalid(plan: &mut Directory, place: &Place) -> bool
     plan.is_found(&place.context, b"i", 1)
 }
 
-/// Makes the channel ready at the extension `i` of its context, which reads what was dialled.
+/// Makes the channel ready at the extension `i` of its context, where it reads what was dialled.
 fn go_to_invalid(alloc: Global, channel: &mut Channel) -> Result<(), NoMemory>
     ensures ok { OnOk result (channel.new ≡ channels.invalid channel.old) }
     ensures err { OnErr result (channel.new ≡ channel.old) }
@@ -152,7 +152,7 @@ fn go_to_invalid(alloc: Global, channel: &mut Channel) -> Result<(), NoMemory>
     Ok(())
 }
 
-/// A step where no entry is found: to the extension `i` if the extension is not there at all, else a hang-up.
+/// A step that finds no entry: it goes to the extension `i` if the extension does not exist at all, else it hangs up.
 #[tactic(auto, using(crate::proofs::StepLemmas::hung_up_sound, crate::proofs::StepLemmas::unfound_taken), unfolding(crate::specs::Events::unfound))]
 fn step_unfound(
     alloc: Global,
@@ -171,7 +171,7 @@ fn step_unfound(
     Ok(Reply::NoEntry)
 }
 
-/// Runs the entry of these numbers, which answers where the channel stands.
+/// Runs the entry with these numbers, which answers at the channel's place.
 #[tactic(auto, using(crate::proofs::StepLemmas::found_taken))]
 fn step_found<T: AppTable>(
     alloc: Global,
@@ -227,7 +227,7 @@ fn step_ready<T: AppTable>(
     }
 }
 
-/// A step of the channel of this number. One that is not ready takes none.
+/// A step of the channel with this number. A channel that is not ready takes none.
 #[tactic(auto, unfolding(crate::specs::Events::step_row))]
 #[inline(always)]
 pub(crate) fn step_channel<T: AppTable>(

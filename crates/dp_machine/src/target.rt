@@ -11,7 +11,7 @@ use dp_app::{Exten, Phase, Place, Target, TargetParts};
 use dp_conf::read_number;
 use dp_plan::{MOST_PRIORITY, Text};
 
-/// A number that a target may have: one above the greatest priority of an entry is a place where no entry can be.
+/// A number that a target may have: above the greatest priority of an entry it names a place where no entry can be.
 fn target_priority(number: u64) -> Option<u32>
     ensures { result ≡ spec.target_priority number }
 {
@@ -22,7 +22,7 @@ fn target_priority(number: u64) -> Option<u32>
     Some(number)
 }
 
-/// The priority that the text asks for at the extension of the context, where it asks for one.
+/// The priority that the text names in the extension of the context, if it names one.
 #[inline(always)]
 fn priority_of(plan: &mut Directory, context: &Text, exten: &[u8], text: &[u8]) -> Option<u32>
     ensures priority { result ≡ spec.priority_of plan.old context.now exten.now text.now }
@@ -37,7 +37,7 @@ fn priority_of(plan: &mut Directory, context: &Text, exten: &[u8], text: &[u8]) 
     }
 }
 
-/// The context that the parts before the last name, the last of these but one; else the channel's own.
+/// The context that the parts before the last name: the second of them from the end, else the channel's own.
 fn context_of<'a>(own: &'a Place, front: &'a [Text]) -> &'a Text
     ensures { result.now ≡ spec.given_or own.now.context (slice_get (reverse front.now) 1) }
 {
@@ -47,7 +47,7 @@ fn context_of<'a>(own: &'a Place, front: &'a [Text]) -> &'a Text
     }
 }
 
-/// The extension that the parts before the last name, the last of these; else the channel's own.
+/// The extension that the parts before the last name: the last of them, else the channel's own.
 fn exten_of<'a>(own: &'a Place, front: &'a [Text]) -> &'a [u8]
     ensures { result.now ≡ spec.given_or own.now.exten (slice_get (reverse front.now) 0) }
 {
@@ -57,7 +57,7 @@ fn exten_of<'a>(own: &'a Place, front: &'a [Text]) -> &'a [u8]
     }
 }
 
-/// The priority that the parts ask for, for a channel at its own place, where they ask for one.
+/// The priority that the parts name, for a channel at its own place, if they name one.
 #[tactic(auto, unfolding(crate::specs::Targets::parts_place))]
 #[inline(always)]
 fn parts_priority(plan: &mut Directory, own: &Place, parts: &TargetParts) -> Option<u32>
@@ -72,7 +72,7 @@ fn parts_priority(plan: &mut Directory, own: &Place, parts: &TargetParts) -> Opt
     priority_of(plan, context, exten_of(own, front), priority)
 }
 
-/// Puts a context in the place of the channel's own, unless it is empty or not there.
+/// Replaces the channel's own context, unless the new one is empty or missing.
 #[inline(always)]
 fn put_context(own: &mut Text, part: Option<Text>)
     ensures { own.new ≡ spec.given_or own.old part }
@@ -83,7 +83,7 @@ fn put_context(own: &mut Text, part: Option<Text>)
     }
 }
 
-/// Puts an extension in the place of the channel's own, unless it is empty or not there.
+/// Replaces the channel's own extension, unless the new one is empty or missing.
 #[inline(always)]
 fn put_exten(own: &mut Exten, part: Option<Text>)
     ensures { own.new ≡ spec.given_or own.old part }
@@ -94,7 +94,7 @@ fn put_exten(own: &mut Exten, part: Option<Text>)
     }
 }
 
-/// Makes the channel ready at the place of these parts, at most three, of which the last asked for the priority.
+/// Makes the channel ready at the place of these parts, at most three; the last of them has named the priority.
 #[inline(always)]
 fn go_to_parts(channel: &mut Channel, parts: TargetParts, priority: u32)
     requires { length parts ≤ 3 }
@@ -113,7 +113,7 @@ fn go_to_parts(channel: &mut Channel, parts: TargetParts, priority: u32)
     channel.phase = Phase::Ready;
 }
 
-/// Makes the channel ready at the place of a target, or hangs it up where the target has none.
+/// Makes the channel ready at the place of a target, or hangs it up if the target has none.
 pub(crate) fn land(plan: &mut Directory, channel: &mut Channel, target: Target)
     ensures channel { channel.new ≡ channels.at_target plan.old channel.old
         (spec.target_place plan.old channel.old.place target) }
@@ -154,7 +154,7 @@ fn land_at_existing(plan: &mut Directory, channel: &mut Channel, parts: TargetPa
     }
 }
 
-/// The priority that the parts ask for, if an entry is found there.
+/// The priority that the parts name, if an entry is found there.
 fn existing_priority(plan: &mut Directory, own: &Place, parts: &TargetParts) -> Option<u32>
     ensures place { spec.if_found plan.old (spec.parts_place plan.old own.now parts.now)
         ≡ option_map (spec.place_of (spec.parts_context own.now parts.now)

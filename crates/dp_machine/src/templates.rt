@@ -1,5 +1,5 @@
-//! What is read of a dialplan's entries once, when it is put in force: their applications and their arguments, after the Asterisk
-//! documentation's pages on variables.
+//! The parts of a dialplan's entries that are read once, when it is put in force: their applications and their arguments, after the
+//! Asterisk documentation's pages on variables.
 ghost use Rattle.std.specs.Prelude.{◌≡◌, IfOk};
 ghost use Rattle.std.specs.Option.{option_copied};
 ghost use Rattle.dp_machine.specs.steps.Templates as spec;
@@ -10,17 +10,17 @@ use dp_vars::{Pieces, has_opening};
 use std::alloc::Global;
 use std::marker::Model;
 
-/// The arguments of an entry, as they are expanded.
+/// The arguments of an entry, prepared for expansion.
 #[derive(Drop)]
 pub(crate) enum Arguments {
-    /// Nothing in them opens a group, so they are taken as they stand.
+    /// Nothing in them opens a group, so they are used as they are.
     Plain,
     /// Their pieces.
     Read(Pieces),
 }
 
 impl Arguments {
-    /// Those of a text.
+    /// The arguments of a text.
     fn read(alloc: Global, text: &[u8]) -> Result<Self, NoMemory>
         ensures { IfOk result (spec.AreTemplate text.now) }
     {
@@ -32,7 +32,7 @@ impl Arguments {
     }
 }
 
-/// What is read of an entry: where the table looks first for its application, and its arguments.
+/// The parts that are read of an entry: where the table first looks for its application, and its arguments.
 #[derive(Drop)]
 pub(crate) struct EntryTemplate {
     pub(crate) number: AppNumber,
@@ -40,7 +40,7 @@ pub(crate) struct EntryTemplate {
 }
 
 impl EntryTemplate {
-    /// That of an entry. An application that the table lacks has the first number, as good as any.
+    /// The template of an entry. An application that the table lacks has the first number, which is as good as any.
     fn read<T: AppTable>(alloc: Global, entry: &Entry) -> Result<Self, NoMemory>
         ensures { IfOk result (spec.IsOf entry.now) }
     {
@@ -66,7 +66,7 @@ impl Model for ContextTemplates {
 }
 
 impl ContextTemplates {
-    /// Those of these entries.
+    /// The templates of these entries.
     fn read<T: AppTable>(alloc: Global, entries: &[Entry]) -> Result<Self, NoMemory>
         ensures { IfOk result (spec.AreOf entries.now) }
     {
@@ -80,7 +80,7 @@ impl ContextTemplates {
         Ok(ContextTemplates { held })
     }
 
-    /// The templates; the number of one is that of its entry.
+    /// The templates; each has the number of its entry.
     fn list(&self) -> &[EntryTemplate]
         ensures { result.now ≡ self.now }
     {
@@ -104,7 +104,7 @@ impl Model for Templates {
 }
 
 impl Templates {
-    /// Those of the entries of these contexts.
+    /// The templates of the entries of these contexts.
     pub(crate) fn read<T: AppTable>(alloc: Global, contexts: &[Context]) -> Result<Self, NoMemory>
         ensures { IfOk result (spec.AreTemplates contexts.now) }
     {
@@ -118,7 +118,7 @@ impl Templates {
         Ok(Templates { contexts: held })
     }
 
-    /// That of the entry of these numbers.
+    /// The template of the entry with these numbers.
     pub(crate) fn of_entry(&self, id: EntryId) -> Option<&EntryTemplate>
         ensures { option_copied result ≡ spec.template_at self.now id }
     {

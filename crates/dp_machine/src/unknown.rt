@@ -1,5 +1,5 @@
-//! What is unknown ahead of a channel: an application that the table lacks, a group that its functions do not know, or what its
-//! application asks.
+//! What is unknown ahead of a channel: an application that the table lacks, a group that its functions do not know, or what its application
+//! asks for.
 ghost use Rattle.std.specs.Prelude.{◌≡◌, IfOk, List};
 ghost use Rattle.std.specs.Option.{option_map};
 ghost use Rattle.dp_app.specs.Rows.{with_functions};
@@ -25,20 +25,20 @@ use std::alloc::Global;
 pub enum Unknown {
     /// The application of this name, which the table lacks.
     Application(Text),
-    /// The group of this variable, or of this function and its expanded argument, as `DB(a/b)`, of which the value is not known.
+    /// The group of this variable, or of this function and its expanded argument such as `DB(a/b)`, whose value is unknown.
     Group(Text),
-    /// What the application asks with its arguments: an application of this name, or the value of this name.
+    /// What the application asks for with its arguments: an application with this name, or the value of this name.
     Asked(Text),
 }
 
-/// A text, where it has bytes.
+/// A text, if it has bytes.
 fn any_text(text: Vec<u8>) -> Option<Vec<u8>>
     ensures { option_map (λ text. text.items) result ≡ any_text text.items }
 {
     if text.is_empty() { None } else { Some(text) }
 }
 
-/// The first group of an entry's arguments that is not known, where this is its template.
+/// The first unknown group in the arguments of an entry with this template.
 #[tactic(auto, unfolding(crate::specs::Unknown::unknown_seen))]
 fn unknown_group<F: Functions>(
     alloc: Global,
@@ -61,7 +61,7 @@ fn unknown_group<F: Functions>(
     }
 }
 
-/// What the application of an entry asks with the entry's arguments that is not known, where this is its template.
+/// The unknown text that the application of an entry with this template asks for with the entry's arguments.
 #[tactic(auto, unfolding(crate::specs::Unknown::unknown_asked))]
 fn unknown_asked<T: KnownTable>(
     alloc: Global,
@@ -81,7 +81,7 @@ fn unknown_asked<T: KnownTable>(
     Ok(any_text(asked))
 }
 
-/// What is unknown of the arguments of an entry, where this is its template.
+/// What is unknown in the arguments of an entry with this template.
 fn unknown_of_arguments<T: KnownTable>(
     alloc: Global,
     shared: &SharedState,
@@ -107,7 +107,7 @@ fn unknown_of_arguments<T: KnownTable>(
     }
 }
 
-/// What is unknown of an entry, where this is its template.
+/// What is unknown of an entry with this template.
 fn unknown_of_entry<T: KnownTable>(
     alloc: Global,
     shared: &SharedState,

@@ -24,7 +24,7 @@ use dp_queue::Queues;
 use std::alloc::Global;
 use std::mem;
 
-/// Whether the byte is a digit of a telephone.
+/// Whether the byte is a telephone digit.
 fn is_digit(byte: u8) -> bool
     ensures { result ≡ spec.is_digit byte }
 {
@@ -46,7 +46,7 @@ pub(crate) fn is_over(phase: &Phase) -> bool
     }
 }
 
-/// The channel has dialled these digits: it waits for more where they may go on, else it goes where they lead.
+/// The channel has dialled these digits: it waits for more if they may continue, else it goes where they lead.
 fn collect(plan: &mut Directory, channel: &mut Channel, text: Text, is_background: bool)
     ensures channel { channel.new ≡ channels.after_digit
         (found.could_go_on plan.old channel.old.place.context text) channel.old text is_background }
@@ -62,8 +62,7 @@ fn collect(plan: &mut Directory, channel: &mut Channel, text: Text, is_backgroun
     }
 }
 
-/// The context in which the digits of those that wait in the queue of this number are looked up; nowhere where there is
-/// no such queue.
+/// The context in which the digits of channels that wait in the queue with this number are looked up; `nowhere` if there is no such queue.
 fn way_out_of<'a>(queues: &'a Queues, queue: usize, nowhere: &'a Text) -> &'a Text
     requires { nowhere.now ≡ [] }
     ensures { result.now ≡ spec.way_out_of queues.now queue }
@@ -74,8 +73,7 @@ fn way_out_of<'a>(queues: &'a Queues, queue: usize, nowhere: &'a Text) -> &'a Te
     }
 }
 
-/// A digit of a channel that waits in the queue of this number: where the digit is found in the queue's context the channel
-/// leaves and goes there.
+/// A digit of a channel that waits in the queue with this number: if the queue's context has the digit the channel leaves and goes there.
 fn dial_in_queue(
     alloc: Global,
     exchange: &mut Exchange,
@@ -105,7 +103,7 @@ fn dial_in_queue(
     Ok(Reply::Done)
 }
 
-/// A digit of a telephone.
+/// A telephone digit.
 fn dial_digit(
     alloc: Global,
     exchange: &mut Exchange,
@@ -155,7 +153,7 @@ pub(crate) fn dial(
     dial_digit(alloc, exchange, number, channel, digit)
 }
 
-/// A channel in a queue leaves it, and reads why.
+/// A channel leaves its queue, and reads why.
 fn leave_queue(
     alloc: Global,
     exchange: &mut Exchange,
@@ -173,7 +171,7 @@ fn leave_queue(
     Ok(Reply::Done)
 }
 
-/// No digit came in time for `WaitExten`: the channel goes on, or else to the extension `t`, or is hung up.
+/// No digit came in time for `WaitExten`: the channel goes on, or to the extension `t`, or is hung up.
 fn end_wait(plan: &mut Directory, channel: &mut Channel)
     requires { channel.old.place.priority ≤ most_priority }
     ensures channel { channel.new ≡ channels.after_wait plan.old channel.old }
@@ -190,7 +188,7 @@ fn end_wait(plan: &mut Directory, channel: &mut Channel)
     }
 }
 
-/// The time of a channel that waits for digits ends, and none came.
+/// The time of a channel that waits for digits is over, and none came.
 fn end_undialled(plan: &mut Directory, channel: &mut Channel, is_background: bool)
     requires { channel.old.place.priority ≤ most_priority }
     ensures channel { channel.new ≡ channels.without_digits plan.old channel.old is_background }
@@ -203,7 +201,7 @@ fn end_undialled(plan: &mut Directory, channel: &mut Channel, is_background: boo
     }
 }
 
-/// The time of a channel that waits in a queue ends.
+/// The time of a channel that waits in a queue is over.
 fn end_time_in_queue(
     alloc: Global,
     exchange: &mut Exchange,
@@ -221,7 +219,7 @@ fn end_time_in_queue(
     leave_queue(alloc, exchange, number, channel, b"TIMEOUT")
 }
 
-/// What the channel waits for does not come in time.
+/// The time of what the channel waits for is over.
 #[tactic(auto, unfolding(crate::specs::Events::timeout_row))]
 pub(crate) fn end_time(
     alloc: Global,
@@ -264,7 +262,7 @@ pub(crate) fn end_time(
     }
 }
 
-/// A channel in the queue of this number asks whether it is to leave it.
+/// A channel in the queue with this number asks whether it has to leave.
 fn poll_queue(
     alloc: Global,
     exchange: &mut Exchange,
@@ -282,7 +280,7 @@ fn poll_queue(
     leave_queue(alloc, exchange, number, channel, b"LEAVEEMPTY")
 }
 
-/// The channel asks whether its queue is to be left, since it is too empty.
+/// The channel asks whether it has to leave its queue because the queue is too empty.
 #[tactic(auto, unfolding(crate::specs::Events::poll_row))]
 pub(crate) fn poll(
     alloc: Global,
@@ -308,8 +306,8 @@ pub(crate) fn poll(
     }
 }
 
-/// The caller hangs up: the channel leaves its queue, or its talk ends, or it reads that its call to devices was given up, and
-/// it is hung up. Only that reading allocates.
+/// The caller hangs up: the channel leaves its queue, or its talk ends, or it reads that its call to devices was cancelled, and it is hung
+/// up. Only that reading allocates.
 #[tactic(auto, unfolding(crate::specs::Events::hang_up_row))]
 pub(crate) fn hang_up_channel(
     alloc: Global,

@@ -157,6 +157,6 @@ impl Question for Applied {
 
 /// `Goto` goes to its target and hangs up without one, names are in any case, and an unknown application hangs up.
 #[test]
-fn applications_do_so(rt: HostRuntime) -> Result<(), Fail> {
+fn goto_jumps_and_unknown_applications_hang_up(rt: HostRuntime) -> Result<(), Fail> {
     check::<Applied>(rt.alloc(), ROWS)
 }

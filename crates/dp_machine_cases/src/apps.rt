@@ -137,6 +137,6 @@ impl Question for Going {
 }
 
 #[test]
-fn moves_by_arguments(rt: HostRuntime) -> Result<(), Fail> {
+fn applications_move_a_channel_by_their_arguments(rt: HostRuntime) -> Result<(), Fail> {
     check::<Going>(rt.alloc(), GOING)
 }

@@ -81,11 +81,11 @@ fn check_names(alloc: Global) -> Result<(), Fail> {
 }
 
 #[test]
-fn refusals_have_these_codes(rt: HostRuntime) -> Result<(), Fail> {
+fn numbers_and_names_of_refusals(rt: HostRuntime) -> Result<(), Fail> {
     check_codes(rt.alloc())
 }
 
 #[test]
-fn statuses_have_these_names(rt: HostRuntime) -> Result<(), Fail> {
+fn names_of_dial_statuses(rt: HostRuntime) -> Result<(), Fail> {
     check_names(rt.alloc())
 }

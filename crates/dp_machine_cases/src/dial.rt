@@ -129,6 +129,6 @@ impl Question for Dialled {
 
 /// `Dial` waits, goes on or hangs up, and sets its status only where it has no devices.
 #[test]
-fn devices_are_dialled_so(rt: HostRuntime) -> Result<(), Fail> {
+fn dial_waits_goes_on_or_hangs_up(rt: HostRuntime) -> Result<(), Fail> {
     check::<Dialled>(rt.alloc(), ROWS)
 }

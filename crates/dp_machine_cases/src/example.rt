@@ -71,7 +71,7 @@ fn push_all(out: &mut String, alloc: Global) -> Result<(), Fail> {
 }
 
 #[test]
-fn a_program_loads_looks_up_and_runs(rt: HostRuntime) -> Result<(), Fail> {
+fn a_program_loads_a_dialplan_and_runs_a_call(rt: HostRuntime) -> Result<(), Fail> {
     let mut out = String::new(rt.alloc());
     push_all(&mut out, rt.alloc())?;
     check_same("the program", &out, ANSWERS)

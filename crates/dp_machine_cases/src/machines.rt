@@ -286,7 +286,7 @@ fn check_machines(alloc: Global) -> Result<(), Fail> {
 
 /// Machines and their readers, runs, and copies of events.
 #[test]
-fn machines_are_read_and_run(rt: HostRuntime) -> Result<(), Fail> {
+fn machines_run_and_events_are_copied(rt: HostRuntime) -> Result<(), Fail> {
     check_machines(rt.alloc())
 }
 
@@ -297,6 +297,6 @@ fn check_again(alloc: Global) -> Result<(), Fail> {
 
 /// What goes on where memory is refused.
 #[test]
-fn events_are_given_again(rt: HostRuntime) -> Result<(), Fail> {
+fn events_are_retried_after_no_memory(rt: HostRuntime) -> Result<(), Fail> {
     check_again(rt.alloc())
 }

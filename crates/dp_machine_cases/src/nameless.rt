@@ -104,6 +104,6 @@ impl Question for Members {
 
 /// A member of the empty name is none that an application of pauses names.
 #[test]
-fn nameless_members_are_not_named(rt: HostRuntime) -> Result<(), Fail> {
+fn applications_never_name_a_nameless_member(rt: HostRuntime) -> Result<(), Fail> {
     check::<Members>(rt.alloc(), ROWS)
 }

@@ -62,6 +62,6 @@ impl Checked for Spent {
 
 /// After 65,535 calls each further one is refused, also where calls have ended.
 #[test]
-fn numbers_are_spent(rt: HostRuntime) -> Result<(), Fail> {
+fn calls_are_refused_once_channel_numbers_are_spent(rt: HostRuntime) -> Result<(), Fail> {
     check_on::<Spent>(rt.alloc(), b"[main]\nexten => s,1,Hangup()\n")
 }

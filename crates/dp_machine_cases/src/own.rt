@@ -81,7 +81,7 @@ fn push_run(out: &mut String, alloc: Global) -> Result<(), Fail> {
 
 /// A table of two applications that the program has not.
 #[test]
-fn another_table_runs(rt: HostRuntime) -> Result<(), Fail> {
+fn a_machine_runs_another_table(rt: HostRuntime) -> Result<(), Fail> {
     let mut story = String::new(rt.alloc());
     push_run(&mut story, rt.alloc())?;
     check_same("the call", &story, STORY)

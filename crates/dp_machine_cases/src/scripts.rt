@@ -196,6 +196,6 @@ impl Question for Happened {
 
 /// Devices are called, and dialplans are put in force.
 #[test]
-fn scripts_are_answered_so(rt: HostRuntime) -> Result<(), Fail> {
+fn scripts_with_dial_results_and_reloads(rt: HostRuntime) -> Result<(), Fail> {
     check_all::<Happened>(rt.alloc(), &[DIALLING, RELOADING])
 }

@@ -279,6 +279,6 @@ fn check_stories(alloc: Global) -> Result<(), Fail> {
 }
 
 #[test]
-fn machines_answer_so(rt: HostRuntime) -> Result<(), Fail> {
+fn machines_answer_calls_and_steps(rt: HostRuntime) -> Result<(), Fail> {
     check_stories(rt.alloc())
 }

@@ -109,7 +109,7 @@ impl Question for StandardUnknown {
 
 /// A table's functions are asked in the order of expansion, and what a name sets is theirs to say.
 #[test]
-fn functions_of_a_table_are_asked(rt: HostRuntime) -> Result<(), Fail> {
+fn what_is_unknown_ahead_of_a_channel(rt: HostRuntime) -> Result<(), Fail> {
     check::<OwnUnknown>(rt.alloc(), OWN)?;
     check::<StandardUnknown>(rt.alloc(), STANDARD)
 }

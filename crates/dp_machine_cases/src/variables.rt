@@ -313,6 +313,6 @@ fn check_variables(alloc: Global) -> Result<(), Fail> {
 
 /// The values of names, what arguments are expanded to, where a `Goto` of such goes, and the limit of nesting.
 #[test]
-fn variables_are_expanded_so(rt: HostRuntime) -> Result<(), Fail> {
+fn variables_are_expanded(rt: HostRuntime) -> Result<(), Fail> {
     check_variables(rt.alloc())
 }

@@ -1,4 +1,4 @@
--- What is reported of a dialplan, of a file of queues, and of both.
+-- The reports on a dialplan, on a queue file, and on both.
 use Rattle.std.specs.Prelude.{ℕ, Bool, List, ◌++◌, length, Result, Ok, codes, decimal, if◌then◌else◌}
 use Rattle.dp_conf.specs.Answers.{◌>>=◌}
 use Rattle.dp_plan.specs.Loaded.{plan_and_notes as loaded_plan}
@@ -7,26 +7,26 @@ use Rattle.dp_commands.specs.Report.{check_explained_of, check_of}
 use Rattle.dp_commands.specs.Run.{plan_fault, queue_fault}
 use Rattle.dp_commands.specs.declared.fault.PbxFault.{PbxFault}
 
--- what is reported of a dialplan by the path of its file and its text, where its notes are explained or not
+-- the report on a dialplan, given the path and the text of its file and whether its notes are explained
 abbrev pub check_by : Bool → List ℕ → List ℕ → Result (List ℕ) PbxFault
 check_by explains path plan = if explains then check_explained_of path plan else check_of plan
 
--- the line that so many queues were loaded, `ok Q queues`
+-- the line for a number of queues that were loaded, `ok Q queues`
 abbrev pub queues_line : ℕ → List ℕ
 queues_line count = codes "ok " ++ decimal count ++ codes " queues\n"
 
--- what is reported of the text of a file of queues, or its fault
+-- the report on the text of a queue file, or the text's fault
 unfoldable pub queues_report : List ℕ → Result (List ℕ) PbxFault
 queues_report text = queue_fault (queues_in text) >>= λ queues. Ok (queues_line (length queues.queues))
 
--- what is reported, and a line after it
+-- a report followed by a line
 abbrev pub with_line : List ℕ → Result (List ℕ) PbxFault → Result (List ℕ) PbxFault
 with_line line report = report >>= λ said. Ok (said ++ line)
 
--- what comes after a dialplan, or the dialplan's fault
+-- the report after that of a dialplan, or the dialplan's fault
 abbrev pub after_plan : List ℕ → Result (List ℕ) PbxFault → Result (List ℕ) PbxFault
 after_plan plan later = plan_fault (loaded_plan plan) >>= λ read. later
 
--- what is reported of a dialplan and of queues, or the first fault: the dialplan's, the queues'
+-- the report on a dialplan and its queues, or the first fault: that of the dialplan, then that of the queues
 abbrev pub both_report : Bool → List ℕ → List ℕ → List ℕ → Result (List ℕ) PbxFault
 both_report explains path plan queues = check_by explains path plan >>= λ said. queues_report queues >>= λ line. Ok (said ++ line)

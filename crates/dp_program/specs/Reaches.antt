@@ -1,4 +1,4 @@
--- What a question about the calls that come in at a context writes and answers.
+-- The output and result of a question about phone calls that come in at a context.
 use Rattle.std.specs.Prelude.{◌≡◌, ℕ, Bool, List, [], ◌++◌, map, Option, Some, None, Result, Ok, Err, if◌then◌else◌}
 use Rattle.std.specs.Io.KnownBytes.{Appends}
 use Rattle.std.specs.List.{flat_map}
@@ -22,30 +22,30 @@ use Rattle.dp_program.specs.Texts.{ReadsSome, some_text}
 use Rattle.dp_program.specs.declared.faulted.Faulted.{Faulted}
 use Rattle.dp_program.specs.declared.hints.Served.{Served}
 
--- what is told of the name of a context of a file
+-- the hint on the name of a context in a file
 abbrev pub told_of_name : List ℕ → Bool → PlanOf → List ℕ → List ℕ
 told_of_name file explains plan name = name_told file name explains plan (number_of plan name)
 
--- what is told beside the report on a file's dialplan: that the file may be no dialplan, or which of the contexts that are named it lacks,
--- in the order of the context, the target, and those where other calls come in
+-- the hints on a dialplan: that the file may be no dialplan, or which named contexts it lacks, in the order: the context, the target, the
+-- contexts where other calls come in
 abbrev pub hint_of : List ℕ → AskOf → Bool → PlanOf → List ℕ
 hint_of file ask explains plan =
     if is_bare plan then bare_line file (lacking plan)
     else told_of_name file explains plan ask.context ++ flat_map (told_of_name file explains plan) (target_names ask.target)
     ++ flat_map (told_of_name file explains plan) (option_map_or arguments_of ask.starts [])
 
--- the report of these files is right, and this is what is told beside it
+-- the report on these files is correct, with these hints
 pub record IsAnswered (question : QuestionOf) (explains : Bool) (files : Files) (text : List ℕ) (status : ℕ) (hint : List ℕ) : Type 0 where
   pub report : IsReport files.plan (map (λ queue. queue.settings) files.queues.queues) question.ask (record { text = text; status = status })
   pub told : hint ≡ hint_of question.file question.ask explains files.plan
 
--- all of a right report was written
+-- the whole of a correct report was written
 pub record WritesReport (question : QuestionOf) (explains : Bool) (files : Files) (old new : Option (List ℕ)) (served : Served) : Type 0 where
   pub text : List ℕ
   pub answered : IsAnswered question explains files text served.status served.hint.items
   pub written : Appends old new text
 
--- a write of a right report failed
+-- a write of a correct report failed
 pub record WritesFront (question : QuestionOf) (explains : Bool) (files : Files) (old new : Option (List ℕ)) : Type 0 where
   pub text : List ℕ
   pub status : ℕ
@@ -53,7 +53,7 @@ pub record WritesFront (question : QuestionOf) (explains : Bool) (files : Files)
   pub answered : IsAnswered question explains files text status hint
   pub written : AppendsFront old new text
 
--- what a question writes and answers, by its files or the first fault of their texts
+-- the output and result of a question, given its files or the first fault of their texts
 abbrev pub Reaches : QuestionOf → Bool → Result Files PbxFault → Option (List ℕ) → Option (List ℕ) → Result Served PbxFault → Type 0
 Reaches question explains (Ok files) old new (Ok served) = WritesReport question explains files old new served
 Reaches question explains (Ok files) old new (Err (Coded code line)) =
@@ -63,19 +63,19 @@ Reaches question explains (Err fault) old new (Ok served) = ⊥
 Reaches question explains (Err fault) old new (Err (Coded code line)) = Appends old new [] × (fault ≡ Coded code line)
 Reaches question explains (Err fault) old new (Err NoMemory) = Appends old new []
 
--- where a fault stands, by what reading the dialplan and the queues, where they are named, came to
+-- the place of a fault, given the results of reading the dialplan and the queue file, if one is named
 abbrev pub place_of_files : List ℕ → Option (List ℕ) → Result (List ℕ) PbxFault → Option (Result (List ℕ) PbxFault) → PbxFault → PlaceOf
 place_of_files path None plan queues fault = place_of_report path plan fault
 place_of_files path (Some queues_path) plan None fault = place_of_report path plan fault
 place_of_files path (Some queues_path) plan (Some queues) fault = place_of_two path queues_path plan queues fault
 
--- where a fault of the texts of these files stands
+-- the place of a fault in the texts of these files
 abbrev pub place_over : List ℕ → Option (List ℕ) → List ℕ → Option (List ℕ) → PbxFault → PlaceOf
 place_over path None plan queues fault = place_in_file path plan fault
 place_over path (Some queues_path) plan None fault = place_in_file path plan fault
 place_over path (Some queues_path) plan (Some queues) fault = place_in_two (path, plan) (queues_path, queues) fault
 
--- the same over the files of its paths, and where its fault stands
+-- the output and result of a question on the files at its paths, and the place of its fault
 abbrev pub ReachesFiles : (List ℕ → Source) → QuestionOf → Bool → Option (List ℕ) → Option (List ℕ) → Result Served Faulted → Type 0
 ReachesFiles files question explains old new answered =
     Reads (files question.file) (λ plan. ReadsSome (option_map files question.queues) (λ queues.

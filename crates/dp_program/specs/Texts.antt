@@ -1,4 +1,4 @@
--- The files of a run: its dialplan, its queues and its second dialplan, where files of them are named, and its script.
+-- The files of a run: its dialplan, its queues and second dialplan if they are named, and its script.
 use Rattle.std.specs.Prelude.{ℕ, List, Option, Some, None, Result, Ok}
 use Rattle.std.specs.Option.{option_map}
 use Rattle.dp_conf.specs.Answers.{◌>>=◌}
@@ -7,7 +7,7 @@ use Rattle.dp_program.specs.Files.{Source, Reads}
 use Rattle.dp_program.specs.declared.request.RunFiles.{RunFiles}
 use Rattle.dp_program.specs.declared.texts.Texts.{Texts}
 
--- the files of a run, each by its path, by what is known of it, or by its text
+-- one item for each file of a run: its path, what is known of it, or its text
 pub record OfRun (X : Type 0) : Type 0 where
   pub plan : X
   pub queues : Option X
@@ -23,7 +23,7 @@ paths_of run = record {
   script = run.script.now;
 }
 
--- what is known of the files of the paths
+-- what is known of the files at the paths
 abbrev pub sources_of : (List ℕ → Source) → OfRun (List ℕ) → OfRun Source
 sources_of files paths = record {
   plan = files paths.plan;
@@ -32,7 +32,7 @@ sources_of files paths = record {
   script = files paths.script;
 }
 
--- the texts that are held
+-- the texts of the files
 abbrev pub texts_of : Texts → OfRun (List ℕ)
 texts_of texts = record {
   plan = texts.plan.items;
@@ -41,23 +41,23 @@ texts_of texts = record {
   script = texts.script.items;
 }
 
--- what reading a file came to, where there is one
+-- the result of reading an optional file
 abbrev pub some_text : Option (Result (List ℕ) PbxFault) → Result (Option (List ℕ)) PbxFault
 some_text None = Ok None
 some_text (Some text) = text >>= λ text. Ok (Some text)
 
--- the texts, or the first fault: the dialplan's, the queues', the second dialplan's, the script's
+-- the texts, or the first fault: of the dialplan, the queues, the second dialplan and the script, in this order
 abbrev pub all_texts : OfRun (Result (List ℕ) PbxFault) → Result (OfRun (List ℕ)) PbxFault
 all_texts read =
     read.plan >>= λ plan. some_text read.queues >>= λ queues. some_text read.second_plan >>= λ second_plan. read.script >>= λ script.
     Ok (record { plan = plan; queues = queues; second_plan = second_plan; script = script })
 
--- something holds of what reading a source came to, where there is one
+-- a property of the result of reading an optional source
 abbrev pub ReadsSome : Option Source → (Option (Result (List ℕ) PbxFault) → Type 0) → Type 0
 ReadsSome None P = P None
 ReadsSome (Some source) P = Reads source (λ text. P (Some text))
 
--- something holds of what reading each file of a run came to
+-- a property of the results of reading each file of a run
 abbrev pub ReadsTexts : OfRun Source → (OfRun (Result (List ℕ) PbxFault) → Type 0) → Type 0
 ReadsTexts sources P =
     Reads sources.plan (λ plan. ReadsSome sources.queues (λ queues. ReadsSome sources.second_plan (λ second_plan. Reads sources.script (λ script.

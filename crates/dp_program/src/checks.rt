@@ -1,4 +1,4 @@
-//! What the requests do that check a dialplan, a file of queues, or both.
+//! The requests that check a dialplan, a queue file, or both.
 ghost use Rattle.std.specs.Prelude.{◌≡◌, ◌||◌, List, ℕ, Result, IfOk, false};
 ghost use Rattle.dp_conf.specs.Answers.{Answers, Refuses};
 ghost use Rattle.dp_commands.specs.Faults.{is_write_failed, is_write_fault, reason_of};
@@ -19,7 +19,7 @@ use dp_queue::Queues;
 use itoa::Buffer;
 use std::alloc::Global;
 
-/// Reports on a dialplan by the path of its file and its text, and explains its notes where that is asked for.
+/// Reports on a dialplan, given the path and the text of its file, and explains its notes if that is asked for.
 fn check_by<W: WriteTold>(
     alloc: Global,
     path: &str,
@@ -54,7 +54,7 @@ pub(crate) fn serve_check<'a, F: ReadFiles, W: WriteTold>(
     with_place(file, &plan, check_by(alloc, file, &plan, explains, output))
 }
 
-/// The line that so many queues were loaded.
+/// The line for a number of queues that were loaded.
 fn queues_line(alloc: Global, count: usize) -> Result<Vec<u8>, NoMemory>
     ensures { IfOk result (λ line. line.items ≡ spec.queues_line count) }
 {
@@ -66,7 +66,7 @@ fn queues_line(alloc: Global, count: usize) -> Result<Vec<u8>, NoMemory>
     Ok(line)
 }
 
-/// What is reported of the text of a file of queues, or its fault.
+/// The report on the text of a queue file, or the text's fault.
 #[tactic(auto, unfolding(crate::specs::Checks::queues_report))]
 fn queues_report(alloc: Global, text: &[u8]) -> Result<Vec<u8>, PbxFault>
     ensures line { Answers (λ line. line.items) reason_of result (spec.queues_report text.now) }
@@ -77,7 +77,7 @@ fn queues_report(alloc: Global, text: &[u8]) -> Result<Vec<u8>, PbxFault>
     Ok(line)
 }
 
-/// Reports on the text of a file of queues.
+/// Reports on the text of a queue file.
 fn check_queues<W: WriteTold>(alloc: Global, queues: &[u8], output: &mut W) -> Result<u8, PbxFault>
     ensures reports { Reports (W.contents output.old) (W.contents output.new) (spec.queues_report queues.now) result }
     ensures told { W.has_failed output.new ≡ (W.has_failed output.old || is_write_failed result) }
@@ -102,7 +102,7 @@ pub(crate) fn serve_check_queues<'a, F: ReadFiles, W: WriteTold>(
     with_place(file, &queues, check_queues(alloc, &queues, output))
 }
 
-/// Reports on a dialplan, and then writes a line.
+/// Reports on a dialplan, then writes a line.
 #[tactic(auto, using(crate::proofs::ChecksLemmas::line_refused, crate::proofs::ChecksLemmas::line_written, crate::proofs::ChecksLemmas::line_failed))]
 fn check_before<W: WriteTold>(
     alloc: Global,
@@ -120,7 +120,7 @@ fn check_before<W: WriteTold>(
     Ok(0)
 }
 
-/// The fault of a dialplan's text, or where it has none the fault that comes after it.
+/// The fault of a dialplan's text, or if it has none the later fault.
 fn first_fault(alloc: Global, plan: &[u8], later: PbxFault) -> PbxFault
     ensures first { (given : Result (List ℕ) PbxFault) → Refuses (reason_of later) given
         → Refuses (reason_of result) (spec.after_plan plan.now given) }
@@ -132,7 +132,7 @@ fn first_fault(alloc: Global, plan: &[u8], later: PbxFault) -> PbxFault
     }
 }
 
-/// Reports on the texts of a dialplan and of queues. Nothing is written where one of them has a fault.
+/// Reports on the texts of a dialplan and of queues. If one of them has a fault nothing is written.
 #[tactic(auto, using(crate::proofs::ChecksLemmas::both_refused, crate::proofs::ChecksLemmas::both_written))]
 fn check_both<W: WriteTold>(
     alloc: Global,
@@ -151,7 +151,7 @@ fn check_both<W: WriteTold>(
     }
 }
 
-/// Reports on the dialplan of a file and on the queues of another.
+/// Reports on the dialplan in one file and the queues in another.
 pub(crate) fn serve_check_both<'a, F: ReadFiles, W: WriteTold>(
     files: &F,
     alloc: Global,

@@ -1,4 +1,4 @@
-//! The manual's entries of the faults, and of the refusals of events.
+//! The manual's entries on faults, and on refusals of events.
 ghost use Rattle.std.specs.Prelude.{◌≡◌, ◌==◌, map, option_map, true};
 ghost use Rattle.dp_commands.specs.Codes.{code_name, code_number};
 ghost use Rattle.dp_commands.specs.declared.fault.Code.{Code};
@@ -13,7 +13,7 @@ use dp_plan::Word;
 use std::marker::Model;
 
 /// Each fault and each refusal of an event, with its entry as it is printed: the number and the name, when it comes, and an example.
-/// `docs/check` compares them with the manual's tables. 24 has one sentence and example more for each kind of what is left out.
+/// `docs/check` compares them with the manual's tables. 24 has one more sentence and example for each kind of what is left out.
 pub const ENTRIES: [(u32, &str); 47] = [
     (
         1,
@@ -417,7 +417,7 @@ example: `--break main,s`, `--break main,s,0`, `--break main,s,+1`
     ),
 ];
 
-/// The entry of a number, where one of them has it.
+/// The entry with a number, if one of them has it.
 fn entry_in<'a>(entries: &[(u32, &'a str)], number: u32) -> Option<&'a str>
     ensures { option_map (λ entry. entry.now) result
         ≡ spec.entry_in (map (λ entry. (entry.0, entry.1.now)) entries.now) number }
@@ -430,7 +430,7 @@ fn entry_in<'a>(entries: &[(u32, &'a str)], number: u32) -> Option<&'a str>
     None
 }
 
-/// The entry of a number, where a fault has it.
+/// The entry of a number, if a fault has the number.
 #[tactic(auto, unfolding(crate::specs::Entries::found_entry))]
 fn found_entry(number: u32) -> Option<&'static str>
     ensures { option_map (λ entry. entry.now) result ≡ spec.found_entry number }
@@ -438,7 +438,7 @@ fn found_entry(number: u32) -> Option<&'static str>
     entry_in(&ENTRIES, number)
 }
 
-/// The name in an entry: what stands after the number, in the first line.
+/// The name in an entry: the rest of the first line after the number.
 fn name_in(entry: &str) -> &[u8]
     ensures { result.now ≡ spec.name_in entry.now }
 {
@@ -448,7 +448,7 @@ fn name_in(entry: &str) -> &[u8]
     }
 }
 
-/// The number of the entry that has the name, where just one of them has it.
+/// The number of the entry with the name, if exactly one of them has it.
 #[tactic(auto, using(crate::proofs::EntriesLemmas::only_first))]
 fn number_in(entries: &[(u32, &str)], name: &[u8]) -> Option<u32>
     ensures { result ≡ spec.only (spec.numbers_in (map (λ entry. (entry.0, entry.1.now)) entries.now) name.now) }
@@ -465,7 +465,7 @@ fn number_in(entries: &[(u32, &str)], name: &[u8]) -> Option<u32>
     found
 }
 
-/// The number of the fault that has the name, where just one has it.
+/// The number of the fault with the name, if exactly one fault has it.
 #[tactic(auto, unfolding(crate::specs::Entries::found_number))]
 fn found_number(name: &[u8]) -> Option<u32>
     ensures { result ≡ spec.found_number name.now }
@@ -497,7 +497,7 @@ impl FaultNumber {
     ghost use Rattle.std.specs.Option.{SomeIff};
     ghost use Rattle.dp_program.specs.Entries.{entry_of, fault_named, has_entry};
 
-    /// The fault of this number, or None where no fault has it.
+    /// The fault with this number, or None if no fault has it.
     pub fn new(number: u32) -> Option<Self>
         ensures { SomeIff result (has_entry number ≡ true) number }
     {
@@ -507,7 +507,7 @@ impl FaultNumber {
         Some(FaultNumber { number })
     }
 
-    /// The fault of this name, or None where no fault has it, or more than one. The case of each letter counts.
+    /// The fault with this name, or None if no fault has it, or more than one. The case of each letter matters.
     pub fn named(name: &str) -> Option<Self>
         ensures { result ≡ fault_named name.now }
     {
@@ -515,7 +515,7 @@ impl FaultNumber {
         FaultNumber::new(number)
     }
 
-    /// The manual's entry of the fault: its number and name, when it comes, and an example, each in a line.
+    /// The manual's entry on the fault: its number and name, when it comes, and an example, each on a line.
     pub fn entry(self) -> &'static str
         ensures { result.now ≡ entry_of self }
     {
@@ -536,15 +536,15 @@ impl Explanations for ManualEntries {
     }
 }
 
-/// The entry of each fault, and that of each refusal of an event, begins with its number and its name, in a line of their own. It does
-/// nothing.
+/// The entry of each fault, and that of each refusal of an event, begins with its number and its name, on a line of their own. This
+/// function does nothing.
 pub fn entries_are_headed()
     ensures faults { (code : Code) → spec.is_headed (code_number code) (code_name code) (spec.entry_of (code_number code)) ≡ true }
     ensures refusals { (refusal : refusals) → spec.is_headed (refusal_code refusal) (refusal_name refusal)
         (spec.entry_of (refusal_code refusal)) ≡ true }
 {}
 
-/// The manual's sentence on the fault of the number.
+/// The manual's sentence on the fault with the number.
 pub(crate) fn sentence_of(number: u32) -> &'static [u8]
     ensures { result.now ≡ spec.sentence_of number }
 {
@@ -552,7 +552,7 @@ pub(crate) fn sentence_of(number: u32) -> &'static [u8]
     line_in(entry.as_bytes(), 2)
 }
 
-/// The line of the entry of 24 that has a kind of what is left out.
+/// The line of entry 24 that holds a kind of what is left out.
 fn kind_line(word: Word) -> usize
     ensures { result ≡ spec.kind_line word }
 {
@@ -568,7 +568,7 @@ fn kind_line(word: Word) -> usize
     }
 }
 
-/// The kind of what is left out, as the manual has it.
+/// A kind of what is left out, in the manual's words.
 pub(crate) fn kind_of(word: Word) -> &'static [u8]
     ensures { result.now ≡ spec.kind_of word }
 {

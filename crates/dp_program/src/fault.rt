@@ -1,4 +1,4 @@
-//! What is printed of a fault, and the status after it.
+//! The text that is printed for a fault, and the status after it.
 ghost use Rattle.std.specs.Prelude.{◌≡◌, ◌||◌, ◌++◌, OnOk, decimal, codes, false, true};
 ghost use Rattle.std.specs.Result.{is_err};
 ghost use Rattle.std.specs.Io.KnownBytes.{Appends};
@@ -49,7 +49,7 @@ fn print_code_at<E: WriteTold>(errors: &mut E, code: Code, line: usize) -> Resul
     print_number(errors, line)
 }
 
-/// Prints a fault. No memory is asked for.
+/// Prints a fault. It needs no memory.
 pub fn print_fault<E: WriteTold>(errors: &mut E, fault: PbxFault) -> Result<(), WriteFailed>
     ensures ok { OnOk result (Appends (E.contents errors.old) (E.contents errors.new) (fault_line fault)) }
     ensures told { E.has_failed errors.new ≡ (E.has_failed errors.old || is_err result) }
@@ -70,7 +70,7 @@ pub fn print_fault<E: WriteTold>(errors: &mut E, fault: PbxFault) -> Result<(), 
     }
 }
 
-/// Prints where a line stands.
+/// Prints the position of a line.
 fn print_where<E: WriteTold>(errors: &mut E, line: &FileLine<'_>) -> Result<(), WriteFailed>
     ensures ok { OnOk result (Appends (E.contents errors.old) (E.contents errors.new) (where_text line.now)) }
     ensures told { E.has_failed errors.new ≡ (E.has_failed errors.old || is_err result) }
@@ -92,7 +92,7 @@ fn print_shown<E: WriteTold>(errors: &mut E, line: &FileLine<'_>) -> Result<(), 
     errors.write_told(b"\n")
 }
 
-/// Prints where a line stands, and the line itself.
+/// Prints the position of a line, then the line itself.
 fn print_line<E: WriteTold>(errors: &mut E, line: &FileLine<'_>) -> Result<(), WriteFailed>
     ensures ok { OnOk result (Appends (E.contents errors.old) (E.contents errors.new) (line_text line.now)) }
     ensures told { E.has_failed errors.new ≡ (E.has_failed errors.old || is_err result) }
@@ -111,7 +111,7 @@ fn print_file<E: WriteTold>(errors: &mut E, path: &str) -> Result<(), WriteFaile
     errors.write_told(b"\n")
 }
 
-/// Prints where a fault stands.
+/// Prints the place of a fault.
 fn print_place<E: WriteTold>(errors: &mut E, place: &Place<'_>) -> Result<(), WriteFailed>
     ensures ok { OnOk result (Appends (E.contents errors.old) (E.contents errors.new)
         (spec.place_text (place_of place.now))) }
@@ -124,7 +124,7 @@ fn print_place<E: WriteTold>(errors: &mut E, place: &Place<'_>) -> Result<(), Wr
     }
 }
 
-/// What stands before the kind of what is left out.
+/// The text before the kind of what is left out.
 #[tactic(auto, unfolding(crate::specs::Entries::left_out))]
 fn left_out() -> &'static [u8]
     ensures { result.now ≡ spec_entries.left_out }
@@ -132,7 +132,7 @@ fn left_out() -> &'static [u8]
     b"what this program leaves out: "
 }
 
-/// Prints that a kind of lines is left out.
+/// Prints that a kind of line is left out.
 fn print_left_out<E: WriteTold>(errors: &mut E, word: Word) -> Result<(), WriteFailed>
     ensures ok { OnOk result (Appends (E.contents errors.old) (E.contents errors.new)
         (spec_entries.left_out ++ kind_of word)) }
@@ -142,7 +142,7 @@ fn print_left_out<E: WriteTold>(errors: &mut E, word: Word) -> Result<(), WriteF
     errors.write_told(kind_of(word))
 }
 
-/// Prints what is said of a fault: of what is left out its kind, and else the manual's sentence.
+/// Prints the sentence on a fault: the kind of what is left out, or else the manual's sentence.
 fn print_said<E: WriteTold>(errors: &mut E, code: Code) -> Result<(), WriteFailed>
     ensures ok { OnOk result (Appends (E.contents errors.old) (E.contents errors.new) (said_of code)) }
     ensures told { E.has_failed errors.new ≡ (E.has_failed errors.old || is_err result) }
@@ -153,7 +153,7 @@ fn print_said<E: WriteTold>(errors: &mut E, code: Code) -> Result<(), WriteFaile
     }
 }
 
-/// Prints what is said of a fault, in a line of its own.
+/// Prints the sentence on a fault, on a line of its own.
 fn print_sentence<E: WriteTold>(errors: &mut E, code: Code) -> Result<(), WriteFailed>
     ensures ok { OnOk result (Appends (E.contents errors.old) (E.contents errors.new)
         (sentence_text (said_of code))) }
@@ -179,7 +179,7 @@ fn print_explanation<E: WriteTold>(errors: &mut E, faulted: &Faulted<'_>) -> Res
     }
 }
 
-/// Prints a fault, and below it its explanation where that is asked for. No memory is asked for.
+/// Prints a fault, followed by its explanation if that is asked for. It needs no memory.
 fn print_faulted<E: WriteTold>(
     errors: &mut E,
     explains: bool,
@@ -196,7 +196,8 @@ fn print_faulted<E: WriteTold>(
     print_explanation(errors, faulted)
 }
 
-/// The status of what was answered. What is told beside it is printed, and a fault is, with its explanation where that is asked for. No memory is asked for.
+/// The status of a result. It prints the hints beside an answer, or the fault, with its explanation if that is asked for. It needs no
+/// memory.
 pub fn finish<E: WriteTold>(
     errors: &mut E,
     explains: bool,

@@ -1,4 +1,4 @@
-//! Faults with the place where they stand.
+//! Faults and their places.
 ghost use Rattle.std.specs.Prelude.{◌≡◌};
 ghost use Rattle.std.specs.Option.{option_map};
 ghost use Rattle.dp_program.specs.Faulted as spec;
@@ -8,18 +8,18 @@ use crate::request::RunFiles;
 use crate::texts::{FileText, Texts};
 use dp_commands::{Code, FileLine, PbxFault};
 
-/// Where a fault stands.
+/// The place of a fault.
 #[derive(Debug, Drop)]
 pub enum Place<'a> {
     /// In a line of a file that was read.
     InLine(FileLine<'a>),
-    /// In the file of this path, which could not be read.
+    /// In the file at this path, which could not be read.
     InFile(&'a str),
     /// In no file.
     Nowhere,
 }
 
-/// A fault, and where it stands.
+/// A fault, and its place.
 #[derive(Debug, Drop)]
 pub struct Faulted<'a> {
     pub fault: PbxFault,
@@ -40,14 +40,14 @@ impl<'a> From<PbxFault> for Faulted<'a> {
     }
 }
 
-/// Why the file of a path could not be read.
+/// Why the file at a path could not be read.
 #[derive(Clone, Copy, Debug)]
 pub(crate) struct Unread<'a> {
     pub(crate) path: &'a str,
     pub(crate) fault: PbxFault,
 }
 
-/// Where the fault of a file stands that could not be read.
+/// The place of the fault of a file that could not be read.
 fn place_unread<'a>(unread: Unread<'a>) -> Place<'a>
     ensures { result ≡ spec.place_unread unread.entry unread.entry.fault }
 {
@@ -71,7 +71,7 @@ impl<'a> From<Unread<'a>> for Faulted<'a> {
     }
 }
 
-/// Where a fault of the text of a file stands.
+/// The place of a fault in the text of a file.
 fn place_in_file<'a>(path: &'a str, text: &[u8], fault: PbxFault) -> Place<'a>
     ensures { spec.place_of result ≡ spec.place_in_file path.now text.now fault }
 {
@@ -88,7 +88,7 @@ fn place_in_file<'a>(path: &'a str, text: &[u8], fault: PbxFault) -> Place<'a>
     }
 }
 
-/// What was answered over the text of a file, with the place of its fault.
+/// A result for the text of a file, with the place of its fault.
 pub(crate) fn with_place<'a, T>(
     path: &'a str,
     text: &[u8],
@@ -106,7 +106,7 @@ pub(crate) fn with_place<'a, T>(
     }
 }
 
-/// Where a fault of a file stands that may not be named.
+/// The place of a fault in an optional file.
 fn place_in_named<'a>(path: Option<&'a str>, text: Option<&[u8]>, fault: PbxFault) -> Place<'a>
     ensures { spec.place_of result ≡ spec.place_in (spec.named_file (option_map (λ path. path.now) path.entry)
         (option_map (λ text. text.now) text.entry)) fault }
@@ -117,7 +117,7 @@ fn place_in_named<'a>(path: Option<&'a str>, text: Option<&[u8]>, fault: PbxFaul
     }
 }
 
-/// Where a fault of the texts of a run stands.
+/// The place of a fault in the texts of a run.
 fn place_in_files<'a>(run: &RunFiles<'a>, texts: &Texts, fault: PbxFault) -> Place<'a>
     ensures { spec.place_of result ≡ spec.place_in_files (paths_of run.now) (texts_of texts.now) fault }
 {
@@ -137,7 +137,7 @@ fn place_in_files<'a>(run: &RunFiles<'a>, texts: &Texts, fault: PbxFault) -> Pla
     }
 }
 
-/// What was answered over the texts of a run, with the place of its fault.
+/// A result for the texts of a run, with the place of its fault.
 pub(crate) fn placed_in_run<'a>(
     run: &RunFiles<'a>,
     texts: &Texts,
@@ -155,7 +155,7 @@ pub(crate) fn placed_in_run<'a>(
     }
 }
 
-/// Where a fault of the texts of a dialplan and of queues stands.
+/// The place of a fault in the texts of a dialplan and of queues.
 fn place_in_two<'a>(plan: &FileText<'a>, queues: &FileText<'a>, fault: PbxFault) -> Place<'a>
     ensures { spec.place_of result ≡ spec.place_in_two (plan.now.path.now, plan.now.text.items)
         (queues.now.path.now, queues.now.text.items) fault }
@@ -177,7 +177,7 @@ fn place_in_two<'a>(plan: &FileText<'a>, queues: &FileText<'a>, fault: PbxFault)
     }
 }
 
-/// What was answered over the texts of a dialplan and of queues, with the place of its fault.
+/// A result for the texts of a dialplan and of queues, with the place of its fault.
 pub(crate) fn placed_in_two<'a, T>(
     plan: &FileText<'a>,
     queues: &FileText<'a>,
@@ -196,7 +196,7 @@ pub(crate) fn placed_in_two<'a, T>(
     }
 }
 
-/// What was answered where a fault stands in no file.
+/// A result whose fault has no place in a file.
 pub(crate) fn placed_nowhere<'a>(answered: Result<u8, PbxFault>) -> Result<u8, Faulted<'a>>
     ensures same { spec.without_place result ≡ answered }
     ensures stands { spec.StandsIn (λ _. spec.in_none) result }

@@ -1,4 +1,4 @@
-//! What is told beside an answer about a dialplan that has no entry, or not the context that was named.
+//! The hints beside an answer about a dialplan that has no entry, or that lacks the context that was named.
 ghost use Rattle.std.specs.Prelude.{◌≡◌, ◌++◌, OnOk, IfOk, false};
 ghost use Rattle.dp_conf.specs.Answers.{Answers};
 ghost use Rattle.dp_commands.specs.Faults.{is_write_failed, reason_of};
@@ -15,16 +15,16 @@ use dp_commands::PbxFault;
 use dp_plan::{Dialplan, NoMemory, Text};
 use std::alloc::Global;
 
-/// What a request came to that has no fault.
+/// The result of a request that has no fault.
 #[derive(Debug, Drop)]
 pub struct Served {
     /// The status.
     pub status: u8,
-    /// What is told beside what was written; it may be nothing.
+    /// The hint beside the output; it may be empty.
     pub hint: Vec<u8>,
 }
 
-/// What was answered, with nothing told beside it.
+/// A result without a hint.
 pub(crate) fn without_hint<'a>(
     alloc: Global,
     answered: Result<u8, Faulted<'a>>,
@@ -51,7 +51,7 @@ pub(crate) fn is_bare(plan: &Dialplan) -> bool
         && context.includes().len() == 0)
 }
 
-/// What a dialplan lacks of which no context has any of both: contexts, or entries.
+/// What a dialplan lacks if no context has an entry or an include: contexts, or entries.
 pub(crate) fn lacking(plan: &Dialplan) -> &'static [u8]
     ensures { result.now ≡ spec.lacking plan.now }
 {
@@ -62,7 +62,7 @@ pub(crate) fn lacking(plan: &Dialplan) -> &'static [u8]
     }
 }
 
-/// Adds the line that a file may be no dialplan, by what it lacks.
+/// Adds the line that says that a file may be no dialplan, given what the file lacks.
 pub(crate) fn push_bare_line(hint: &mut Vec<u8>, file: &str, lack: &[u8]) -> Result<(), NoMemory>
     ensures { OnOk result (hint.new.items ≡ hint.old.items ++ spec.bare_line file.now lack.now) }
 {
@@ -74,7 +74,7 @@ pub(crate) fn push_bare_line(hint: &mut Vec<u8>, file: &str, lack: &[u8]) -> Res
     Ok(())
 }
 
-/// Adds the line that a file has no context of a name.
+/// Adds the line that says that a file has no context with a name.
 fn push_unknown_context(hint: &mut Vec<u8>, file: &str, name: &[u8]) -> Result<(), NoMemory>
     ensures { OnOk result (hint.new.items ≡ hint.old.items ++ spec.unknown_context file.now name.now) }
 {
@@ -86,7 +86,7 @@ fn push_unknown_context(hint: &mut Vec<u8>, file: &str, name: &[u8]) -> Result<(
     Ok(())
 }
 
-/// Adds the lines of the nearest names, where they are asked for.
+/// Adds the lines of the nearest names, if they are asked for.
 fn push_near_lines(
     alloc: Global,
     hint: &mut Vec<u8>,
@@ -102,7 +102,7 @@ fn push_near_lines(
     push_nearest(alloc, hint, name, plan)
 }
 
-/// A dialplan with the path of its file, and whether names are told that are near to one that it lacks.
+/// A dialplan with the path of its file, and whether to suggest names that are similar to one that it lacks.
 #[derive(Clone, Copy)]
 pub(crate) struct HintedPlan<'a> {
     pub(crate) file: &'a str,
@@ -110,7 +110,7 @@ pub(crate) struct HintedPlan<'a> {
     pub(crate) explains: bool,
 }
 
-/// Adds what is told of the name of a context.
+/// Adds the hint on the name of a context.
 pub(crate) fn push_told(
     alloc: Global,
     hint: &mut Vec<u8>,
@@ -130,7 +130,7 @@ pub(crate) fn push_told(
     }
 }
 
-/// What is told of a dialplan that is audited.
+/// The hint on a dialplan that is audited.
 fn audit_told(alloc: Global, file: &str, plan: &Dialplan) -> Result<Vec<u8>, NoMemory>
     ensures { IfOk result (λ hint. hint.items ≡ spec.audit_hint file.now plan.now) }
 {
@@ -141,7 +141,7 @@ fn audit_told(alloc: Global, file: &str, plan: &Dialplan) -> Result<Vec<u8>, NoM
     Ok(hint)
 }
 
-/// What is told of a dialplan in which something is looked up.
+/// The hint on a dialplan in which an entry is looked up.
 fn match_told(
     alloc: Global,
     lookup: &Lookup<'_>,
@@ -164,7 +164,7 @@ fn match_told(
     Ok(hint)
 }
 
-/// What is told of the text of a dialplan that is audited, or its fault.
+/// The hint on the text of a dialplan that is audited, or the text's fault.
 #[tactic(auto, unfolding(crate::specs::Hints::audit_hint_of))]
 pub(crate) fn audit_hint(alloc: Global, file: &str, text: &[u8]) -> Result<Vec<u8>, PbxFault>
     ensures hint { Answers (λ hint. hint.items) reason_of result (spec.audit_hint_of file.now text.now) }
@@ -175,7 +175,7 @@ pub(crate) fn audit_hint(alloc: Global, file: &str, text: &[u8]) -> Result<Vec<u
     Ok(hint)
 }
 
-/// What is told of the text of a dialplan in which something is looked up, or its fault.
+/// The hint on the text of a dialplan in which an entry is looked up, or the text's fault.
 #[tactic(auto, unfolding(crate::specs::Hints::match_hint_of))]
 pub(crate) fn match_hint(
     alloc: Global,

@@ -1,4 +1,4 @@
-//! The names that are nearest to one.
+//! The names nearest to a given name.
 ghost use Rattle.std.specs.Prelude.{◌≡◌, ◌≤◌, ◌++◌, OnOk, IfOk, length, map, take};
 ghost use Rattle.std.specs.List.{flat_map};
 ghost use Rattle.dp_program.specs.Hints.{near_line};
@@ -8,10 +8,10 @@ use dp_plan::{Context, Dialplan, NoMemory};
 use std::alloc::Global;
 use strsim::generic_levenshtein;
 
-/// How many names are told at most.
+/// The greatest number of names that are suggested.
 const MOST_NAMES: usize = 3;
 
-/// How many bytes a name has at most that is compared.
+/// The greatest number of bytes of a name that is compared.
 const MOST_BYTES: usize = 80;
 
 /// A name with its distance.
@@ -28,7 +28,7 @@ fn is_compared(name: &[u8]) -> bool
     name.len() <= MOST_BYTES
 }
 
-/// The place among names in the order of their distances where one of this distance goes: after those that are as near.
+/// The place at which a name with this distance is inserted among names ordered by distance: after those that are as near.
 fn place_of(kept: &[Near<'_>], distance: usize) -> usize
     ensures place { result ≡ spec.place_of kept.now distance }
     ensures within { result ≤ length kept.now }
@@ -43,7 +43,7 @@ fn place_of(kept: &[Near<'_>], distance: usize) -> usize
     place
 }
 
-/// Adds a name to the nearest.
+/// Adds a name to the nearest ones.
 fn keep<'a>(kept: &mut Vec<Near<'a>>, near: Near<'a>) -> Result<(), NoMemory>
     ensures { OnOk result (map spec.near_of kept.new.items
         ≡ take 3 (spec.with_near (spec.near_of near.entry) (map spec.near_of kept.old.items))) }
@@ -54,7 +54,7 @@ fn keep<'a>(kept: &mut Vec<Near<'a>>, near: Near<'a>) -> Result<(), NoMemory>
     Ok(())
 }
 
-/// Adds a name to the nearest, where it is compared.
+/// Adds a name to the nearest ones, if it is compared.
 fn keep_compared<'a>(
     alloc: Global,
     kept: &mut Vec<Near<'a>>,
@@ -77,7 +77,7 @@ fn keep_compared<'a>(
     )
 }
 
-/// The nearest of the names of contexts.
+/// The nearest of the contexts' names.
 fn nearest<'a>(
     alloc: Global,
     name: &[u8],
@@ -93,7 +93,7 @@ fn nearest<'a>(
     Ok(kept)
 }
 
-/// Adds the line of a near name.
+/// Adds the line of a similar name.
 fn push_near(hint: &mut Vec<u8>, name: &[u8]) -> Result<(), NoMemory>
     ensures { OnOk result (hint.new.items ≡ hint.old.items ++ near_line name.now) }
 {
@@ -103,7 +103,7 @@ fn push_near(hint: &mut Vec<u8>, name: &[u8]) -> Result<(), NoMemory>
     Ok(())
 }
 
-/// Adds the lines of near names.
+/// Adds the lines of similar names.
 fn push_all(hint: &mut Vec<u8>, kept: &[Near<'_>]) -> Result<(), NoMemory>
     ensures { OnOk result (hint.new.items
         ≡ hint.old.items ++ flat_map near_line (spec.names_of (map spec.near_of kept.now))) }
@@ -114,7 +114,7 @@ fn push_all(hint: &mut Vec<u8>, kept: &[Near<'_>]) -> Result<(), NoMemory>
     Ok(())
 }
 
-/// Adds the lines of the names of contexts that are nearest to one.
+/// Adds the lines of the contexts' names that are nearest to a name.
 pub(crate) fn push_nearest(
     alloc: Global,
     hint: &mut Vec<u8>,

@@ -1,4 +1,4 @@
-//! What the request does that asks what a call may run.
+//! The request that asks what a phone call may run.
 ghost use Rattle.std.specs.Prelude.{◌≡◌, ◌++◌, ◌||◌, [], false, IfOk, OnOk, map};
 ghost use Rattle.std.specs.List.{flat_map};
 ghost use Rattle.std.specs.Option.{option_map, option_map_or};
@@ -23,7 +23,7 @@ use dp_conf::{WriteTold, split_args};
 use dp_plan::NoMemory;
 use std::alloc::Global;
 
-/// The bytes of a word that may not be given.
+/// The bytes of an optional word.
 fn bytes_of(word: Option<&str>) -> Option<&[u8]>
     ensures { option_map (λ bytes. bytes.now) result ≡ option_map (λ word. word.now) word.entry }
 {
@@ -33,7 +33,7 @@ fn bytes_of(word: Option<&str>) -> Option<&[u8]>
     }
 }
 
-/// What is asked of the dialplan.
+/// The question on the dialplan.
 fn ask_of<'a>(question: &ReachQuestion<'a>) -> Ask<'a>
     ensures { ask_texts result ≡ (question_of question.now).ask }
 {
@@ -46,7 +46,7 @@ fn ask_of<'a>(question: &ReachQuestion<'a>) -> Ask<'a>
     }
 }
 
-/// Adds what is told of the names of contexts.
+/// Adds the hints on the names of contexts.
 fn push_names_told(
     alloc: Global,
     hint: &mut Vec<u8>,
@@ -62,7 +62,7 @@ fn push_names_told(
     Ok(())
 }
 
-/// Adds what is told of the target, where one is named.
+/// Adds the hint on the target, if one is named.
 fn push_target_told(
     alloc: Global,
     hint: &mut Vec<u8>,
@@ -79,7 +79,7 @@ fn push_target_told(
     }
 }
 
-/// Adds what is told of the contexts where other calls come in, where these are named.
+/// Adds the hints on the contexts where other calls come in, if these are named.
 fn push_starts_told(
     alloc: Global,
     hint: &mut Vec<u8>,
@@ -99,7 +99,7 @@ fn push_starts_told(
     }
 }
 
-/// What is told beside a report.
+/// The hints beside a report.
 fn hint_of(alloc: Global, ask: &Ask<'_>, told: HintedPlan<'_>) -> Result<Vec<u8>, NoMemory>
     ensures { IfOk result (λ hint. hint.items
         ≡ spec.hint_of told.entry.file.now (ask_texts ask.now) told.entry.explains told.entry.plan.now) }
@@ -115,14 +115,14 @@ fn hint_of(alloc: Global, ask: &Ask<'_>, told: HintedPlan<'_>) -> Result<Vec<u8>
     Ok(hint)
 }
 
-/// A report, and what is told beside it.
+/// A report, and the hints beside it.
 #[derive(Drop)]
 struct HintedReport {
     report: Report,
     hint: Vec<u8>,
 }
 
-/// What is reported of a dialplan and queues, and what is told beside it.
+/// The report on a dialplan and queues, and the hints beside it.
 fn hinted_report(
     alloc: Global,
     question: &ReachQuestion<'_>,
@@ -143,14 +143,14 @@ fn hinted_report(
     Ok(HintedReport { report, hint })
 }
 
-/// The texts of the files of a question: its dialplan, and its queues where a file of them is named.
+/// The texts of the files of a question: its dialplan, and its queues if a queue file is named.
 #[derive(Drop)]
 struct ReachTexts {
     plan: Vec<u8>,
     queues: Option<Vec<u8>>,
 }
 
-/// What these texts say, or their first fault.
+/// The contents of these texts, or their first fault.
 fn files_in(alloc: Global, texts: &ReachTexts) -> Result<Files, PbxFault>
     ensures files { Answers (λ files. record { plan = files.plan; queues = files.queues }) reason_of result
         (files_of texts.now.plan.items (option_map (λ text. text.items) texts.now.queues)) }
@@ -159,7 +159,7 @@ fn files_in(alloc: Global, texts: &ReachTexts) -> Result<Files, PbxFault>
     read_files(alloc, &texts.plan, texts.queues.as_deref())
 }
 
-/// Writes what is reported of the texts of a dialplan and of its queues.
+/// Writes the report on the texts of a dialplan and of its queues.
 #[tactic(auto, using(crate::proofs::ReachesLemmas::reaches_fault, crate::proofs::ReachesLemmas::reaches_failed, crate::proofs::ReachesLemmas::reaches_written, crate::proofs::ServesLemmas::reaches_lacks))]
 fn reach_told<W: WriteTold>(
     alloc: Global,
@@ -182,7 +182,7 @@ fn reach_told<W: WriteTold>(
     })
 }
 
-/// What was answered over the texts of the files of a question, with the place of its fault.
+/// A result for the texts of the files of a question, with the place of its fault.
 fn placed_over<'a>(
     question: &ReachQuestion<'a>,
     texts: ReachTexts,
@@ -207,7 +207,7 @@ fn placed_over<'a>(
     placed_in_two(&plan, &queues, answered)
 }
 
-/// Tells what a call may run that comes in at a context, over the files of a question.
+/// Reports what a phone call that comes in at a context may run, given the files of a question.
 pub(crate) fn serve_reach<'a, F: ReadFiles, W: WriteTold>(
     files: &F,
     alloc: Global,

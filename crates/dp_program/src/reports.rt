@@ -1,4 +1,4 @@
-//! What the requests do that list, audit or ask a dialplan, or report on a fault.
+//! The requests that list, audit or query a dialplan, or that explain a fault.
 ghost use Rattle.std.specs.Prelude.{◌≡◌, ◌||◌};
 ghost use Rattle.dp_commands.specs.Audit.{WritesAudit, audit_of};
 ghost use Rattle.dp_commands.specs.Faults.{is_write_failed};
@@ -19,7 +19,7 @@ use dp_commands::{PbxFault, audit, list_plan, match_all, match_one};
 use dp_conf::WriteTold;
 use std::alloc::Global;
 
-/// Audits a dialplan, and tells where it may be none.
+/// Audits a dialplan, and hints if it may be none.
 #[tactic(auto, using(crate::proofs::HintsLemmas::audit_hint_refused))]
 fn audit_told<W: WriteTold>(
     alloc: Global,
@@ -66,7 +66,7 @@ pub(crate) fn serve_list<'a, F: ReadFiles, W: WriteTold>(
     with_place(file, &plan, list_plan(alloc, &plan, output))
 }
 
-/// Reports which entry of a dialplan answers, and where all are asked for what becomes of each extension that matches.
+/// Reports which entry of a dialplan answers and, if all are asked for, what decides about each extension that matches.
 fn look_up<W: WriteTold>(
     alloc: Global,
     plan: &[u8],
@@ -87,14 +87,14 @@ fn look_up<W: WriteTold>(
     }
 }
 
-/// How a look-up is done: whether all extensions that match are told, and whether names are told for one that is not there.
+/// How to look up an entry: whether to report all extensions that match, and whether to suggest names for one that does not exist.
 #[derive(Clone, Copy)]
 pub(crate) struct Manner {
     pub(crate) all: bool,
     pub(crate) explains: bool,
 }
 
-/// Reports likewise, and tells where the dialplan may be none, or has no context of the name.
+/// Reports in the same way, and hints if the dialplan may be none, or has no context with the name.
 #[tactic(auto, using(crate::proofs::HintsLemmas::match_hint_refused))]
 fn look_up_told<W: WriteTold>(
     alloc: Global,
@@ -113,7 +113,7 @@ fn look_up_told<W: WriteTold>(
     Ok(Served { status, hint })
 }
 
-/// Looks up in the dialplan of a file.
+/// Looks up an entry in the dialplan of a file.
 pub(crate) fn serve_match<'a, F: ReadFiles, W: WriteTold>(
     files: &F,
     alloc: Global,
@@ -133,7 +133,7 @@ pub(crate) fn serve_match<'a, F: ReadFiles, W: WriteTold>(
     )
 }
 
-/// Writes the manual's entry of a fault.
+/// Writes the manual's entry on a fault.
 fn write_entry<W: WriteTold>(fault: FaultNumber, output: &mut W) -> Result<u8, PbxFault>
     ensures reports { Reports (W.contents output.old) (W.contents output.new) (Ok (entry_of fault)) result }
     ensures told { W.has_failed output.new ≡ (W.has_failed output.old || is_write_failed result) }
@@ -142,7 +142,7 @@ fn write_entry<W: WriteTold>(fault: FaultNumber, output: &mut W) -> Result<u8, P
     Ok(0)
 }
 
-/// Answers with the manual's entry of a fault.
+/// Answers with the manual's entry on a fault.
 pub(crate) fn serve_explain<'a, W: WriteTold>(
     fault: FaultNumber,
     output: &mut W,

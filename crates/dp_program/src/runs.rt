@@ -1,4 +1,4 @@
-//! What the requests do that run a script.
+//! The requests that run a script.
 ghost use Rattle.std.specs.Prelude.{◌≡◌, ◌||◌, max};
 ghost use Rattle.dp_commands.specs.Debug.{WritesDebug};
 ghost use Rattle.dp_commands.specs.Faults.{is_write_failed};
@@ -20,7 +20,7 @@ use std::alloc::Global;
 use std::sync::Wait;
 use std::thread::Threads;
 
-/// The gate of the program, which holds nobody.
+/// The gate of the program, which holds no thread.
 struct OpenGate;
 
 impl Gate for OpenGate {
@@ -44,7 +44,7 @@ fn run_input<I: ReadTold, W: WriteTold>(
     run_joined(alloc, &text, output)
 }
 
-/// Runs the joined text of the input. A fault of it stands in no file.
+/// Runs the joined text of the input. A fault in it has no place in a file.
 pub(crate) fn serve_joined<'a, I: ReadTold, W: WriteTold>(
     alloc: Global,
     input: &mut I,
@@ -66,7 +66,7 @@ fn status_of<H: Drop>(ran: (u8, H)) -> u8
     status
 }
 
-/// Runs the script of a run on its dialplan, in so many threads that nobody holds, and gives the status.
+/// Runs the script of a run on its dialplan, in so many threads that no gate holds, and gives the status.
 fn run_in_threads<W: WriteTold, R: Threads + Wait + Sync>(
     rt: &R,
     alloc: Global,
@@ -95,7 +95,7 @@ fn run_in_order<W: WriteTold>(alloc: Global, texts: &Texts, output: &mut W) -> R
     run_script(alloc, texts.lend(), output)
 }
 
-/// Runs the script of a run on its dialplan, in threads where their number is given.
+/// Runs the script of a run on its dialplan, in threads if their number is given.
 fn run_texts<W: WriteTold, R: Threads + Wait + Sync>(
     rt: &R,
     alloc: Global,
@@ -113,8 +113,8 @@ fn run_texts<W: WriteTold, R: Threads + Wait + Sync>(
     }
 }
 
-/// Runs the script of a file on the dialplan of another, with the queues and beside the second dialplan of more files where they are
-/// named, in threads where their number is given.
+/// Runs the script of one file on the dialplan of another, with the queues and the second dialplan of further files if they are named, in
+/// threads if their number is given.
 pub(crate) fn serve_run<'a, F: ReadFiles, W: WriteTold, R: Threads + Wait + Sync>(
     rt: &R,
     files: &F,
@@ -133,7 +133,7 @@ pub(crate) fn serve_run<'a, F: ReadFiles, W: WriteTold, R: Threads + Wait + Sync
     placed_in_run(run, &texts, answered)
 }
 
-/// Debugs the script of a run on its dialplan, with the break of a text.
+/// Debugs the script of a run on its dialplan, with the break that a text names.
 fn debug_texts<W: WriteTold>(
     alloc: Global,
     texts: &Texts,
@@ -147,8 +147,8 @@ fn debug_texts<W: WriteTold>(
     debug_script(alloc, texts.lend(), held.as_bytes(), output)
 }
 
-/// Debugs the script of a file on the dialplan of another, with the queues and beside the second dialplan of more files where they
-/// are named, and with the break of a text.
+/// Debugs the script of one file on the dialplan of another, with the queues and the second dialplan of further files if they are named,
+/// and with the break that a text names.
 pub(crate) fn serve_debug<'a, F: ReadFiles, W: WriteTold>(
     files: &F,
     alloc: Global,

@@ -1,4 +1,4 @@
-//! The texts of files that are named.
+//! The texts of named files.
 ghost use Rattle.std.specs.Prelude.{◌≡◌, [], IfErr, true, unwrap_or};
 ghost use Rattle.std.specs.Option.{option_map};
 ghost use Rattle.dp_conf.specs.Answers.{Answers};
@@ -19,7 +19,7 @@ pub(crate) struct FileText<'a> {
     pub(crate) text: Vec<u8>,
 }
 
-/// The texts of the files of a run: its dialplan, its queues and its second dialplan, where files of them are named, and its script.
+/// The texts of a run's files: its dialplan, its queues and second dialplan if they are named, and its script.
 #[derive(Drop)]
 pub(crate) struct Texts {
     pub(crate) plan: Vec<u8>,
@@ -35,7 +35,7 @@ impl Texts {
     ghost use Rattle.dp_program.specs.Texts.{texts_of};
     ghost use Rattle.dp_wide_runs.specs.Runs as wide;
 
-    /// The texts, as they are given to a run.
+    /// The texts as the run takes them.
     pub(crate) fn lend(&self) -> RunTexts<'_>
         ensures run { run_of_texts result ≡ serves.run_of_texts (texts_of self.now) }
         ensures wide { wide.run_of_texts result ≡ serves.wide_run_of_texts (texts_of self.now) }
@@ -50,7 +50,7 @@ impl Texts {
     }
 }
 
-/// All bytes of the file of a path.
+/// All bytes of the file at a path.
 pub(crate) fn read_text<'a, F: ReadFiles>(
     files: &F,
     alloc: Global,
@@ -67,7 +67,7 @@ pub(crate) fn read_text<'a, F: ReadFiles>(
     }
 }
 
-/// All bytes of a file, where one is named.
+/// All bytes of a file, if one is named.
 pub(crate) fn read_named<'a, F: ReadFiles>(
     files: &F,
     alloc: Global,
@@ -85,8 +85,8 @@ pub(crate) fn read_named<'a, F: ReadFiles>(
     Ok(Some(text))
 }
 
-/// The texts of the files of a run: the dialplan is read first, then the queues, then the second dialplan, then the script, up to
-/// the first that has a fault.
+/// The texts of a run's files: the dialplan is read first, then the queues, then the second dialplan, then the script, until one has a
+/// fault.
 pub(crate) fn read_texts<'a, F: ReadFiles>(
     files: &F,
     alloc: Global,

@@ -1,4 +1,4 @@
-//! What the requests do that run a script verbosely.
+//! The requests that run a script verbosely.
 ghost use Rattle.std.specs.Prelude.{◌≡◌, ◌||◌};
 ghost use Rattle.dp_commands.specs.Faults.{is_write_failed};
 ghost use Rattle.dp_commands.specs.Verbose.{WritesVerbose, WritesVerboseDebug};
@@ -30,8 +30,8 @@ fn run_texts<W: WriteTold>(
     run_verbose::<ManualEntries, W>(alloc, texts.lend(), run.plan_names(), output)
 }
 
-/// Runs the script of a file verbosely on the dialplan of another, with the queues and beside the second dialplan of more files where
-/// they are named.
+/// Runs the script of one file verbosely on the dialplan of another, with the queues and the second dialplan of further files if they are
+/// named.
 pub(crate) fn serve_run_verbose<'a, F: ReadFiles, W: WriteTold>(
     files: &F,
     alloc: Global,
@@ -47,7 +47,7 @@ pub(crate) fn serve_run_verbose<'a, F: ReadFiles, W: WriteTold>(
     placed_in_run(run, &texts, answered)
 }
 
-/// Debugs the script of a run verbosely on its dialplan, with the break of a text.
+/// Debugs the script of a run verbosely on its dialplan, with the break that a text names.
 fn debug_texts<W: WriteTold>(
     alloc: Global,
     run: &RunFiles<'_>,
@@ -68,8 +68,8 @@ fn debug_texts<W: WriteTold>(
     )
 }
 
-/// Debugs the script of a file verbosely on the dialplan of another, with the queues and beside the second dialplan of more files where
-/// they are named, and with the break of a text.
+/// Debugs the script of one file verbosely on the dialplan of another, with the queues and the second dialplan of further files if they are
+/// named, and with the break that a text names.
 pub(crate) fn serve_debug_verbose<'a, F: ReadFiles, W: WriteTold>(
     files: &F,
     alloc: Global,

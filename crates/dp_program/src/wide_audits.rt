@@ -1,4 +1,4 @@
-//! What the request does that audits a dialplan for some kinds of findings, or over the wide table.
+//! The request that audits a dialplan for some kinds of findings, or over the wide table.
 ghost use Rattle.std.specs.Prelude.{◌≡◌, ◌||◌};
 ghost use Rattle.dp_commands.specs.Faults.{is_write_failed};
 ghost use Rattle.dp_program.specs.Faulted.{without_place};
@@ -16,7 +16,7 @@ use dp_conf::WriteTold;
 use dp_wide_runs::{AuditChoice, audit_by};
 use std::alloc::Global;
 
-/// Audits a dialplan as it is asked for, and tells where it may be none.
+/// Audits a dialplan as requested, and hints if it may be none.
 #[tactic(auto, using(crate::proofs::HintsLemmas::choice_hint_refused))]
 fn audit_told<W: WriteTold>(
     alloc: Global,
@@ -34,7 +34,7 @@ fn audit_told<W: WriteTold>(
     Ok(Served { status, hint })
 }
 
-/// Audits the dialplan of a file as it is asked for.
+/// Audits the dialplan of a file as requested.
 pub(crate) fn serve_audit_by<'a, F: ReadFiles, W: WriteTold>(
     files: &F,
     alloc: Global,

@@ -1,4 +1,4 @@
-//! What the requests do that run a script over the wide table.
+//! The requests that run a script over the wide table.
 ghost use Rattle.std.specs.Prelude.{◌≡◌, ◌||◌};
 ghost use Rattle.dp_commands.specs.Faults.{is_write_failed};
 ghost use Rattle.dp_program.specs.Faulted.{without_place};
@@ -24,8 +24,8 @@ fn run_texts<W: WriteTold>(alloc: Global, texts: &Texts, output: &mut W) -> Resu
     run_wide(alloc, texts.lend(), output)
 }
 
-/// Runs the script of a file on the dialplan of another over the wide table, with the queues and beside the second dialplan of more files
-/// where they are named. The script may tell facts, and the run stops before what is unknown.
+/// Runs the script of one file on the dialplan of another over the wide table, with the queues and the second dialplan of further files if
+/// they are named. The script may state facts, and the run stops before anything unknown.
 pub(crate) fn serve_run_wide<'a, F: ReadFiles, W: WriteTold>(
     files: &F,
     alloc: Global,
@@ -55,8 +55,8 @@ fn run_texts_verbosely<W: WriteTold>(
     run_wide_verbose::<ManualEntries, W>(alloc, texts.lend(), run.plan_names(), output)
 }
 
-/// Runs the script of a file verbosely on the dialplan of another over the wide table, with the queues and beside the second dialplan of
-/// more files where they are named. The script may tell facts, and the run stops before what is unknown.
+/// Runs the script of one file verbosely on the dialplan of another over the wide table, with the queues and the second dialplan of further
+/// files if they are named. The script may state facts, and the run stops before anything unknown.
 pub(crate) fn serve_run_wide_verbose<'a, F: ReadFiles, W: WriteTold>(
     files: &F,
     alloc: Global,

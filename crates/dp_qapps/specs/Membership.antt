@@ -18,11 +18,11 @@ added_status NoSuchQueue = codes "NOSUCHQUEUE"
 added_status MemberAlready = codes "MEMBERALREADY"
 added_status added = codes "ADDED"
 
--- an addition is reported
+-- the report of an addition
 abbrev pub reported_added : CellOf → QueuesOf × Added → Outcome
 reported_added cell answer = with_report cell answer.0 (codes "AQMSTATUS") (added_status answer.1)
 
--- the row by the parts of the arguments: queue, interface and penalty
+-- the row, given the parts of the arguments: queue, interface and penalty
 abbrev pub add_by : List (List ℕ) → CellOf → Outcome
 add_by parts cell =
     reported_added cell (add_row cell.queues (part 0 parts) (interface_of cell.number (part 1 parts)) (penalty_of (part 2 parts)))
@@ -38,11 +38,11 @@ removed_status NotInQueue = codes "NOTINQUEUE"
 removed_status NotDynamic = codes "NOTDYNAMIC"
 removed_status removed = codes "REMOVED"
 
--- a removal is reported
+-- the report of a removal
 abbrev pub reported_removed : CellOf → QueuesOf × Removed → Outcome
 reported_removed cell answer = with_report cell answer.0 (codes "RQMSTATUS") (removed_status answer.1)
 
--- the row by the parts of the arguments: queue and interface
+-- the row, given the parts of the arguments: queue and interface
 abbrev pub remove_by : List (List ℕ) → CellOf → Outcome
 remove_by parts cell = reported_removed cell (remove_row cell.queues (part 0 parts) (interface_of cell.number (part 1 parts)))
 

@@ -1,4 +1,4 @@
--- What the applications of queues read of their arguments, and the status that they report.
+-- The arguments that the applications of queues read, and the status that they report.
 use Rattle.std.specs.Prelude.{ℕ, nat_le, List, [], ◌∷◌, Option, Some, None, if◌then◌else◌}
 use Rattle.dp_conf.specs.Numbers.{number_of}
 use Rattle.dp_queue.specs.Queues.{QueuesOf}
@@ -8,7 +8,7 @@ use Rattle.dp_app.specs.Rows.{Outcome}
 use Rattle.dp_app.specs.Cells.{CellOf}
 use Rattle.dp_app.specs.declared.moves.Move.TheVariants.{Next}
 
--- the interface that a part names; the empty part is the name of the channel that runs the application
+-- the interface that a part names; an empty part means the channel that runs the application
 abbrev pub interface_of : ℕ → List ℕ → List ℕ
 interface_of channel [] = channel_name channel
 interface_of channel (b ∷ bs) = b ∷ bs
@@ -17,7 +17,7 @@ interface_of channel (b ∷ bs) = b ∷ bs
 abbrev pub most_penalty : ℕ
 most_penalty = 2147483647
 
--- the penalty that a number is; 0 where there is none, or one above the greatest
+-- the penalty of a number; 0 if there is none, or if it is above the greatest
 abbrev pub penalty_by : Option ℕ → ℕ
 penalty_by None = 0
 penalty_by (Some number) = if nat_le number most_penalty then number else 0

@@ -1,4 +1,4 @@
-//! The applications of call queues, after the Asterisk documentation's application reference: `Queue`, and those that add,
+//! The applications of call queues, after the Asterisk documentation's application reference: `Queue`, and the applications that add,
 //! remove and pause the members of queues.
 #![tactic(auto)]
 

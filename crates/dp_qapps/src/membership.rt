@@ -23,7 +23,7 @@ fn added_status(added: Added) -> &'static [u8]
     }
 }
 
-/// The addition of a member to the queue of this name.
+/// The addition of a member to the queue with this name.
 #[derive(Drop)]
 struct Addition<'a> {
     queue: &'a [u8],
@@ -41,7 +41,7 @@ impl Change<Queues> for Addition<'_> {
     }
 }
 
-/// Adds a member and reports it. After a refused growth the cell is as before.
+/// Adds a member and reports it. If memory runs out the cell is as before.
 fn add(
     alloc: Global,
     queue: &[u8],
@@ -66,7 +66,7 @@ fn add(
     Ok(Move::Next)
 }
 
-/// Adds the member that the parts of the arguments name. After a refused growth the cell is as before.
+/// Adds the member that the parts of the arguments name. If memory runs out the cell is as before.
 fn add_by_parts(alloc: Global, parts: &[&[u8]], cell: &mut Cell) -> Result<Move, NoMemory>
     ensures ok { IfOk result (λ going. spec.add_by (map (λ part. part.now) parts.now) (cell_now cell.old)
         ≡ record { cell = cell_now cell.new; next = going }) }
@@ -91,7 +91,7 @@ fn removed_status(removed: Removed) -> &'static [u8]
     }
 }
 
-/// Removes a member and reports it. After a refused growth the cell is as before.
+/// Removes a member and reports it. If memory runs out the cell is as before.
 fn remove(alloc: Global, queue: &[u8], interface: &[u8], cell: &mut Cell) -> Result<Move, NoMemory>
     ensures ok { IfOk result (λ going. spec.reported_removed (cell_now cell.old)
         (remove_row cell.old.queues.now queue.now interface.now)
@@ -105,7 +105,7 @@ fn remove(alloc: Global, queue: &[u8], interface: &[u8], cell: &mut Cell) -> Res
     Ok(Move::Next)
 }
 
-/// Removes the member that the parts of the arguments name. After a refused growth the cell is as before.
+/// Removes the member that the parts of the arguments name. If memory runs out the cell is as before.
 fn remove_by_parts(alloc: Global, parts: &[&[u8]], cell: &mut Cell) -> Result<Move, NoMemory>
     ensures ok { IfOk result (λ going. spec.remove_by (map (λ part. part.now) parts.now) (cell_now cell.old)
         ≡ record { cell = cell_now cell.new; next = going }) }
@@ -117,9 +117,9 @@ fn remove_by_parts(alloc: Global, parts: &[&[u8]], cell: &mut Cell) -> Result<Mo
     Ok(going)
 }
 
-/// `AddQueueMember(queue[,interface[,penalty]])`: the interface becomes the queue's last member, not paused. `AQMSTATUS` is
-/// `ADDED`, or `NOSUCHQUEUE`, or `MEMBERALREADY`, and the channel goes on. An empty interface is the name of the channel, and
-/// a penalty that is no number up to 2,147,483,647 is 0.
+/// `AddQueueMember(queue[,interface[,penalty]])`: the interface becomes the queue's last member, not paused. `AQMSTATUS` is `ADDED`,
+/// `NOSUCHQUEUE` or `MEMBERALREADY`, and the channel goes on. An empty interface means the name of the channel, and a penalty that is no
+/// number up to 2,147,483,647 is 0.
 pub struct AddQueueMember;
 
 impl Application for AddQueueMember {
@@ -153,9 +153,8 @@ impl Application for AddQueueMember {
     }
 }
 
-/// `RemoveQueueMember(queue[,interface])`: the interface is no member of the queue any more. `RQMSTATUS` is `REMOVED`, or
-/// `NOSUCHQUEUE`, or `NOTINQUEUE`, or `NOTDYNAMIC` for a member of the file, and the channel goes on. An empty interface is the
-/// name of the channel.
+/// `RemoveQueueMember(queue[,interface])`: the interface is no longer a member of the queue. `RQMSTATUS` is `REMOVED`, `NOSUCHQUEUE`,
+/// `NOTINQUEUE`, or `NOTDYNAMIC` for a member of the file, and the channel goes on. An empty interface means the name of the channel.
 pub struct RemoveQueueMember;
 
 impl Application for RemoveQueueMember {

@@ -10,7 +10,7 @@ use dp_conf::{NoMemory, split_args};
 use dp_queue::Queues;
 use std::alloc::Global;
 
-/// The queue that a part names; the empty part is all queues.
+/// The queue that a part names; an empty part means all queues.
 fn queue_asked(text: &[u8]) -> Option<&[u8]>
     ensures { option_copied result ≡ spec.queue_asked text.now }
 {
@@ -20,7 +20,7 @@ fn queue_asked(text: &[u8]) -> Option<&[u8]>
     Some(text)
 }
 
-/// Whether there is such a member; the empty interface names none.
+/// Whether there is such a member; an empty interface names none.
 fn is_there(queues: &Queues, queue: Option<&[u8]>, interface: &[u8]) -> bool
     ensures { (is_paused : Bool) → result ≡ (spec.after_pausing queues.now
         (option_copied queue.entry) interface.now is_paused).1 }
@@ -31,7 +31,7 @@ fn is_there(queues: &Queues, queue: Option<&[u8]>, interface: &[u8]) -> bool
     queues.would_pause(queue, interface)
 }
 
-/// Pauses a member, or ends its pause; the empty interface names none.
+/// Pauses a member, or ends its pause; an empty interface names none.
 fn pause(queues: &mut Queues, queue: Option<&[u8]>, interface: &[u8], is_paused: bool)
     ensures { queues.new ≡ (spec.after_pausing queues.old (option_copied queue.entry) interface.now is_paused).0 }
 {
@@ -51,14 +51,14 @@ fn pause_variable(is_paused: bool) -> &'static [u8]
     }
 }
 
-/// The status where there is such a member.
+/// The status if there is such a member.
 fn pause_done(is_paused: bool) -> &'static [u8]
     ensures { result.now ≡ spec.pause_done is_paused }
 {
     if is_paused { b"PAUSED" } else { b"UNPAUSED" }
 }
 
-/// The status.
+/// The status of a pause or its end.
 fn pause_status(is_paused: bool, is_there: bool) -> &'static [u8]
     ensures { result.now ≡ spec.pause_status is_paused is_there }
 {
@@ -69,7 +69,7 @@ fn pause_status(is_paused: bool, is_there: bool) -> &'static [u8]
     }
 }
 
-/// Pauses a member, or ends its pause, and reports it. After a refused growth the cell is as before.
+/// Pauses a member, or ends its pause, and reports it. If memory runs out the cell is as before.
 fn report_pause(
     alloc: Global,
     queue: Option<&[u8]>,
@@ -90,7 +90,7 @@ fn report_pause(
     Ok(Move::Next)
 }
 
-/// Pauses the member that the arguments name, or ends its pause. After a refused growth the cell is as before.
+/// Pauses the member that the arguments name, or ends its pause. If memory runs out the cell is as before.
 #[tactic(auto, unfolding(crate::specs::Pausing::pausing_row))]
 fn pause_by_text(
     alloc: Global,
@@ -109,9 +109,9 @@ fn pause_by_text(
     Ok(going)
 }
 
-/// `PauseQueueMember(queue,interface)`: no call is offered to the member of the queue any more, or of all queues where the
-/// queue is empty. `PQMSTATUS` is `PAUSED`, or `NOTFOUND` where there is no such member, and the channel goes on. A member that
-/// is paused already is paused again. An empty interface names no member, so it is `NOTFOUND`.
+/// `PauseQueueMember(queue,interface)`: no further call is offered to the member of the queue, or of all queues if the queue is empty.
+/// `PQMSTATUS` is `PAUSED`, or `NOTFOUND` if there is no such member, and the channel goes on. A member that is already paused is paused
+/// again. An empty interface names no member, so the status is `NOTFOUND`.
 pub struct PauseQueueMember;
 
 impl Application for PauseQueueMember {
@@ -144,9 +144,9 @@ impl Application for PauseQueueMember {
     }
 }
 
-/// `UnpauseQueueMember(queue,interface)`: the pause of the member ends, in the queue or in all queues where the queue is empty.
-/// `UPQMSTATUS` is `UNPAUSED`, or `NOTFOUND` where there is no such member, and the channel goes on. An empty interface names
-/// no member, so it is `NOTFOUND`.
+/// `UnpauseQueueMember(queue,interface)`: the pause of the member ends, in the queue or in all queues if the queue is empty. `UPQMSTATUS`
+/// is `UNPAUSED`, or `NOTFOUND` if there is no such member, and the channel goes on. An empty interface names no member, so the status is
+/// `NOTFOUND`.
 pub struct UnpauseQueueMember;
 
 impl Application for UnpauseQueueMember {

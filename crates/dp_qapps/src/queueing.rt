@@ -11,8 +11,8 @@ use dp_conf::{NoMemory, split_args};
 use dp_queue::Join;
 use std::alloc::Global;
 
-/// What `Queue` asks for: the queue's name, whether the channel goes on when the agent is done, and whether a time-out takes
-/// it out of the queue.
+/// The request of a `Queue`: the queue's name, whether the channel goes on when the agent is done, and whether a time-out takes it out of
+/// the queue.
 #[derive(Clone, Copy)]
 struct Asked<'a> {
     queue: &'a [u8],
@@ -20,7 +20,7 @@ struct Asked<'a> {
     has_timer: bool,
 }
 
-/// The status of a call that does not wait, and the channel goes on. After a refused growth the cell is as before.
+/// Sets the status of a channel that does not wait and goes on. If memory runs out the cell is as before.
 fn refuse(alloc: Global, status: &[u8], cell: &mut Cell) -> Result<Move, NoMemory>
     ensures ok { IfOk result (λ going. spec.stays_out (cell_now cell.old) status.now ≡ record { cell = cell_now cell.new; next = going }) }
     ensures err { OnErr result (cell_now cell.new ≡ cell_now cell.old) }
@@ -30,7 +30,7 @@ fn refuse(alloc: Global, status: &[u8], cell: &mut Cell) -> Result<Move, NoMemor
     Ok(Move::Next)
 }
 
-/// The channel asks to join the queue. After a refused growth the cell is as before.
+/// The channel asks to join the queue. If memory runs out the cell is as before.
 fn ask(alloc: Global, asked: Asked<'_>, cell: &mut Cell) -> Result<Move, NoMemory>
     requires { MayRun (cell_now cell.old) }
     ensures ok { IfOk result (λ going. spec.asked_for (cell_now cell.old) asked.entry.goes_on asked.entry.has_timer
@@ -57,7 +57,7 @@ fn ask(alloc: Global, asked: Asked<'_>, cell: &mut Cell) -> Result<Move, NoMemor
     }
 }
 
-/// The channel asks to join the queue that the parts of the arguments name. After a refused growth the cell is as before.
+/// The channel asks to join the queue that the parts of the arguments name. If memory runs out the cell is as before.
 fn ask_by_parts(alloc: Global, parts: &[&[u8]], cell: &mut Cell) -> Result<Move, NoMemory>
     requires { MayRun (cell_now cell.old) }
     ensures ok { IfOk result (λ going. spec.queue_by (map (λ part. part.now) parts.now) (cell_now cell.old)
@@ -74,10 +74,10 @@ fn ask_by_parts(alloc: Global, parts: &[&[u8]], cell: &mut Cell) -> Result<Move,
     Ok(going)
 }
 
-/// `Queue(queue[,options[,URL[,announcement[,time]]]])`: the channel waits in the queue for an agent. `QUEUESTATUS` is
-/// `UNKNOWN` where there is no such queue, `JOINEMPTY` where it is too empty and `FULL` where it is full, and then the channel
-/// goes on. An option `c` outside parentheses lets it go on when the agent is done, and a time that is not empty lets a
-/// time-out take it out of the queue. During `h` the call ends in place of the wait (a choice of this program).
+/// `Queue(queue[,options[,URL[,announcement[,time]]]])`: the channel waits in the queue for an agent. `QUEUESTATUS` is `UNKNOWN` if there
+/// is no such queue, `JOINEMPTY` if it is too empty and `FULL` if it is full, and then the channel goes on. With the option `c` outside
+/// parentheses it goes on when the agent is done, and if there is a time, a time-out takes it out of the queue. During `h` the call ends
+/// instead of waiting (a choice of this program).
 pub struct Queue;
 
 impl Application for Queue {

@@ -1,4 +1,4 @@
-//! What the applications of queues read of their arguments.
+//! The arguments that the applications of queues read.
 ghost use Rattle.std.specs.Prelude.{◌≡◌, ◌≤◌, IfOk};
 ghost use Rattle.dp_qapps.specs.Reports as spec;
 ghost use Rattle.dp_vars.specs.Sights as sights;
@@ -20,7 +20,7 @@ fn channel_name(alloc: Global, channel: u32) -> Result<Text, NoMemory>
     Ok(Text::new(name))
 }
 
-/// The interface that a part names. The empty part is the name of the channel that runs the application.
+/// The interface that a part names. An empty part means the channel that runs the application.
 pub(crate) fn interface_of(alloc: Global, channel: u32, text: &[u8]) -> Result<Text, NoMemory>
     ensures { IfOk result (λ interface. interface ≡ spec.interface_of channel text.now) }
 {
@@ -32,7 +32,7 @@ pub(crate) fn interface_of(alloc: Global, channel: u32, text: &[u8]) -> Result<T
     Ok(name)
 }
 
-/// The penalty that a part writes: digits with a value up to 2,147,483,647, else it is 0.
+/// The penalty that a part writes: digits with a value up to 2,147,483,647; any other part means 0.
 pub(crate) fn penalty_of(text: &[u8]) -> u32
     ensures { result ≡ spec.penalty_of text.now }
 {

@@ -99,22 +99,22 @@ fn fault_text(alloc: Global, fault: QueueFault) -> Result<String, Fail> {
 }
 
 #[test]
-fn files_load_so(rt: HostRuntime) -> Result<(), Fail> {
+fn queue_files_load(rt: HostRuntime) -> Result<(), Fail> {
     check_all::<Loads>(rt.alloc(), files::TABLES)
 }
 
 #[test]
-fn files_have_these_faults(rt: HostRuntime) -> Result<(), Fail> {
+fn faults_of_queue_files(rt: HostRuntime) -> Result<(), Fail> {
     check_all::<EveryFault>(rt.alloc(), &[every_fault::EVERY])
 }
 
 #[test]
-fn many_load_so(rt: HostRuntime) -> Result<(), Fail> {
+fn large_queue_files_load(rt: HostRuntime) -> Result<(), Fail> {
     check_all::<Counted>(rt.alloc(), &[sizes::SIZES])
 }
 
 #[test]
-fn steps_answer_so(rt: HostRuntime) -> Result<(), Fail> {
+fn queues_answer_steps(rt: HostRuntime) -> Result<(), Fail> {
     check_all::<Acts>(
         rt.alloc(),
         &[rows::WORKED, offers::OFFERS, manual::OFFERS, sizes::STEPS],

@@ -266,6 +266,6 @@ const TABLES: &[&str] = &[
 ];
 
 #[test]
-fn texts_have_these_values(rt: HostRuntime) -> Result<(), Fail> {
+fn texts_are_expanded(rt: HostRuntime) -> Result<(), Fail> {
     check_all::<Expanded>(rt.alloc(), TABLES)
 }

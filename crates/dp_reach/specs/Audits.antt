@@ -1,4 +1,4 @@
--- What an audit claims: from where calls come in, and what they may run.
+-- The claim of an audit: where phone calls come in, and what they may run.
 use Rattle.std.specs.Prelude.{◌≡◌, ℕ, Bool, List, [], ◌∷◌, ◌++◌, map, ◌⊎◌}
 use Rattle.std.specs.List.{AllByRecursion}
 use Rattle.dp_plan.specs.Plan.{PlanOf}
@@ -23,7 +23,7 @@ use Rattle.dp_reach.specs.Closed.{IsClosed}
 use Rattle.dp_reach.specs.Holding.{Claim}
 use Rattle.dp_reach.specs.Runs.{RunsWithin, with_reach}
 
--- what may come in: the bytes of an extension and of a caller's number, and the contexts
+-- everything that may come in: the bytes of an extension and of a caller's number, and the contexts
 pub record Outside : Type 0 where
   pub exten : Bytes
   pub caller : Bytes
@@ -33,7 +33,7 @@ abbrev pub IsOneOf : List (List ℕ) → List ℕ → Type 0
 IsOneOf [] text = ⊥
 IsOneOf (name ∷ names) text = (text ≡ name) ⊎ IsOneOf names text
 
--- an event in which no call comes in but such, no other dialplan is loaded, and nothing is set and no channel sent from outside
+-- an event in which only such calls come in, no other dialplan is loaded, nothing is set and no channel is sent from outside
 abbrev pub IsFromOutside : Outside → Event → Type 0
 IsFromOutside outside (Start context exten caller) = IsOneOf outside.contexts context × Within outside.exten exten × Within outside.caller caller
 IsFromOutside outside (Step number) = Unit {0}
@@ -50,15 +50,15 @@ IsFromOutside outside (Reload text) = ⊥
 IsFromOutside outside (Assign channel name value) = ⊥
 IsFromOutside outside (Redirect number place) = ⊥
 
--- where such a call comes in
+-- the area where such a call comes in
 abbrev pub entrance : Outside → List ℕ → Area
 entrance outside context = area_at (exactly context) (any_bytes_of outside.exten)
 
--- the names that the value of a global sees: no channel, and so no extension and no context
+-- the names that the value of a global reads: there is no channel, so no extension and no context
 abbrev pub names_outside : Names → Names
 names_outside names = record names { exten = []; context = [] }
 
--- an audit is closed: for all calls, and for those that come in at the context
+-- an audit is closed, both for all calls and for those that come in at the context
 pub record IsAudit (duties : List ℕ → Duties) (outside : Outside) (context : List ℕ) (claim : Claim) (others : EntryId → Bool) (reach : List Area) (answers : EntryId → Bool) : Type 0 where
   pub all : IsClosed duties claim others
   pub own : IsClosed duties (with_reach claim reach) answers
@@ -67,7 +67,7 @@ pub record IsAudit (duties : List ℕ → Duties) (outside : Outside) (context :
   pub caller : IsPart outside.caller claim.names.caller
   pub globals : AllByRecursion (λ (variable : GlobalVariable). IsPart (text_set (names_outside claim.names) variable.value) (claim.names.bytes variable.name)) claim.plan.globals
 
--- in a run of the dialplan and queues of these settings from the beginning, a call that comes in at the context runs none but these entries
+-- in a run from the start with the dialplan and queues of these settings, a call that comes in at the context runs only these entries
 abbrev pub RunsOnly : Rows → Outside → List ℕ → PlanOf → List Settings → (EntryId → Bool) → Type 0
 RunsOnly rows outside context plan settings answers = (queues : QueuesOf) (before later : List Event) (exten caller : List ℕ) (number : ℕ)
     → map (λ queue. queue.settings) queues.queues ≡ settings

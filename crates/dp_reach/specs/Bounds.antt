@@ -1,4 +1,4 @@
--- The duties of applications, by their arguments as they stand in the dialplan.
+-- The duties of applications, given their arguments as written in the dialplan.
 use Rattle.std.specs.Prelude.{◌≡◌, ℕ, ◌+◌, List, [], ◌∷◌, ◌++◌, map, Option, Some, None, codes, if◌then◌else◌}
 use Rattle.std.specs.Fmt.{decimal}
 use Rattle.std.specs.List.{AllByRecursion, flat_map}
@@ -13,8 +13,8 @@ use Rattle.dp_reach.specs.Areas.{Area, Covers, Includes, IsIn, area_at, beside, 
 use Rattle.dp_reach.specs.Choices.{last_part, sides_in}
 use Rattle.dp_reach.specs.Holding.{Claim, IsGood, IsInside, LeadsOut}
 
--- what an application owes: the reach includes an area; a name, each name, or the caller's number may have these bytes; a digit may
--- lead out of each queue
+-- a duty of an application: the reach includes an area; a name, each name, or the caller's number may have these bytes; a digit may lead
+-- out of each queue
 pub data Duty : Type 0 where
   Leads : Area → Duty
   Holds : List ℕ → Bytes → Duty
@@ -32,24 +32,24 @@ Meets claim Waits = (queue : ℕ) → LeadsOut claim queue
 abbrev pub MeetsAll : Claim → List Duty → Type 0
 MeetsAll claim duties = AllByRecursion (Meets claim) duties
 
--- what is owed, by the area that the channel is in and the pieces of the arguments
+-- the duties, given the area of the channel and the pieces of the arguments
 abbrev pub Duties : Type 0
 Duties = Area → List Piece → List Duty
 
--- a row stays inside wherever its arguments fit the pieces and what is owed is met
+-- a row stays inside if its arguments fit the pieces and its duties are met
 abbrev pub IsBounded : Duties → Row → Type 0
 IsBounded duties row = (claim : Claim) (area : Area) (pieces : List Piece) (arguments : List ℕ) (cell : CellOf) → IsGood claim cell → IsIn area cell.place
     → Covers claim.plan claim.reach cell.place → Fits pieces arguments → MeetsAll claim (duties area pieces) → IsInside claim cell.place (row arguments cell)
 
--- each row of a table
+-- each row of a table stays inside
 abbrev pub AreBounded : (List ℕ → Duties) → Rows → Type 0
 AreBounded duties rows = (name : List ℕ) (row : Row) → rows name ≡ Some row → IsBounded (duties name) row
 
--- a row that jumps to a target
+-- the duties of a row that jumps to a target
 abbrev pub goto_duties : Duties
 goto_duties area pieces = map Leads (targets area pieces)
 
--- a row that jumps to a side of a choice
+-- the duties of a row that jumps to a side of a choice
 abbrev pub sides_duties : Area → Bytes → Option (List (List Piece)) → List Duty
 sides_duties area set None = map Leads (targets_within area set)
 sides_duties area set (Some sides) = map Leads (flat_map (targets area) sides)
@@ -57,12 +57,12 @@ sides_duties area set (Some sides) = map Leads (flat_map (targets area) sides)
 abbrev pub goto_if_duties : Duties
 goto_if_duties area pieces = sides_duties area (pieces_set pieces) (sides_in pieces)
 
--- the arguments of a subroutine, from a number on
+-- the duties of a subroutine's arguments, from a number on
 abbrev pub numbered_duties : ℕ → List (List Piece) → List Duty
 numbered_duties number [] = []
 numbered_duties number (shape ∷ shapes) = Holds (codes "ARG" ++ decimal number) (pieces_set shape) ∷ numbered_duties (number + 1) shapes
 
--- those of the pieces between its parentheses; where they are not known each name may have the bytes of the text
+-- the duties of the pieces between the parentheses of a subroutine; if they are unknown each name may have the bytes of the text
 abbrev pub inside_duties : Bytes → Cutting → List Duty
 inside_duties set Nowhere = []
 inside_duties set Unsure = HoldsAll set ∷ []
@@ -76,14 +76,14 @@ call_duties set (At priority rest) = inside_duties set (cut_last 41 rest)
 abbrev pub target_duties : Bytes → List Piece → List Duty
 target_duties set pieces = if are_clean 0 pieces then call_duties set (cut_pieces 40 (last_part (split_pieces 0 pieces))) else HoldsAll set ∷ []
 
--- the row of `Gosub`
+-- the duties of the row of `Gosub`
 abbrev pub subroutine_duties : Area → List Piece → List Duty
 subroutine_duties area pieces = map Leads (targets area pieces) ++ target_duties (pieces_set pieces) pieces
 
 abbrev pub gosub_duties : Duties
 gosub_duties area pieces = subroutine_duties area pieces
 
--- the row of `GosubIf`: each side of the choice; where the sides are not known, any text of these bytes
+-- the targets of the row of `GosubIf`: each side of the choice; if the sides are unknown, any text with these bytes
 abbrev pub sides_or : Bytes → Option (List (List Piece)) → List (List Piece)
 sides_or set None = any_bytes_of set ∷ []
 sides_or set (Some sides) = sides
@@ -91,19 +91,19 @@ sides_or set (Some sides) = sides
 abbrev pub gosub_if_duties : Duties
 gosub_if_duties area pieces = flat_map (subroutine_duties area) (sides_or (pieces_set pieces) (sides_in pieces))
 
--- a row that waits for digits: they, and a time-out, lead to extensions of the context
+-- the duties of a row that waits for digits: the digits, and a time-out, lead to extensions of the context
 abbrev pub digits_duties : Duties
 digits_duties area pieces = Leads (area_at area.context (any_bytes_of is_digit)) ∷ Leads (beside area (codes "t")) ∷ []
 
--- a row that leads nowhere and sets nothing
+-- the duties of a row that leads nowhere and sets nothing: none
 abbrev pub nothing_owed : Duties
 nothing_owed area pieces = []
 
--- a row that sets a name to one of these texts
+-- the duties of a row that sets a name to one of these texts
 abbrev pub tells : List ℕ → List (List ℕ) → List Duty
 tells name texts = map (λ text. Holds name (bytes_in text)) texts
 
--- the rows of `Return`, `Dial` and `Queue`
+-- the duties of the rows of `Return`, `Dial` and `Queue`
 abbrev pub return_duties : Duties
 return_duties area pieces = Holds (codes "GOSUB_RETVAL") (pieces_set pieces) ∷ []
 
@@ -113,7 +113,7 @@ dial_duties area pieces = tells (codes "DIALSTATUS") (codes "CHANUNAVAIL" ∷ []
 abbrev pub queue_duties : Duties
 queue_duties area pieces = Waits ∷ tells (codes "QUEUESTATUS") (codes "UNKNOWN" ∷ codes "JOINEMPTY" ∷ codes "FULL" ∷ [])
 
--- the rows on members
+-- the duties of the rows on members
 abbrev pub add_duties : Duties
 add_duties area pieces = tells (codes "AQMSTATUS") (codes "NOSUCHQUEUE" ∷ codes "MEMBERALREADY" ∷ codes "ADDED" ∷ [])
 

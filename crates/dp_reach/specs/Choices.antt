@@ -1,9 +1,9 @@
--- The sides of a choice, and the last of the parts of a target, by pieces.
+-- The sides of a choice, and the last part of a target, in pieces.
 use Rattle.std.specs.Prelude.{List, [], ◌∷◌, Option, Some, None}
 use Rattle.dp_pieces.specs.Cuts.{At, Cutting, Nowhere, Unsure, cut_level, cut_pieces}
 use Rattle.dp_pieces.specs.Pieces.{Piece}
 
--- the sides by what stands after the `?`; none are known where an unknown piece may part them
+-- the sides, given the text after the `?`; they are unknown if an unknown piece may separate them
 abbrev pub sides_by : List Piece → Cutting → Option (List (List Piece))
 sides_by rest Nowhere = Some (rest ∷ [])
 sides_by rest Unsure = None

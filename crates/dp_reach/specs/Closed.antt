@@ -15,13 +15,13 @@ use Rattle.dp_reach.specs.Bounds.{Duties, MeetsAll}
 use Rattle.dp_reach.specs.Finding.{MayFind}
 use Rattle.dp_reach.specs.Holding.{Claim}
 
--- the bytes that the machine puts into an area's names
+-- the names of an area have the bytes that the machine puts into them
 pub record IsNamed (claim : Claim) (area : Area) : Type 0 where
   pub exten : IsPart (pieces_set area.exten) claim.names.all
   pub context : IsPart (pieces_set area.context) claim.names.all
   pub invalid : IsPart (pieces_set area.exten) (claim.names.bytes (codes "INVALID_EXTEN"))
 
--- and into those that are the same in each
+-- the names that are the same in each area have the bytes that the machine puts into them
 pub record AreNamed (claim : Claim) : Type 0 where
   pub whole : IsWhole claim.names
   pub priority : IsPart digits (claim.names.bytes (codes "PRIORITY"))
@@ -34,21 +34,21 @@ pub record AreNamed (claim : Claim) : Type 0 where
   pub unanswered : Within (claim.names.bytes (codes "DIALSTATUS")) (codes "NOANSWER")
   pub cancelled : Within (claim.names.bytes (codes "DIALSTATUS")) (codes "CANCEL")
 
--- an entry that may run in an area is among the answers; its arguments fit pieces whatever is seen, and by these it owes what is met
+-- an entry that may run in an area is an answer; its arguments fit pieces in any view, and the duties that follow from these are met
 pub record IsEntry (duties : List ℕ → Duties) (claim : Claim) (answers : EntryId → Bool) (area : Area) (id : EntryId) (entry : Entry) : Type 0 where
   pub answer : answers id ≡ true
   pub pieces : List Piece
   pub fits : (sight : Sight) → IsWithin (names_at claim.names area) sight → Fits pieces (expansion sight entry.arguments)
   pub met : MeetsAll claim (duties entry.application area pieces)
 
--- an area is closed: where a call that ends or finds nothing goes, and each entry that may be found, from what is known of its match
+-- an area is closed: where a call goes that ends or finds nothing, and each entry that may be found, with what is known of its match
 pub record IsAreaClosed (duties : List ℕ → Duties) (claim : Claim) (answers : EntryId → Bool) (area : Area) : Type 0 where
   pub named : IsNamed claim area
   pub hang : Includes claim.plan claim.reach (beside area (codes "h"))
   pub invalid : Includes claim.plan claim.reach (beside area (codes "i"))
   pub entries : (id : EntryId) (entry : Entry) → MayFind claim.plan area id entry → IsEntry duties claim answers (area_matched area entry.name) id entry
 
--- a claim is closed, with the entries that are answered
+-- a claim is closed, with the entries in the answer
 pub record IsClosed (duties : List ℕ → Duties) (claim : Claim) (answers : EntryId → Bool) : Type 0 where
   pub named : AreNamed claim
   pub areas : AllByRecursion (IsAreaClosed duties claim answers) claim.reach

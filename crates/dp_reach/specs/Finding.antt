@@ -1,4 +1,4 @@
--- Which entries may be found from the places of an area.
+-- The entries that may be found from the places of an area.
 use Rattle.std.specs.Prelude.{◌≡◌, ℕ, true, List, Some}
 use Rattle.std.specs.declared.cmp.Ordering.TheVariants.{Less}
 use Rattle.dp_lookup.specs.SearchOrder.{has, search_order}
@@ -11,7 +11,7 @@ use Rattle.dp_plan.specs.declared.entry.EntryId.{EntryId}
 use Rattle.dp_pieces.specs.Pieces.{Fits}
 use Rattle.dp_reach.specs.Areas.{Area}
 
--- another entry of the same context and priority has a better name, which each extension of the area matches that matches the entry's
+-- another entry of the same context and priority has a better name, which matches each extension of the area that the entry's matches
 pub record IsHidden (plan : PlanOf) (area : Area) (id : EntryId) (entry : Entry) : Type 0 where
   pub other : EntryId
   pub better : Entry
@@ -21,7 +21,7 @@ pub record IsHidden (plan : PlanOf) (area : Area) (id : EntryId) (entry : Entry)
   pub less : name_cmp better.name entry.name ≡ Less
   pub covers : (text : List ℕ) → Fits area.exten text → Matches entry.name text → Matches better.name text
 
--- an entry may be found from a place of the area: a context of it is searched there, an extension matches, and no other entry hides it
+-- an entry may be found from a place of the area: its context is searched there, an extension matches, and no other entry hides it
 pub record MayFind (plan : PlanOf) (area : Area) (id : EntryId) (entry : Entry) : Type 0 where
   pub there : entry_at plan id ≡ Some entry
   pub context : List ℕ

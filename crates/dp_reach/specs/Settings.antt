@@ -1,4 +1,4 @@
--- What `Set` owes. Functions other than `GLOBAL`, `LOCAL` and `CALLERID` set nothing, so this holds for a table whose row of `Set` says
+-- The duties of `Set`. Functions other than `GLOBAL`, `LOCAL` and `CALLERID` set nothing, so this holds for a table whose row of `Set` says
 -- so, and for no wider one.
 use Rattle.std.specs.Prelude.{ℕ, List, [], ◌∷◌, Option, Some, None, codes, if◌then◌else◌}
 use Rattle.dp_conf.specs.Blanks.{trim, trim_start}
@@ -10,7 +10,7 @@ use Rattle.dp_pieces.specs.Cuts.{cut_known}
 use Rattle.dp_pieces.specs.Pieces.{Piece, pieces_set}
 use Rattle.dp_reach.specs.Bounds.{Calls, Duties, Duty, Holds, HoldsAll}
 
--- what is owed where a function of an argument is set to a value of these bytes
+-- the duties if a function of an argument is set to a value with these bytes
 abbrev pub function_duties : List ℕ → List ℕ → Bytes → List Duty
 function_duties function argument set =
     if same_text function (codes "GLOBAL") then Holds argument set ∷ []
@@ -22,12 +22,12 @@ abbrev pub called_duties : List ℕ → Option (List ℕ) → Bytes → List Dut
 called_duties function None set = []
 called_duties function (Some argument) set = function_duties function argument set
 
--- what is owed where a name is known: it may have the bytes of the value
+-- the duties if the name is known: it may have the bytes of the value
 abbrev pub name_duties : List ℕ → Option (List ℕ × List ℕ) → Bytes → List Duty
 name_duties name None set = Holds name set ∷ []
 name_duties name (Some cut) set = called_duties cut.0 (argument_of cut.1) set
 
--- where only a function's name is known, not its argument
+-- the duties if only the function's name is known, but not its argument
 abbrev pub any_argument_duties : List ℕ → Bytes → List Duty
 any_argument_duties function set =
     if same_text function (codes "GLOBAL") then HoldsAll set ∷ []
@@ -35,12 +35,12 @@ any_argument_duties function set =
     else if same_text function (codes "CALLERID") then Calls set ∷ []
     else []
 
--- where no name is known: each may have the bytes of the text
+-- the duties if no name is known: each name may have the bytes of the text
 abbrev pub unknown_duties : Bytes → Option (List ℕ × List Piece) → List Duty
 unknown_duties set None = HoldsAll set ∷ Calls set ∷ []
 unknown_duties set (Some cut) = any_argument_duties (trim_start cut.0) set
 
--- `NAME=VALUE` by what stands before the first `=`, where that is known
+-- the duties of `NAME=VALUE`, given the text before the first `=` if it is known
 abbrev pub pair_duties : List Piece → Option (List ℕ × List Piece) → List Duty
 pair_duties pieces None = unknown_duties (pieces_set pieces) (cut_known 40 pieces)
 pair_duties pieces (Some cut) = name_duties (trim cut.0) (cut_once 40 (trim cut.0)) (pieces_set cut.1)

@@ -4,11 +4,11 @@ use Rattle.dp_conf.specs.Words.{same_word}
 use Rattle.dp_reach.specs.Bounds.{Duties, add_duties, dial_duties, digits_duties, gosub_duties, gosub_if_duties, goto_duties, goto_if_duties, nothing_owed, pause_duties, queue_duties, remove_duties, return_duties, unpause_duties}
 use Rattle.dp_reach.specs.Settings.{set_duties}
 
--- the duties with those of one more application, by its name in any ASCII case
+-- the duties with those of one more application, which is named in any ASCII case
 abbrev pub with_duties : List ℕ → Duties → (List ℕ → Duties) → List ℕ → Duties
 with_duties title own duties name = if same_word name title then own else duties name
 
--- a name that the table lacks: the call ends there. A table that does anything else for such names has duties of its own
+-- the duties of a name that the table lacks: the call ends there; a table that does anything else for such names has duties of its own
 abbrev pub no_names : List ℕ → Duties
 no_names name = nothing_owed
 

@@ -18,9 +18,9 @@ ghost use Rattle.dp_reach.specs.Standard.{standard_duties};
 
 use dp_app::AppTable;
 
-/// In a world of which each channel is in a closed reach, and in which calls come in into that reach alone, a channel that is in
-/// a smaller closed reach runs none but the entries that are answered for that, in any list of events without another dialplan.
-/// So it is over every table whose rows keep the laws and stay inside where what they owe is met. It does nothing.
+/// In a world in which each channel is in a closed reach and calls come in within that reach only, a channel that is in a smaller closed
+/// reach runs only the entries in the answer for that reach, in any list of events without another dialplan. This holds over every table
+/// whose rows keep the laws and stay inside if their duties are met. This function does nothing.
 pub fn runs<T: AppTable>()
     ensures { (duties : List ℕ → Duties) (wide : Claim) (others : EntryId → Bool) (reach : List Area) (answers : EntryId → Bool)
         (world : World) (events : List Event) (channel : ℕ)
@@ -29,13 +29,13 @@ pub fn runs<T: AppTable>()
         → RunsWithin T.rows answers channel world events }
 {}
 
-/// Each row of this program's table stays inside where what it owes is met. It does nothing.
+/// Each row of this program's table stays inside if its duties are met. This function does nothing.
 pub fn standard()
     ensures { AreBounded standard_duties standard_rows }
 {}
 
-/// An entry that is found at a place of an area may be found from the area, and what is known of its match is true of the place. It
-/// does nothing.
+/// An entry that is found at a place of an area may be found from the area, and what is known of its match is true of the place. This
+/// function does nothing.
 pub fn finding()
     ensures found { (plan : PlanOf) (area : Area) (place : Place) (found : Located) → IsIn area place → entry_found plan place ≡ Some found
         → MayFind plan area found.id found.entry }
@@ -43,8 +43,8 @@ pub fn finding()
         → IsIn (area_matched area found.entry.name) place }
 {}
 
-/// A closed audit is right of every run from the beginning: a call that comes in at the context runs none but the entries that are
-/// answered. It does nothing.
+/// A closed audit is right about every run from the start: a call that comes in at the context runs only the entries in the answer. This
+/// function does nothing.
 pub fn audit<T: AppTable>()
     ensures { (duties : List ℕ → Duties) (outside : Outside) (context : List ℕ) (claim : Claim) (others : EntryId → Bool) (reach : List Area)
         (answers : EntryId → Bool) → AreBounded duties T.rows → IsAudit duties outside context claim others reach answers

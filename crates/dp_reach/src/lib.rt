@@ -1,4 +1,4 @@
-//! Which entries of a dialplan a call can ever run: areas of places, what each application owes, and the law of every run.
+//! Which entries of a dialplan a phone call can ever run: areas of places, the duties of each application, and the law of every run.
 #![tactic(auto)]
 
 pub mod laws;

@@ -18,31 +18,31 @@ use std::test::Fail;
 
 /// Pieces cut at a byte and into arguments, trimmed, and without their first bytes.
 #[test]
-fn pieces_are_cut(rt: HostRuntime) -> Result<(), Fail> {
+fn pieces_are_cut_and_trimmed(rt: HostRuntime) -> Result<(), Fail> {
     check::<Cuts>(rt.alloc(), CUTS)
 }
 
 /// Shapes and the names of extensions that their texts may match, and shapes within others.
 #[test]
-fn shapes_meet_names(rt: HostRuntime) -> Result<(), Fail> {
+fn shapes_match_extension_names(rt: HostRuntime) -> Result<(), Fail> {
     check::<Shapes>(rt.alloc(), SHAPES)
 }
 
 /// Which bytes the values of names may have, by a table.
 #[test]
-fn names_have_bytes(rt: HostRuntime) -> Result<(), Fail> {
+fn bytes_that_values_may_have(rt: HostRuntime) -> Result<(), Fail> {
     check::<Names>(rt.alloc(), NAMES)
 }
 
 /// Texts read as pieces, by what is known of names.
 #[test]
-fn texts_are_read(rt: HostRuntime) -> Result<(), Fail> {
+fn texts_are_read_as_pieces(rt: HostRuntime) -> Result<(), Fail> {
     check::<Texts>(rt.alloc(), TEXTS)
 }
 
 /// What each application owes by the pieces of its arguments, which places a reach has, and what is found.
 #[test]
-fn duties_are_these(rt: HostRuntime) -> Result<(), Fail> {
+fn duties_reached_places_and_findings(rt: HostRuntime) -> Result<(), Fail> {
     check::<Duties>(rt.alloc(), DUTIES)?;
     check::<Reached>(rt.alloc(), REACHED)?;
     check::<Found>(rt.alloc(), FOUND)?;
@@ -51,6 +51,6 @@ fn duties_are_these(rt: HostRuntime) -> Result<(), Fail> {
 
 /// Which entries a call may run, or whether it may reach a context.
 #[test]
-fn answers_are_these(rt: HostRuntime) -> Result<(), Fail> {
+fn entries_and_contexts_that_a_call_may_reach(rt: HostRuntime) -> Result<(), Fail> {
     check::<Answers>(rt.alloc(), ANSWERS)
 }

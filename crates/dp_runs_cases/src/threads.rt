@@ -128,7 +128,7 @@ fn check_row<R: Threads + Wait + Sync>(
 
 /// Runs of scripts in threads.
 #[test]
-fn scripts_run_in_threads_so(rt: HostRuntime) -> Result<(), Fail> {
+fn scripts_run_in_threads(rt: HostRuntime) -> Result<(), Fail> {
     for line in ROWS.lines() {
         match line.split_once('→') {
             Some((asked, want)) => check_row(&rt, rt.alloc(), asked, want)?,
@@ -215,7 +215,7 @@ fn check_gate<R: Threads + Wait + Abort + Sync>(
 
 /// The gate is called round each event, with the turns of its seat, and the seats act at once.
 #[test]
-fn gates_are_called_so(rt: HostRuntime) -> Result<(), Fail> {
+fn gates_are_called_around_each_event(rt: HostRuntime) -> Result<(), Fail> {
     for line in GATED.lines() {
         match line.split_once('→') {
             Some((asked, want)) => check_gate(&rt, rt.alloc(), asked, want)?,

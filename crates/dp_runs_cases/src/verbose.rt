@@ -119,12 +119,12 @@ impl Question for Debugged {
 
 /// Verbose runs of scripts.
 #[test]
-fn runs_are_verbose_so(rt: HostRuntime) -> Result<(), Fail> {
+fn verbose_runs_print_their_steps(rt: HostRuntime) -> Result<(), Fail> {
     check_all::<Run>(rt.alloc(), &[RUNS])
 }
 
 /// Verbose debugged runs of scripts.
 #[test]
-fn debugged_runs_are_verbose_so(rt: HostRuntime) -> Result<(), Fail> {
+fn verbose_debugged_runs_print_their_steps(rt: HostRuntime) -> Result<(), Fail> {
     check_all::<Debugged>(rt.alloc(), &[DEBUGS])
 }

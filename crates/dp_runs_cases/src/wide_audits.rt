@@ -159,7 +159,7 @@ impl Question for KindsOf {
 
 /// Audits tell what they are asked for.
 #[test]
-fn audits_tell_kinds(rt: HostRuntime) -> Result<(), Fail> {
+fn audits_report_the_kinds_that_are_asked_for(rt: HostRuntime) -> Result<(), Fail> {
     check_all::<WideAudit>(rt.alloc(), &[WIDE])?;
     check_all::<PlainAudit>(rt.alloc(), &[PLAIN])?;
     check_all::<AuditWithout>(rt.alloc(), &[WITHOUT])?;

@@ -48,6 +48,6 @@ impl Question for VerboseRun {
 
 /// Runs that stop before what is unknown are verbose like others.
 #[test]
-fn wide_runs_are_verbose_so(rt: HostRuntime) -> Result<(), Fail> {
+fn verbose_wide_runs_print_their_steps(rt: HostRuntime) -> Result<(), Fail> {
     check_all::<VerboseRun>(rt.alloc(), &[RUNS])
 }

@@ -1,7 +1,7 @@
--- How many nodes a walk enters for a question. The tree of a context has the patterns of its entries, in the order in which a
--- look-up asks them. A pattern has a node for each of its classes, one below another, and one for its end; what it shares
--- with the pattern above it stands once. A node is entered where the classes down to it take the digits, and none after the
--- one that answers.
+-- The number of nodes that a walk enters for a question. The tree of a context has the patterns of its entries, in the order in which a
+-- look-up tries them. A pattern has one node for each of its classes, each below the one before, and one for its end; nodes that it shares
+-- with the pattern above it exist once. A walk enters a node if the classes down to it take the digits, and it enters no node after the one
+-- that answers.
 use Rattle.std.specs.Prelude.{◌≡◌, ℕ, suc, ◌+◌, Bool, List, [], ◌∷◌, ◌++◌, take, drop, count_by, is_some, if◌then◌else◌}
 use Rattle.std.specs.List.{find}
 use Rattle.std.specs.Ordering.{is_eq}
@@ -13,7 +13,7 @@ use Rattle.dp_trie.specs.Tree.{own, path_after, known_from, alive}
 use Rattle.dp_trie.specs.declared.node.HeldEntry.{HeldEntry}
 use Rattle.dp_trie.specs.declared.node.Node.{Node}
 
--- a node, as the classes that lead down to it, with its own
+-- a node, as the classes that lead down to it, including its own
 abbrev pub Down : Type 0
 Down = List (List ℕ)
 
@@ -22,13 +22,13 @@ abbrev pub pattern_classes : Meaning → List (List ℕ)
 pattern_classes (Plain text) = []
 pattern_classes (Pattern classes tail) = classes
 
--- how many classes two patterns share at their beginnings
+-- the number of classes that two patterns share at their start
 abbrev pub shared_count : List (List ℕ) → List (List ℕ) → ℕ
 shared_count [] right = 0
 shared_count (a ∷ left) [] = 0
 shared_count (a ∷ left) (b ∷ right) = if is_eq (class_cmp a b) then suc (shared_count left right) else 0
 
--- the nodes below some node: one for each of these classes, and one for the end of the pattern
+-- the nodes below a node: one for each of these classes, and one for the end of the pattern
 abbrev pub nodes_below : Down → List (List ℕ) → List Down
 nodes_below down [] = down ∷ []
 nodes_below down (class ∷ classes) = (down ++ class ∷ []) ∷ nodes_below (down ++ class ∷ []) classes
@@ -37,28 +37,28 @@ nodes_below down (class ∷ classes) = (down ++ class ∷ []) ∷ nodes_below (d
 abbrev pub nodes_after : ℕ → List (List ℕ) → List Down
 nodes_after shared classes = nodes_below (take shared classes) (drop shared classes)
 
--- the nodes that the name of an entry adds to those of the name above it; entries of one name have one end
+-- the nodes that the name of an entry adds to those of the name above it; entries with the same name share an end
 abbrev pub nodes_added : Meaning → Meaning → List Down
 nodes_added above (Plain text) = []
 nodes_added above (Pattern classes tail) =
     if is_eq (name_cmp above (Pattern classes tail)) then [] else nodes_after (shared_count (pattern_classes above) classes) classes
 
--- how many of the nodes a walk enters
+-- the number of these nodes that a walk enters
 abbrev pub taken_count : Bool → List ℕ → List Down → ℕ
 taken_count more digits nodes = count_by (λ down. alive more down digits) nodes
 
--- the same of the nodes of the entries after a name, up to the first entry that is asked for
+-- the number of nodes that a walk enters for the entries after a name, up to the first entry that the question asks for
 abbrev pub entered_after : Bool → Wanted → List ℕ → Meaning → List Known → ℕ
 entered_after more wanted digits above [] = 0
 entered_after more wanted digits above (known ∷ entries) =
     taken_count more digits (nodes_added above known.name)
     + (if is_asked more wanted digits known then 0 else entered_after more wanted digits known.name entries)
 
--- how many nodes of the tree of a context are entered: above its first name stands no pattern
+-- the number of nodes that a walk enters in the tree of a context; there is no pattern above its first name
 abbrev pub entered_count : Bool → Wanted → List ℕ → List Known → ℕ
 entered_count more wanted digits entries = entered_after more wanted digits (Plain []) entries
 
--- in the contexts of these numbers in turn, up to the first that has an entry that is asked for
+-- the number of nodes that a walk enters in these contexts in turn, up to the first with an entry that the question asks for
 abbrev pub entered_first : List KeptContext → Bool → Wanted → List ℕ → List ℕ → ℕ
 entered_first kept more wanted digits [] = 0
 entered_first kept more wanted digits (number ∷ order) =
@@ -67,11 +67,11 @@ entered_first kept more wanted digits (number ∷ order) =
 
 -- ---- a tree
 
--- one more where this holds
+-- one more if the condition holds
 abbrev pub one_more : Bool → ℕ → ℕ
 one_more holds count = if holds then suc count else count
 
--- how many nodes of a tree are entered from some place on, where these classes stand after the node before
+-- the number of nodes that a walk enters in a tree from a place on, given the classes after the node before it
 abbrev pub tree_entered : List HeldEntry → Bool → Wanted → List ℕ → Down → List Node → ℕ
 tree_entered held more wanted digits path [] = 0
 tree_entered held more wanted digits path (node ∷ nodes) =
@@ -79,7 +79,7 @@ tree_entered held more wanted digits path (node ∷ nodes) =
     (if is_some (find (is_asked more wanted digits) (own held (take node.depth path) node.step)) then 0
     else tree_entered held more wanted digits (path_after path node) nodes)
 
--- the tree has the nodes of its entries, each once
+-- the tree has the nodes of its entries, each of them once
 pub record StandOnce (held : List HeldEntry) (nodes : List Node) : Type 0 where
   pub each : (more : Bool) (wanted : Wanted) (digits : List ℕ)
       → tree_entered held more wanted digits [] nodes ≡ entered_count more wanted digits (known_from held [] nodes)

@@ -1,4 +1,4 @@
--- What a trie keeps of the entries of a dialplan: all that a look-up reads beside its search order.
+-- The data that a trie keeps of a dialplan's entries: everything that a look-up reads besides its search order.
 use Rattle.std.specs.Prelude.{◌≡◌, ℕ, ◌+◌, ◌≤◌, Bool, List, [], ◌∷◌, Option, None, Some, length, map, slice_get, sum_by, find}
 use Rattle.std.specs.List.{AllByRecursion}
 use Rattle.std.specs.Option.{option_map, option_map_or, option_or}
@@ -8,63 +8,63 @@ use Rattle.dp_plan.specs.Plan.{PlanOf}
 use Rattle.dp_plan.specs.declared.entry.Entry.{Entry}
 use Rattle.dp_plan.specs.declared.entry.EntryId.{EntryId}
 
--- an entry: what its name means, its priority, its label, and which entry of the dialplan it is
+-- an entry: the meaning of its name, its priority, its label, and its numbers in the dialplan
 pub record Known : Type 0 where
   pub name : Meaning
   pub priority : ℕ
   pub label : Option (List ℕ)
   pub id : EntryId
 
--- what is kept of a context: its entries in the order in which a look-up asks them, and how many nodes its tree has
+-- the data kept of a context: its entries in the order in which a look-up tries them, and the number of nodes of its tree
 pub record KeptContext : Type 0 where
   pub entries : List Known
   pub size : ℕ
 
--- what is kept of an entry
+-- the data kept of an entry
 abbrev pub known_of : EntryId → Entry → Known
 known_of id entry = record { name = entry.name; priority = entry.priority; label = entry.label; id = id }
 
--- what is kept of the entry of these numbers
+-- the data kept of the entry with these numbers
 abbrev pub known_at : PlanOf → EntryId → Option Known
 known_at plan id = option_map (known_of id) (entry_at plan id)
 
--- the entries of the context of a number, ranked
+-- the entries of the context with a number, ranked
 pub record KeepsEntries (plan : PlanOf) (number : ℕ) (entries : List Known) : Type 0 where
   pub ranked : IsRankedAt plan number (map (λ known. known.id) entries)
   pub each : AllByRecursion (λ known. known_at plan known.id ≡ Some known) entries
 
--- what a look-up reads of the dialplan
+-- the data that a look-up reads of the dialplan
 pub record Keeps (plan : PlanOf) (kept : List KeptContext) : Type 0 where
   pub count : length kept ≡ length plan.contexts
   pub each : (number : ℕ) (context : KeptContext) → slice_get kept number ≡ Some context → KeepsEntries plan number context.entries
 
--- how many classes a pattern has; a plain name has none
+-- the number of classes of a pattern; a plain name has none
 abbrev pub class_count : Meaning → ℕ
 class_count (Plain text) = 0
 class_count (Pattern classes tail) = length classes
 
--- how many nodes an entry may add to a tree
+-- the greatest number of nodes that an entry can add to a tree
 abbrev pub most_added : Meaning → ℕ
 most_added (Plain text) = 0
 most_added (Pattern classes tail) = length classes + 1
 
--- how many nodes a tree of these entries may have
+-- the greatest number of nodes that a tree of these entries can have
 abbrev pub most_nodes : List Known → ℕ
 most_nodes entries = 1 + sum_by (λ known. most_added known.name) entries
 
--- how many nodes the tree of the context of a number has, none where there is no such context
+-- the number of nodes of the tree of the context with a number; 0 if there is no such context
 abbrev pub nodes_at : List KeptContext → ℕ → ℕ
 nodes_at kept number = option_map_or (λ context. context.size) (slice_get kept number) 0
 
--- the entries of the context of a number, none where there is no such context
+-- the entries of the context with a number; none if there is no such context
 abbrev pub kept_at : List KeptContext → ℕ → List Known
 kept_at kept number = option_map_or (λ context. context.entries) (slice_get kept number) []
 
--- the first entry that passes, in the first of the contexts of these numbers that has such an entry
+-- the first entry that passes, in the first of the contexts with these numbers that has such an entry
 abbrev pub found_first : List KeptContext → (Known → Bool) → List ℕ → Option Known
 found_first kept test [] = None
 found_first kept test (number ∷ order) = option_or (find test (kept_at kept number)) (found_first kept test order)
 
--- the pattern that is found, where one is, has at most so many classes
+-- a pattern that is found has at most so many classes
 abbrev pub FindsPattern : PlanOf → Option EntryId → ℕ → Type 0
 FindsPattern plan found count = (id : EntryId) (entry : Entry) → found ≡ Some id → entry_at plan id ≡ Some entry → class_count entry.name ≤ count

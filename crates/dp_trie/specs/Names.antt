@@ -22,11 +22,11 @@ abbrev pub known_plain : List HeldEntry → List PlainName → List Known
 known_plain held [] = []
 known_plain held (plain ∷ names) = own_plain held plain ++ known_plain held names
 
--- each name has entries among so many
+-- the range of each name lies within so many entries
 abbrev pub ArePlainRanges : ℕ → List PlainName → Type 0
 ArePlainRanges count names = AllByRecursion (λ plain. (plain.from < plain.until) × (plain.until ≤ count)) names
 
--- those of each name are in the order of their priorities
+-- the entries of each name are in the order of their priorities
 abbrev pub RiseEach : List HeldEntry → List PlainName → Type 0
 RiseEach held names = AllByRecursion (λ plain. Rise (slice_range held plain.from plain.until)) names
 
@@ -36,24 +36,24 @@ NamesRise [] = Unit {0}
 NamesRise (plain ∷ names) =
     AllByRecursion (λ later. slice_cmp nat_cmp plain.name later.name ≡ Greater → ⊥) names × NamesRise names
 
--- where a plain name stands to digits, by the first byte that differs
+-- on which side of the digits a plain name is, decided by the first byte that differs
 abbrev pub side_of : List ℕ → List ℕ → Side
 side_of [] [] = Same
 side_of [] (d ∷ digits) = Before
 side_of (b ∷ name) [] = Longer
 side_of (b ∷ name) (d ∷ digits) = elim (nat_cmp b d) [ Less ↦ Before | Equal ↦ side_of name digits | Greater ↦ After ]
 
--- the sides in the order in which names stand there
+-- the sides, numbered in the order of the names
 abbrev pub rank : Side → ℕ
 rank Before = 0
 rank Same = 1
 rank Longer = 2
 rank After = 3
 
--- the side of the names that are asked for: those that go on, or else the one that matches
+-- the side of the names that a question asks for: those that go on, or else the one that matches
 abbrev pub fitting : Bool → Side
 fitting more = if more then Longer else Same
 
--- how far up a name stands
+-- the rank of a name
 abbrev pub rank_of : List ℕ → PlainName → ℕ
 rank_of digits plain = rank (side_of plain.name digits)

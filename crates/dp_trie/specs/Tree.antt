@@ -1,4 +1,4 @@
--- A tree of patterns: the entries that its nodes stand for, and what a walk does at a node.
+-- A tree of patterns: the entries that its nodes represent, and the actions of a walk at a node.
 use Rattle.std.specs.Prelude.{◌≡◌, ℕ, suc, ◌+◌, ◌<◌, ◌≤◌, Bool, true, false, not, nat_lt, List, [], ◌∷◌, ◌++◌, length, take, drop, map, slice_get, slice_index, slice_range, Option, None, Some, if◌then◌else◌}
 use Rattle.std.specs.List.{find}
 use Rattle.std.specs.Option.{option_map_or}
@@ -16,7 +16,7 @@ use Rattle.dp_trie.specs.declared.node.Step.TheVariants.{Class, Leaf}
 use Rattle.dp_trie.specs.declared.walk.Visit.{Visit}
 use Rattle.dp_trie.specs.declared.walk.Visit.TheVariants.{Enters, Fails, Holds}
 
--- what is held of an entry, with its name
+-- the data held of an entry, with its name
 abbrev pub known_held : Meaning → HeldEntry → Known
 known_held name held = record { name = name; priority = held.priority; label = held.label; id = held.id }
 
@@ -25,43 +25,43 @@ abbrev pub own : List HeldEntry → List (List ℕ) → Step → List Known
 own held path (Class class) = []
 own held path (Leaf leaf) = map (known_held (Pattern path leaf.tail)) (slice_range held leaf.from leaf.until)
 
--- the classes after a node that stands below these classes
+-- the path after a node that is below these classes
 abbrev pub path_below : List (List ℕ) → Step → List (List ℕ)
 path_below path (Class class) = path ++ class ∷ []
 path_below path (Leaf leaf) = path
 
--- the classes after a node, of which those above it are the first
+-- the path after a node, which starts with the classes above the node
 abbrev pub path_after : List (List ℕ) → Node → List (List ℕ)
 path_after path node = path_below (take node.depth path) node.step
 
--- the entries of the nodes from some place on, where these classes stand after the node before
+-- the entries of the nodes from a place on, given the classes after the node before it
 abbrev pub known_from : List HeldEntry → List (List ℕ) → List Node → List Known
 known_from held path [] = []
 known_from held path (node ∷ nodes) = own held (take node.depth path) node.step ++ known_from held (path_after path node) nodes
 
--- the classes after the last of the nodes
+-- the path after the last node
 abbrev pub path_end : List (List ℕ) → List Node → List (List ℕ)
 path_end path [] = path
 path_end path (node ∷ nodes) = path_end (path_after path node) nodes
 
 -- ---- the form of a tree
 
--- the nodes from the first on that is no deeper
+-- the nodes from the first one that is no deeper
 abbrev pub nodes_past : ℕ → List Node → List Node
 nodes_past depth [] = []
 nodes_past depth (node ∷ nodes) = if nat_lt depth node.depth then nodes_past depth nodes else node ∷ nodes
 
--- how many classes stand after a node of some depth
+-- the number of classes after a node at a depth
 abbrev pub depth_below : ℕ → Step → ℕ
 depth_below depth (Class class) = suc depth
 depth_below depth (Leaf leaf) = depth
 
--- each node is at most as deep as there are classes after the node before
+-- each node is at most as deep as the number of classes after the node before it
 abbrev pub IsRooted : ℕ → List Node → Type 0
 IsRooted depth [] = Unit {0}
 IsRooted depth (node ∷ nodes) = (node.depth ≤ depth) × IsRooted (depth_below node.depth node.step) nodes
 
--- the place after all that stands below a node of some depth
+-- the place after everything below a node at a depth
 pub record IsEnd (nodes : List Node) (place depth end : ℕ) : Type 0 where
   pub later : place < end
   pub within : end ≤ length nodes
@@ -71,45 +71,45 @@ pub record IsEnd (nodes : List Node) (place depth end : ℕ) : Type 0 where
 abbrev pub IsEndOf : List Node → ℕ → ℕ → Type 0
 IsEndOf nodes place end = (node : Node) → slice_get nodes place ≡ Some node → IsEnd nodes place node.depth end
 
--- beside each node from some place on stands its end
+-- each node from a place on has its end next to it
 pub record AreLinkedFrom (first : ℕ) (nodes : List Node) (ends : List ℕ) : Type 0 where
   pub count : length ends ≡ length nodes
   pub each : (place : ℕ) → first ≤ place → IsEndOf nodes place (slice_index ends place)
 
--- beside each node stands its end
+-- each node has its end next to it
 pub record AreLinked (nodes : List Node) (ends : List ℕ) : Type 0 where
   pub count : length ends ≡ length nodes
   pub each : (place : ℕ) → IsEndOf nodes place (slice_index ends place)
 
--- a leaf has entries among so many
+-- the range of a leaf lies within so many entries
 abbrev pub IsRange : ℕ → Step → Type 0
 IsRange count (Class class) = Unit {0}
 IsRange count (Leaf leaf) = (leaf.from ≤ leaf.until) × (leaf.until ≤ count)
 
--- each leaf has
+-- the range of each leaf lies within so many entries
 abbrev pub AreRanges : ℕ → List Node → Type 0
 AreRanges count nodes = (place : ℕ) (node : Node) → slice_get nodes place ≡ Some node → IsRange count node.step
 
--- what a leaf has is in the order of the priorities
+-- the entries of a leaf are in the order of their priorities
 abbrev pub Rises : List HeldEntry → Step → Type 0
 Rises held (Class class) = Unit {0}
 Rises held (Leaf leaf) = Rise (slice_range held leaf.from leaf.until)
 
--- the nodes are a tree over what is held
+-- the nodes are a tree over the held entries
 pub record IsTree (held : List HeldEntry) (nodes : List Node) (ends : List ℕ) : Type 0 where
   pub linked : AreLinked nodes ends
   pub rooted : IsRooted 0 nodes
   pub ranges : AreRanges (length held) nodes
   pub rise : (place : ℕ) (node : Node) → slice_get nodes place ≡ Some node → Rises held node.step
 
--- ---- the nodes of one pattern more
+-- ---- the nodes of one more pattern
 
--- the nodes of these classes, from a depth on, and the leaf below them
+-- the nodes of these classes, starting at a depth, and the leaf below them
 abbrev pub pattern_nodes : ℕ → List (List ℕ) → leaves.Leaf → List Node
 pattern_nodes depth [] leaf = (record { depth = depth; step = Leaf leaf }) ∷ []
 pattern_nodes depth (class ∷ classes) leaf = (record { depth = depth; step = Class class }) ∷ pattern_nodes (suc depth) classes leaf
 
--- the nodes of classes stand after others, from a place of the pattern up to a depth
+-- the nodes of a pattern's classes follow other nodes, from a place in the pattern up to a depth
 pub record Reaches (old new : List Node) (classes : List (List ℕ)) (from depth : ℕ) : Type 0 where
   pub known : (held : List HeldEntry) → known_from held [] new ≡ known_from held [] old
   pub path : take depth (path_end [] new) ≡ take depth classes
@@ -119,7 +119,7 @@ pub record Reaches (old new : List Node) (classes : List (List ℕ)) (from depth
   pub size : length new + from ≡ length old + depth
   pub nodes : (leaf : leaves.Leaf) → new ++ pattern_nodes depth (drop depth classes) leaf ≡ old ++ pattern_nodes from (drop from classes) leaf
 
--- the nodes of a pattern and its leaf stand after others
+-- the nodes of a pattern and its leaf follow other nodes
 pub record Pushes (old new : List Node) (classes : List (List ℕ)) (leaf : leaves.Leaf) : Type 0 where
   pub known : (held : List HeldEntry) → known_from held [] new ≡ known_from held [] old ++ own held classes (Leaf leaf)
   pub path : path_end [] new ≡ classes
@@ -129,21 +129,21 @@ pub record Pushes (old new : List Node) (classes : List (List ℕ)) (leaf : leav
 
 -- ---- a step of a walk
 
--- whether the class takes the digit of a number; where the digits have ended, names that go on are still below
+-- whether the class takes the digit of a number; after the last digit, names that go on are still below
 abbrev pub takes : Bool → List ℕ → List ℕ → ℕ → Bool
 takes more digits class number = option_map_or (is_one_of class) (slice_get digits number) more
 
--- whether a walk may still come to something below
+-- whether a walk can still reach something below
 abbrev pub is_alive : Bool → Walked → Bool
 is_alive more Refused = false
 is_alive more Short = more
 is_alive more (After digits) = true
 
--- whether the classes of a path take the digits, up to their end where names that go on are asked for
+-- whether the classes of a path take the digits, up to their end if the question asks for names that go on
 abbrev pub alive : Bool → List (List ℕ) → List ℕ → Bool
 alive more path digits = is_alive more (walk_after path digits)
 
--- whether the tail allows what is left after so many of so many digits, for a match or for going on
+-- whether the tail allows the digits that are left after so many of them, for a match or for going on
 abbrev pub allows : Bool → Tail → ℕ → ℕ → Bool
 allows false End number count = not (nat_lt number count)
 allows false Dot number count = nat_lt number count
@@ -156,7 +156,7 @@ abbrev pub hold_or_pass : Option HeldEntry → Visit
 hold_or_pass None = Enters
 hold_or_pass (Some held) = Holds (hit_held held)
 
--- what a walk does at a node
+-- the action of a walk at a node
 abbrev pub step_visit : List HeldEntry → Bool → Wanted → List ℕ → ℕ → Step → Visit
 step_visit held more wanted digits depth (Class class) = if takes more digits class depth then Enters else Fails
 step_visit held more wanted digits depth (Leaf leaf) =

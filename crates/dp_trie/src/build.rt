@@ -19,7 +19,7 @@ fn is_same(left: &Class, right: &Class) -> bool
     compare_classes(left, right).is_eq()
 }
 
-/// How many classes two patterns share at their beginnings.
+/// The number of classes that two patterns share at their start.
 fn count_shared(left: &[Class], right: &[Class]) -> usize
     ensures left { result ≤ length left.now }
     ensures right { result ≤ length right.now }
@@ -48,7 +48,7 @@ fn push_class(nodes: &mut Vec<Node>, depth: usize, class: &Class) -> Result<(), 
     Ok(())
 }
 
-/// Adds the nodes of the classes from a place on.
+/// Adds the nodes of the classes, from a place on.
 fn push_classes(nodes: &mut Vec<Node>, classes: &[Class], from: usize) -> Result<(), NoMemory>
     requires within { from ≤ length classes.now }
     requires above { take from (path_end [] nodes.old.items) ≡ take from classes.now }
@@ -61,7 +61,7 @@ fn push_classes(nodes: &mut Vec<Node>, classes: &[Class], from: usize) -> Result
     Ok(())
 }
 
-/// Adds the nodes of a pattern that it does not share with the one above it.
+/// Adds the nodes of a pattern that it does not share with the pattern above it.
 fn push_pattern(
     nodes: &mut Vec<Node>,
     above: &[Class],

@@ -1,4 +1,4 @@
-//! What is kept of one context: its plain names, the tree of its patterns, and the table of its labels.
+//! The data kept of one context: its plain names, the tree of its patterns, and the table of its labels.
 ghost use Rattle.std.specs.Prelude.{◌≡◌, ◌≤◌, [], ◌++◌, false, length, map, take, drop, find, MatchOption, IsTrue, IsFalse, IfOk};
 ghost use Rattle.std.specs.List.{AllByRecursion};
 ghost use Rattle.std.specs.Option.{option_map};
@@ -27,8 +27,8 @@ use dp_pattern::{Name, Parts};
 use std::alloc::Global;
 use std::marker::Model;
 
-/// What is kept of a context. A contract sees it as its entries in the order in which a look-up asks them, and the number
-/// of the nodes of its tree.
+/// The data kept of a context. A contract sees it as its entries in the order in which a look-up tries them, and the number of nodes of its
+/// tree.
 #[derive(Drop)]
 pub(crate) struct ContextTable {
     names: Vec<PlainName>,
@@ -80,7 +80,7 @@ fn is_plain(name: &Name) -> bool
     }
 }
 
-/// How many of the entries have plain names, which stand first.
+/// The number of entries with plain names, which come first.
 fn count_plain(ranked: &[Ranked<'_>]) -> usize
     requires { ArePlainFirst (map known_now ranked.now) }
     ensures within { result ≤ length ranked.now }
@@ -97,7 +97,7 @@ fn count_plain(ranked: &[Ranked<'_>]) -> usize
     count
 }
 
-/// What is kept of the entries in their order.
+/// The data kept of the entries in their order.
 fn build_table(alloc: Global, ranked: &[Ranked<'_>]) -> Result<ContextTable, NoMemory>
     requires plain_first { ArePlainFirst (map known_now ranked.now) }
     requires order { AreInOrder (map known_now ranked.now) }
@@ -122,7 +122,7 @@ fn build_table(alloc: Global, ranked: &[Ranked<'_>]) -> Result<ContextTable, NoM
     })
 }
 
-/// The first entry that the question asks for: among the plain names, and then in the tree.
+/// The first entry that the question asks for: first among the plain names, then in the tree.
 fn find_in_parts(
     names: &[PlainName],
     plain: &[HeldEntry],
@@ -168,7 +168,7 @@ fn find_in_parts(
 }
 
 impl ContextTable {
-    /// What is kept of the context of a number.
+    /// The data kept of the context with a number.
     pub(crate) fn build(alloc: Global, plan: &Dialplan, number: usize) -> Result<Self, NoMemory>
         ensures { IfOk result (λ table. KeepsEntries plan.now number table.entries) }
     {
@@ -177,7 +177,7 @@ impl ContextTable {
         Ok(table)
     }
 
-    /// How many nodes the tree has.
+    /// The number of nodes of the tree.
     pub(crate) fn nodes(&self) -> usize
         ensures value { result ≡ self.now.size }
         ensures most { result ≤ most_nodes self.now.entries }
@@ -185,7 +185,7 @@ impl ContextTable {
         self.nodes.len()
     }
 
-    /// The first entry that the question asks for, and how many nodes were entered.
+    /// The first entry that the question asks for, and the number of nodes that were entered.
     pub(crate) fn find(&self, question: EntryQuestion, digits: &Digits<'_>) -> Counted
         ensures hit { result.hit ≡ option_map hit_of
             (find (is_asked (is_more question) (wants question) (without_dashes digits.now.text.now)) self.now.entries) }

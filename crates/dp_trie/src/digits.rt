@@ -4,28 +4,28 @@ ghost use Rattle.std.specs.Option.{ForSome};
 ghost use Rattle.dp_pattern.specs.Dashes.{without_dashes};
 ghost use Rattle.dp_trie.specs.steps.Digits.{Stands, IsClear, AreNear};
 
-/// A place in a text, and how many of its digits stand before it.
+/// A place in a text, and the number of its digits before it.
 #[derive(Clone, Copy)]
 pub(crate) struct Cursor {
     place: usize,
     number: usize,
 }
 
-/// How many of the first digits are kept beside a text that has dashes.
+/// The number of first digits that are kept beside a text with dashes.
 const NEAR: usize = 32;
 
-/// How many of the first bytes of a text are looked at for dashes.
+/// The number of first bytes of a text that are searched for dashes.
 const LOOKED: usize = 64;
 
-/// The first digits of a text, and how many of them there are.
+/// The first digits of a text, and their number.
 #[derive(Clone, Copy)]
 pub(crate) struct FirstDigits {
     bytes: [u8; 32],
     count: usize,
 }
 
-/// The digits of a dialled text, how many of its first bytes are known to be no dashes, and where a walk begins. Where there
-/// are dashes among the first bytes, the first digits stand beside the text.
+/// The digits of a dialled text, the number of its first bytes that are known to be no dashes, and the start of a walk. If there are dashes
+/// among the first bytes, the first digits are kept beside the text.
 #[derive(Clone, Copy)]
 pub(crate) struct Digits<'a> {
     text: &'a [u8],
@@ -37,8 +37,8 @@ pub(crate) struct Digits<'a> {
     ghost begins: { ForSome near (AreNear text.now) },
 }
 
-/// How many of the first bytes are known to be no dashes: none where one of those that are looked at is a dash. However long
-/// the text, few of its bytes are looked at.
+/// The number of first bytes that are known to be no dashes: 0 if one of the bytes that are searched is a dash. Few bytes are searched,
+/// however long the text is.
 fn count_clear(text: &[u8]) -> usize
     ensures { IsClear text.now result }
 {
@@ -65,7 +65,7 @@ fn near_digits(text: &[u8]) -> FirstDigits
     FirstDigits { bytes, count }
 }
 
-/// Goes back until at most so many digits stand before the cursor.
+/// Goes back until at most so many digits are before the cursor.
 fn go_back(text: &[u8], from: Cursor, number: usize) -> Cursor
     requires { Stands text.now from }
     ensures stands { Stands text.now result }
@@ -81,7 +81,7 @@ fn go_back(text: &[u8], from: Cursor, number: usize) -> Cursor
     cursor
 }
 
-/// Goes on to the digit of this number, or to the end of the text where there are no more.
+/// Goes forward to the digit with this number, or to the end of the text if there are no more digits.
 fn go_on(text: &[u8], from: Cursor, number: usize) -> Cursor
     requires stands { Stands text.now from }
     requires most { from.number ≤ number }
@@ -127,7 +127,7 @@ impl<'a> Digits<'a> {
         }
     }
 
-    /// The text, where it is known to have no dash.
+    /// The text, if it is known to have no dashes.
     pub(crate) fn plain(&self) -> Option<&'a [u8]>
         ensures { ForSome result (λ text. text.now ≡ without_dashes self.now.text.now) }
     {
@@ -145,7 +145,7 @@ impl<'a> Digits<'a> {
         self.first
     }
 
-    /// The digit of this number, which is one of the first that stand beside the text.
+    /// The digit with this number, which is one of the first digits that are kept beside the text.
     fn near(&self, near: &FirstDigits, number: usize) -> Option<u8>
         requires number { number < 32 }
         requires near { AreNear self.now.text.now near.now }
@@ -158,7 +158,7 @@ impl<'a> Digits<'a> {
         }
     }
 
-    /// The digit of this number. The cursor goes there.
+    /// The digit with this number. It moves the cursor there.
     fn walk_to(&self, number: usize, cursor: &mut Cursor) -> Option<u8>
         requires { Stands self.now.text.now cursor.old }
         ensures value { result ≡ slice_get (without_dashes self.now.text.now) number }
@@ -168,9 +168,8 @@ impl<'a> Digits<'a> {
         self.text.get(cursor.place).copied()
     }
 
-    /// The digit of this number, counted from 0, or None where there are no more. After the bytes that are known to be no
-    /// dashes, and after the digits that stand beside the text, the cursor goes there, from the digit that was asked for
-    /// before.
+    /// The digit with this number, counted from 0, or None if there are no more. After the bytes that are known to be no dashes, and after
+    /// the digits that are kept beside the text, it moves the cursor there from the digit that was asked for before.
     pub(crate) fn at(&self, number: usize, cursor: &mut Cursor) -> Option<u8>
         requires { Stands self.now.text.now cursor.old }
         ensures value { result ≡ slice_get (without_dashes self.now.text.now) number }
@@ -188,7 +187,7 @@ impl<'a> Digits<'a> {
         }
     }
 
-    /// Whether there is a digit of this number.
+    /// Whether there is a digit with this number.
     pub(crate) fn has(&self, number: usize, cursor: &mut Cursor) -> bool
         requires { Stands self.now.text.now cursor.old }
         ensures value { result ≡ nat_lt number (length (without_dashes self.now.text.now)) }

@@ -1,4 +1,4 @@
-//! What a look-up asks of an entry.
+//! The conditions of a look-up on an entry.
 ghost use Rattle.std.specs.Prelude.{◌≡◌, ◌==◌};
 ghost use Rattle.std.specs.List as lists;
 ghost use Rattle.std.specs.Option.{option_map};
@@ -7,7 +7,7 @@ ghost use Rattle.dp_trie.specs.Asked.{is_more, wants, holds, hit_held, Rise};
 use crate::node::HeldEntry;
 use dp_lookup::EntryId;
 
-/// What an entry is asked for, beside a text.
+/// What an entry is asked for, besides a text.
 #[derive(Clone, Copy)]
 pub(crate) enum EntryQuestion {
     /// That it matches the text and has this priority.
@@ -27,7 +27,7 @@ pub(crate) fn is_more(question: EntryQuestion) -> bool
     }
 }
 
-/// The entry of the priority, by halves.
+/// The entry with the priority, by binary search.
 fn search_priority(held: &[HeldEntry], priority: u32) -> Option<EntryId>
     requires { Rise held.now }
     ensures { result ≡ option_map hit_held (lists.find (λ one. one.priority == priority) held.now) }
@@ -39,7 +39,7 @@ fn search_priority(held: &[HeldEntry], priority: u32) -> Option<EntryId>
     }
 }
 
-/// The entry of the priority. Priorities mostly count from 1, so its place is tried first.
+/// The entry with the priority. Priorities mostly count from 1, so its place there is tried first.
 #[inline(always)]
 fn of_priority(held: &[HeldEntry], priority: u32) -> Option<EntryId>
     requires { Rise held.now }
@@ -52,7 +52,7 @@ fn of_priority(held: &[HeldEntry], priority: u32) -> Option<EntryId>
     }
 }
 
-/// The first of these entries, all of one name, that the question asks for.
+/// The first of these entries, which have the same name, that the question asks for.
 #[inline(always)]
 pub(crate) fn first_wanted(question: EntryQuestion, held: &[HeldEntry]) -> Option<EntryId>
     requires { Rise held.now }

@@ -11,7 +11,7 @@ use crate::trie::Trie;
 use dp_lookup::{Dialplan, EntryId, NoMemory, Text};
 use std::alloc::Global;
 
-/// The tries of a dialplan, and the search orders of the contexts that were asked last. It holds no dialplan, so that one type can own
+/// The tries of a dialplan, and the search orders of the contexts of the last look-ups. It holds no dialplan, so that one type can own
 /// both.
 pub struct Finder {
     trie: Trie,
@@ -25,7 +25,7 @@ impl Drop for Finder {
 }
 
 impl Finder {
-    /// The finder of a dialplan, in which no context was asked yet.
+    /// The finder of a dialplan in which no context has been searched yet.
     pub fn build(alloc: Global, plan: &Dialplan) -> Result<Self, NoMemory>
         ensures { IfOk result (λ finder. IsFinder plan.now finder) }
     {
@@ -41,8 +41,8 @@ impl Finder {
         &self.trie
     }
 
-    /// Makes the look-ups after it those from the context of this name. The dialplan is the one that the finder was built for. It takes
-    /// no memory.
+    /// Makes the following look-ups start from the context with this name. The dialplan must be the one that the finder was built for. It
+    /// needs no memory.
     #[inline(always)]
     pub fn turn_to(&mut self, plan: &Dialplan, context: &Text)
         requires { IsFinder plan.now self.old }
@@ -51,7 +51,7 @@ impl Finder {
         self.orders.turn_to(plan, context);
     }
 
-    /// The numbers of the contexts in which it looks up, in their order.
+    /// The numbers of the contexts in which it looks up, in order.
     #[inline(always)]
     pub fn order(&self) -> &[usize]
         ensures { (plan : PlanOf) → (context : List ℕ) → IsAt plan context self.now → result.now ≡ search_order plan context }
@@ -77,7 +77,7 @@ impl Finder {
         self.trie.find_label_in(self.orders.order(), text, label)
     }
 
-    /// Whether a caller who has dialled the text may go on, as `dp_lookup::could_be_more` says.
+    /// Whether a caller who has dialled the text can dial on, as `dp_lookup::could_be_more` says.
     #[inline(always)]
     pub fn more(&self, text: &[u8]) -> bool
         ensures { (plan : PlanOf) → (context : List ℕ) → IsAt plan context self.now

@@ -12,7 +12,7 @@ use indexmap::Equivalent;
 use std::hash::{Hash, Hasher};
 use std::marker::Model;
 
-/// A label. A contract sees it as its bytes, by which alone it is looked up.
+/// A label. A contract sees it as its bytes, which alone decide a look-up.
 #[derive(Drop)]
 pub(crate) struct LabelKey {
     label: SharedText,

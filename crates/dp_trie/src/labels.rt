@@ -1,4 +1,4 @@
-//! The labels of a context: a table that leads from each label to the names that have it, in the order of names.
+//! The labels of a context: a table from each label to the names that have it, in the order of names.
 ghost use Rattle.std.specs.Prelude.{◌≡◌, ℕ, List, ◌<◌, ◌≤◌, [], ◌∷◌, ◌++◌, length, map, take, drop, find, unwrap_or, if◌then◌else◌, nat_eq, IfOk, OnOk};
 ghost use Rattle.std.specs.Cmp.Lexicographic.{pointwise};
 ghost use Rattle.std.specs.List.{AllByRecursion};
@@ -19,14 +19,14 @@ use indexmap::IndexMap;
 use std::alloc::Global;
 use std::marker::Model;
 
-/// A name that has a label, and the priority that the label stands for there.
+/// A name that has a label, and the priority of the label there.
 #[derive(Drop)]
 pub(crate) struct Holder {
     pub(crate) name: SharedName,
     pub(crate) priority: u32,
 }
 
-/// The names that have one label, of which there is one at least. A contract sees them as a list.
+/// The names that have one label, at least one of them. A contract sees them as a list.
 #[derive(Drop)]
 pub(crate) struct Holders {
     first: Holder,
@@ -48,10 +48,10 @@ pub(crate) struct Labels {
     rows: IndexMap<LabelKey, Holders>,
 }
 
-/// Where the patterns stand among the names of a label, after all plain names.
+/// The rank of the patterns among the names with a label, after all plain names.
 const PATTERN: u8 = 4;
 
-/// How far up a name stands among those of a label.
+/// The rank of a name among those with a label.
 fn name_rank(name: &Name, digits: &Digits<'_>) -> u8
     ensures { result ≡ name_rank (without_dashes digits.now.text.now) name.now }
 {
@@ -61,7 +61,7 @@ fn name_rank(name: &Name, digits: &Digits<'_>) -> u8
     }
 }
 
-/// How many of the holders of a label have names below a rank.
+/// The number of holders of a label whose names are below a rank.
 fn count_below(holders: &[Holder], digits: &Digits<'_>, limit: u8) -> usize
     requires { AreRising holders.now }
     ensures within { result ≤ length holders.now }
@@ -73,7 +73,7 @@ fn count_below(holders: &[Holder], digits: &Digits<'_>, limit: u8) -> usize
     holders.partition_point(|holder| name_rank(holder.name.name(), digits) < limit)
 }
 
-/// The priority of the first holder whose name the digits match, each asked in turn.
+/// The priority of the first holder whose name the digits match, trying each in turn.
 fn first_matched(holders: &[Holder], digits: &Digits<'_>) -> Option<u32>
     ensures { result ≡ option_map (λ holder. holder.priority)
         (find (λ holder. is_matched (without_dashes digits.now.text.now) holder.name) holders.now) }
@@ -86,8 +86,8 @@ fn first_matched(holders: &[Holder], digits: &Digits<'_>) -> Option<u32>
     None
 }
 
-/// The priority of the first holder of a label whose name the digits match. A plain name is found by halves, and after
-/// the plain names each pattern is asked in turn.
+/// The priority of the first holder of a label whose name the digits match. A plain name is found by binary search, and after the plain
+/// names each pattern is tried in turn.
 fn find_among(holders: &[Holder], digits: &Digits<'_>) -> Option<u32>
     requires { AreRising holders.now }
     ensures { result ≡ option_map (λ holder. holder.priority)
@@ -102,7 +102,7 @@ fn find_among(holders: &[Holder], digits: &Digits<'_>) -> Option<u32>
     }
 }
 
-/// The holders that were there, and one more after them.
+/// The earlier holders, and one more after them.
 fn holders_with(before: Option<Holders>, alloc: Global, holder: Holder) -> Result<Holders, NoMemory>
     ensures { IfOk result (λ holders. holders ≡ unwrap_or before [] ++ holder ∷ []) }
 {
@@ -116,7 +116,7 @@ fn holders_with(before: Option<Holders>, alloc: Global, holder: Holder) -> Resul
 }
 
 impl Holders {
-    /// These, and one more after them.
+    /// These holders, and one more after them.
     fn with(self, holder: Holder) -> Result<Self, NoMemory>
         ensures { IfOk result (λ holders. holders ≡ self ++ holder ∷ []) }
     {
@@ -125,7 +125,7 @@ impl Holders {
         Ok(holders)
     }
 
-    /// The priority of the first of them whose name the digits match.
+    /// The priority of the first of these holders whose name the digits match.
     #[tactic(auto, using(crate::proofs::LabelLemmas::rise_rest))]
     fn find(&self, digits: &Digits<'_>) -> Option<u32>
         requires { AreRising self.now }
@@ -157,7 +157,7 @@ impl Labels {
         Ok(())
     }
 
-    /// Adds an entry as a holder of its label, where it has one.
+    /// Adds an entry as a holder of its label, if it has one.
     fn add_entry(&mut self, alloc: Global, one: Ranked<'_>) -> Result<(), NoMemory>
         ensures { OnOk result (Adds self.old self.new (known_now one.entry)) }
     {
@@ -185,7 +185,7 @@ impl Labels {
         Ok(labels)
     }
 
-    /// The priority that the label stands for in the first name that has it and that the digits match.
+    /// The priority of the label in the first name that has it and that the digits match.
     pub(crate) fn find(&self, label: &[u8], digits: &Digits<'_>) -> Option<u32>
         requires { AreRising (held_of self.now label.now) }
         ensures { result ≡ option_map (λ holder. holder.priority)

@@ -1,4 +1,4 @@
-//! Leaps over the roots of a tree: over many classes at once, where none of them has the first digit.
+//! Leaps over the roots of a tree: each passes many classes at once if none of them has the first digit.
 ghost use Rattle.std.specs.Prelude.{◌≡◌, ℕ, ◌≤◌, false, slice_get, Some, IfOk, IfSome};
 ghost use Rattle.dp_trie.specs.steps.Leaps.{IsOutside, IsLeap, AreLeaps, Leads};
 ghost use Rattle.dp_trie.specs.Tree.{AreLinked};
@@ -8,11 +8,10 @@ use dp_lookup::NoMemory;
 use dp_pattern::Class;
 use std::alloc::Global;
 
-/// How many classes a leap passes at most.
+/// The greatest number of classes that a leap passes.
 const MOST_PASSED: usize = 64;
 
-/// Classes that stand at the root of a tree one after another, from one place up to another, and for each byte whether one
-/// of them has it.
+/// Consecutive classes at the root of a tree, from one place up to another, and for each byte whether one of them has it.
 #[derive(Drop)]
 pub(crate) struct Leap {
     pub(crate) from: usize,
@@ -31,7 +30,7 @@ fn mark(class: &Class, marks: &mut [bool; 256])
     }
 }
 
-/// The class that stands at the root at this place, if one does.
+/// The class at the root at this place, if there is one.
 fn root_class(nodes: &[Node], place: usize) -> Option<&Class>
     ensures { IfSome result (λ class. slice_get nodes.now place
         ≡ Some (record { depth = 0; step = Step.Class class.now })) }
@@ -43,7 +42,7 @@ fn root_class(nodes: &[Node], place: usize) -> Option<&Class>
     }
 }
 
-/// The leap from a place, over the classes that stand there.
+/// The leap from a place, over the classes there.
 fn leap_from(nodes: &[Node], ends: &[usize], from: usize) -> Leap
     requires { AreLinked nodes.now ends.now }
     ensures from { result.from ≡ from }
@@ -78,7 +77,7 @@ pub(crate) fn leaps_of(alloc: Global, nodes: &[Node], ends: &[usize]) -> Result<
     Ok(leaps)
 }
 
-/// Where a leap from the place leads for the first digit, if one does. Those that begin before the place are left after.
+/// Where a leap from the place leads for the first digit, if one does. It moves past the leaps that begin before the place.
 pub(crate) fn leap_over(
     leaps: &[Leap],
     next: &mut usize,

@@ -1,8 +1,7 @@
-//! Look-up in a dialplan through tries: for each context its plain names in order, and its patterns as a tree in which
-//! patterns share what they begin with.
+//! Look-up in a dialplan through tries: each context has its plain names in order, and its patterns as a tree in which patterns share their
+//! start.
 //!
-//! What is found is what `dp_lookup` finds, after the Asterisk documentation's pages on the dialplan and on pattern
-//! matching.
+//! It finds what `dp_lookup` finds, after the Asterisk documentation's pages on the dialplan and on pattern matching.
 #![tactic(auto)]
 
 mod build;

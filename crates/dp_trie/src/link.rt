@@ -1,4 +1,4 @@
-//! The ends of nodes: beside each node of a tree the place after all that stands below it.
+//! The ends of nodes: for each node of a tree the place after everything below it.
 ghost use Rattle.std.specs.Prelude.{◌≡◌, ◌+◌, ◌<◌, length, replicate, IfOk};
 ghost use Rattle.dp_trie.specs.Tree.{AreLinked, AreLinkedFrom, IsEndOf};
 
@@ -6,7 +6,7 @@ use crate::node::Node;
 use dp_lookup::NoMemory;
 use std::alloc::Global;
 
-/// So many zeros.
+/// A number of zeros.
 fn zeros(alloc: Global, count: usize) -> Result<Vec<usize>, NoMemory>
     ensures { IfOk result (λ zeros. zeros.items ≡ replicate count 0) }
 {
@@ -17,7 +17,7 @@ fn zeros(alloc: Global, count: usize) -> Result<Vec<usize>, NoMemory>
     Ok(zeros)
 }
 
-/// The place after all that stands below a node, by the ends of the nodes after it.
+/// The place after everything below a node, given the ends of the nodes after it.
 fn end_of(nodes: &[Node], ends: &[usize], place: usize) -> usize
     requires within { place < length nodes.now }
     requires linked { AreLinkedFrom (place + 1) nodes.now ends.now }
@@ -34,7 +34,7 @@ fn end_of(nodes: &[Node], ends: &[usize], place: usize) -> usize
     end
 }
 
-/// The ends of all nodes. Each is found by going from end to end of the nodes below it, from the last node to the first.
+/// The ends of all nodes, from the last node to the first. Each is found by going from end to end over the nodes below it.
 pub(crate) fn link(alloc: Global, nodes: &[Node]) -> Result<Vec<usize>, NoMemory>
     ensures { IfOk result (λ ends. AreLinked nodes.now ends.items) }
 {

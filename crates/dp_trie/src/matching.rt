@@ -9,7 +9,7 @@ use crate::plain::{Side, side_of};
 use crate::walk::{allows, takes};
 use dp_pattern::{Class, Name, Parts};
 
-/// Whether each class takes a digit in turn.
+/// Whether each class takes a digit, in order.
 fn takes_all(classes: &[Class], digits: &Digits<'_>) -> bool
     ensures { result ≡ alive false classes.now (without_dashes digits.now.text.now) }
 {

@@ -3,7 +3,7 @@ use dp_lookup::EntryId;
 use dp_pattern::{Class, Tail};
 use dp_plan::SharedText;
 
-/// What is held of an entry beside its name. A contract sees its label here; a look-up finds it in the table of labels.
+/// The data held of an entry, without its name. A contract sees its label here; a look-up finds it in the table of labels.
 #[derive(Drop)]
 pub(crate) struct HeldEntry {
     pub(crate) id: EntryId,
@@ -11,7 +11,7 @@ pub(crate) struct HeldEntry {
     pub(crate) label: Option<SharedText>,
 }
 
-/// The end of a pattern: its tail, and which of the entries that are held are its own, from one place up to another.
+/// The end of a pattern: its tail, and which of the held entries are its own, from one place up to another.
 #[derive(Clone, Copy)]
 pub(crate) struct Leaf {
     pub(crate) tail: Tail,
@@ -19,14 +19,14 @@ pub(crate) struct Leaf {
     pub(crate) until: usize,
 }
 
-/// What stands at a node: a class that takes one more digit, or the end of a pattern.
+/// The content of a node: a class that takes one more digit, or the end of a pattern.
 #[derive(Drop)]
 pub(crate) enum Step {
     Class(Class),
     Leaf(Leaf),
 }
 
-/// A node of a tree. So many classes stand above it; the nodes stand in the order in which a walk meets them.
+/// A node of a tree, with the number of classes above it; the nodes are in the order in which a walk meets them.
 #[derive(Drop)]
 pub(crate) struct Node {
     pub(crate) depth: usize,

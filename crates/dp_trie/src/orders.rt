@@ -10,7 +10,7 @@ use dp_plan::Dialplan;
 use std::alloc::Global;
 use std::slice;
 
-/// A search order, and the number of the context that it is of, if it is of one.
+/// A search order, and the number of its context, if it has one.
 #[derive(Drop)]
 pub(crate) struct KeptOrder {
     order: SearchOrder,
@@ -18,7 +18,7 @@ pub(crate) struct KeptOrder {
 }
 
 impl KeptOrder {
-    /// An order of no context, with room for that of any.
+    /// An order without a context, with room for the order of any context.
     fn room(alloc: Global, plan: &Dialplan) -> Result<Self, NoMemory>
         ensures { IfOk result (IsKept plan.now) }
     {
@@ -29,7 +29,7 @@ impl KeptOrder {
         })
     }
 
-    /// Makes it that of the context of this name and number. It is filled anew only where it was that of another.
+    /// Makes it the order of the context with this name and number. It is filled again only if it was that of another.
     fn turn_to(&mut self, plan: &Dialplan, context: &Text, number: usize)
         requires kept { IsKept plan.now self.old }
         requires number { number_of plan.now context.now ≡ Some number }
@@ -43,8 +43,8 @@ impl KeptOrder {
     }
 }
 
-/// The search orders of contexts. A context that includes nothing is its own order. Of the others those that were asked last are kept,
-/// so that look-ups that come in turn from a few contexts fill none anew.
+/// The search orders of contexts. A context that includes nothing is its own order. Of the other contexts the last ones are kept, so that
+/// look-ups that alternate between a few contexts fill no order again.
 #[derive(Drop)]
 pub(crate) struct Orders {
     // The number of the context that was asked last, where the dialplan has it.
@@ -56,7 +56,7 @@ pub(crate) struct Orders {
     turn: usize,
 }
 
-/// The place after a place of the kept orders, of which the first is after the last.
+/// The place after a place in the kept orders; the first follows the last.
 fn next_place(place: usize) -> usize
     ensures { result < 4 }
 {
@@ -64,7 +64,7 @@ fn next_place(place: usize) -> usize
 }
 
 impl Orders {
-    /// Orders of no context, with room for those of any.
+    /// Orders without a context, with room for the order of any.
     pub(crate) fn room(alloc: Global, plan: &Dialplan) -> Result<Self, NoMemory>
         ensures { IfOk result (λ orders. AreOrders plan.now orders) }
     {
@@ -82,7 +82,7 @@ impl Orders {
         })
     }
 
-    /// The order of the context that was asked last.
+    /// The order of the context of the last look-up.
     #[inline(always)]
     pub(crate) fn order(&self) -> &[usize]
         ensures { result.now ≡ order_now self.now }
@@ -97,8 +97,8 @@ impl Orders {
         }
     }
 
-    /// Which of the kept orders is that of the context of this number, or else may be replaced: these in turn, but not the one that was
-    /// asked last.
+    /// Which of the kept orders is that of the context with this number, or else can be replaced: they are replaced in turn, except for
+    /// that of the last look-up.
     fn choose(&mut self, number: usize) -> usize
         ensures within { result < 4 }
         ensures same { self.new ≡ record self.old { turn = self.new.turn } }
@@ -119,7 +119,7 @@ impl Orders {
         }
     }
 
-    /// Makes one of the kept orders that of the context of this name and number, and says which.
+    /// Makes one of the kept orders that of the context with this name and number, and says which.
     fn keep(&mut self, plan: &Dialplan, context: &Text, number: usize) -> usize
         requires kept { All (IsKept plan.now) self.old.kept }
         requires number { number_of plan.now context.now ≡ Some number }
@@ -133,7 +133,7 @@ impl Orders {
         place
     }
 
-    /// The same for a context that is not the one that was asked last.
+    /// The same for a context that is not that of the last look-up.
     fn turn_to_other(&mut self, plan: &Dialplan, context: &Text)
         requires { AreOrders plan.now self.old }
         ensures contexts { order_now self.new ≡ search_order plan.now context.now }
@@ -151,7 +151,7 @@ impl Orders {
         self.place = Some(self.keep(plan, context, number));
     }
 
-    /// Makes the order that of the context of this name. For the context that was asked last no table of names is asked. It takes no
+    /// Makes the order that of the context with this name. For the context of the last look-up no table of names is searched. It needs no
     /// memory.
     #[inline(always)]
     pub(crate) fn turn_to(&mut self, plan: &Dialplan, context: &Text)

@@ -15,7 +15,7 @@ use dp_lookup::{EntryId, NoMemory, Text};
 use std::alloc::Global;
 use std::cmp::Ordering;
 
-/// A plain name, and which of the entries that are held are its own, from one place up to another.
+/// A plain name, and which of the held entries are its own, from one place up to another.
 #[derive(Drop)]
 pub(crate) struct PlainName {
     pub(crate) name: Text,
@@ -23,20 +23,20 @@ pub(crate) struct PlainName {
     pub(crate) until: usize,
 }
 
-/// Where a plain name stands to the digits.
+/// On which side of the digits a plain name is.
 #[derive(Clone, Copy)]
 pub(crate) enum Side {
     /// Before them in the order of bytes.
     Before,
     /// It is the digits.
     Same,
-    /// It goes on from them.
+    /// It continues the digits.
     Longer,
-    /// After them and all that goes on from them.
+    /// After them and everything that continues them.
     After,
 }
 
-/// Where the name stands to a text that has no dash.
+/// On which side of a text without dashes the name is.
 fn side_of_text(name: &[u8], text: &[u8]) -> Side
     ensures { result ≡ side_of name.now text.now }
 {
@@ -53,7 +53,7 @@ fn side_of_text(name: &[u8], text: &[u8]) -> Side
     }
 }
 
-/// Where the name stands to the digits, each asked in turn.
+/// On which side of the digits the name is, comparing each digit in turn.
 fn side_in_turn(name: &[u8], digits: &Digits<'_>) -> Side
     ensures { result ≡ side_of name.now (without_dashes digits.now.text.now) }
 {
@@ -75,7 +75,7 @@ fn side_in_turn(name: &[u8], digits: &Digits<'_>) -> Side
     }
 }
 
-/// Where the name stands to the digits.
+/// On which side of the digits the name is.
 pub(crate) fn side_of(name: &[u8], digits: &Digits<'_>) -> Side
     ensures { result ≡ side_of name.now (without_dashes digits.now.text.now) }
 {
@@ -85,7 +85,7 @@ pub(crate) fn side_of(name: &[u8], digits: &Digits<'_>) -> Side
     }
 }
 
-/// The sides in the order in which names stand there.
+/// The sides, numbered in the order of the names.
 pub(crate) fn rank(side: Side) -> u8
     ensures { result ≡ rank side }
 {
@@ -97,7 +97,7 @@ pub(crate) fn rank(side: Side) -> u8
     }
 }
 
-/// The side of the names that are asked for: those that go on, or else the one that matches.
+/// The side of the names that a question asks for: those that go on, or else the one that matches.
 fn fitting(more: bool) -> Side
     ensures { result ≡ fitting more }
 {
@@ -107,7 +107,7 @@ fn fitting(more: bool) -> Side
 /// The rank of a name that is the digits.
 const SAME: u8 = 1;
 
-/// Whether the name stands below a rank. Where that is the rank of the digits, the order of bytes alone says it.
+/// Whether the name is below a rank. If that is the rank of the digits, the order of bytes alone decides.
 fn is_below(name: &[u8], digits: &Digits<'_>, limit: u8) -> bool
     ensures { result ≡ nat_lt (rank (side_of name.now (without_dashes digits.now.text.now))) limit }
 {
@@ -117,7 +117,7 @@ fn is_below(name: &[u8], digits: &Digits<'_>, limit: u8) -> bool
     }
 }
 
-/// How many of the names stand below a rank.
+/// The number of names below a rank.
 fn count_below(names: &[PlainName], digits: &Digits<'_>, limit: u8) -> usize
     requires { NamesRise names.now }
     ensures within { result ≤ length names.now }
@@ -129,7 +129,7 @@ fn count_below(names: &[PlainName], digits: &Digits<'_>, limit: u8) -> usize
     names.partition_point(|plain| is_below(plain.name.bytes(), digits, limit))
 }
 
-/// Whether the name is one of those that the question asks for. A name that matches is the digits themselves.
+/// Whether the name is one that the question asks for. A name that matches is the digits themselves.
 #[inline(always)]
 fn fits(plain: &PlainName, question: EntryQuestion, digits: &Digits<'_>) -> bool
     ensures { result ≡ (rank_of (without_dashes digits.now.text.now) plain.now == rank (fitting (is_more question))) }
@@ -141,7 +141,7 @@ fn fits(plain: &PlainName, question: EntryQuestion, digits: &Digits<'_>) -> bool
     }
 }
 
-/// The first entry of one plain name that the question asks for beside its name.
+/// The first entry of one plain name that the question asks for, apart from its name.
 #[inline(always)]
 fn find_own(plain: &PlainName, held: &[HeldEntry], question: EntryQuestion) -> Option<EntryId>
     requires from { plain.now.from ≤ plain.now.until }
@@ -152,8 +152,8 @@ fn find_own(plain: &PlainName, held: &[HeldEntry], question: EntryQuestion) -> O
     first_wanted(question, &held[plain.from..plain.until])
 }
 
-/// The first entry that the question asks for of plain names none of which stands below those that fit. The first name that
-/// does not fit ends the search.
+/// The first entry that the question asks for, among plain names none of which is below those that fit. The first name that does not fit
+/// ends the search.
 fn find_in_front(
     names: &[PlainName],
     held: &[HeldEntry],
@@ -203,7 +203,7 @@ fn find_only(
     }
 }
 
-/// The first entry of the plain names that the question asks for. The first of several names that fits is found by halves.
+/// The first entry of the plain names that the question asks for. The first name that fits is found by binary search.
 pub(crate) fn find_plain(
     names: &[PlainName],
     held: &[HeldEntry],

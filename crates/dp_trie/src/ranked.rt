@@ -1,4 +1,4 @@
-//! The entries of a context in the order in which a look-up asks them.
+//! The entries of a context in the order in which a look-up tries them.
 ghost use Rattle.std.specs.Prelude.{◌≡◌, ◌≢◌, ◌<◌, [], ◌∷◌, ◌++◌, length, map, slice_get, filter_map, Some, IfOk, OnOk, IsTrue, ◌↔◌};
 ghost use Rattle.dp_trie.specs.declared.ranked.Ranked.{Ranked};
 ghost use Rattle.dp_pattern.specs.Name.{Plain, Pattern};
@@ -11,7 +11,7 @@ use dp_pattern::{Class, Name, Parts, Tail};
 use dp_plan::{Entry, SharedName, same_names_are_equal};
 use std::alloc::Global;
 
-/// An entry beside its number.
+/// An entry with its number.
 #[derive(Clone, Copy)]
 pub(crate) struct Ranked<'a> {
     pub(crate) id: EntryId,
@@ -47,7 +47,7 @@ pub(crate) fn plain_of(name: &Name) -> &[u8]
     }
 }
 
-/// Adds the entry of a number, where there is one.
+/// Adds the entry with a number, if there is one.
 fn push_entry<'a>(
     plan: &'a Dialplan,
     id: EntryId,
@@ -83,7 +83,7 @@ pub(crate) fn rank(
     Ok(ranked)
 }
 
-/// Whether two names are one, by their spellings: these are compared many bytes at a time, and classes one by one.
+/// Whether two names are the same. It compares their spellings many bytes at a time; classes would be compared one by one.
 fn are_one(left: &SharedName, right: &SharedName) -> bool
     ensures { IsTrue result ↔ (left.now ≡ right.now) }
 {
@@ -94,7 +94,7 @@ fn are_one(left: &SharedName, right: &SharedName) -> bool
     left.spelling() == right.spelling()
 }
 
-/// The place after the entries that have the name of the one at a place: what stands there, if anything, has another name.
+/// The place after the entries that have the name of the entry at a place: anything there has another name.
 pub(crate) fn group_end(ranked: &[Ranked<'_>], from: usize, name: &SharedName) -> usize
     requires within { from < length ranked.now }
     requires first { (one : Ranked) → slice_get ranked.now from ≡ Some one → (known_now one).name ≡ name.now }
@@ -111,7 +111,7 @@ pub(crate) fn group_end(ranked: &[Ranked<'_>], from: usize, name: &SharedName) -
     until
 }
 
-/// What is held of an entry.
+/// The data held of an entry.
 fn hold(one: Ranked<'_>) -> Result<HeldEntry, NoMemory>
     ensures { IfOk result (λ held. held ≡ hold_of (known_now one.entry)) }
 {
@@ -123,7 +123,7 @@ fn hold(one: Ranked<'_>) -> Result<HeldEntry, NoMemory>
     })
 }
 
-/// What is held of all entries.
+/// The data held of all entries.
 pub(crate) fn hold_all(alloc: Global, ranked: &[Ranked<'_>]) -> Result<Vec<HeldEntry>, NoMemory>
     ensures { IfOk result (λ held. held.items ≡ map hold_of (map known_now ranked.now)) }
 {

@@ -17,11 +17,10 @@ use dp_lookup::{Dialplan, EntryId, NoMemory, SearchOrder};
 use std::alloc::Global;
 use std::marker::Model;
 
-/// A dialplan as tries: for each of its contexts the plain names in order, the patterns as a tree, and a table of labels.
+/// A dialplan as tries: each of its contexts has its plain names in order, its patterns as a tree, and a table of labels.
 ///
-/// A contract sees it as what it keeps of the dialplan that it was built from: of each context its entries, each with what
-/// its name means, its priority, its label and its number, in the order in which a look-up asks them; and how many nodes
-/// its tree has.
+/// A contract sees it as the data kept of the dialplan from which it was built: for each context its entries, each with the meaning of its
+/// name, its priority, its label and its number, in the order in which a look-up tries them; and the number of nodes of its tree.
 pub struct Trie {
     tables: Vec<ContextTable>,
 }
@@ -41,7 +40,7 @@ impl Model for Trie {
     ghost view = { λ trie. trie.tables.items };
 }
 
-/// The first entry of the context of a number that the question asks for; none where there is no such context.
+/// The first entry of the context with a number that the question asks for; none if there is no such context.
 #[inline(always)]
 fn find_at(
     tables: &[ContextTable],
@@ -67,7 +66,7 @@ fn find_at(
     }
 }
 
-/// The first entry that the question asks for, in the first of the contexts of these numbers that has such an entry.
+/// The first entry that the question asks for, in the first of the contexts with these numbers that has such an entry.
 #[inline(always)]
 fn find_first(
     tables: &[ContextTable],
@@ -98,7 +97,7 @@ fn find_first(
     Counted { hit: None, count }
 }
 
-/// The same by the text.
+/// The same, given the text.
 #[inline(always)]
 fn look_up(
     tables: &[ContextTable],
@@ -118,8 +117,7 @@ fn look_up(
     find_first(tables, order, question, &Digits::of(text))
 }
 
-/// The priority of the first entry of the context of a number that matches and has the label; none where there is no such
-/// context.
+/// The priority of the first entry of the context with a number that matches and has the label; none if there is no such context.
 fn label_at(
     tables: &[ContextTable],
     number: usize,
@@ -135,8 +133,7 @@ fn label_at(
     }
 }
 
-/// The priority of the first entry that matches and has the label, in the first of the contexts of these numbers that has
-/// such an entry.
+/// The priority of the first entry that matches and has the label, in the first of the contexts with these numbers that has such an entry.
 fn first_label(
     tables: &[ContextTable],
     order: &[usize],
@@ -155,7 +152,7 @@ fn first_label(
     None
 }
 
-/// The same by the text.
+/// The same, given the text.
 fn look_up_label(tables: &[ContextTable], order: &[usize], label: &[u8], text: &[u8]) -> Option<u32>
     ensures { result ≡ option_map (λ known. known.priority)
         (found_first tables.now (is_asked false (has_label label.now) (without_dashes text.now)) order.now) }
@@ -177,8 +174,8 @@ impl Trie {
         Ok(Trie { tables })
     }
 
-    /// How many nodes the tree of the context of this number has, 0 where there is no such context: at most one, and for
-    /// each entry of a pattern as many as it has classes and one.
+    /// The number of nodes of the tree of the context with this number; 0 if there is no such context. It is at most 1 plus, for each entry
+    /// with a pattern, the number of its classes plus 1.
     pub fn nodes(&self, context: usize) -> usize
         ensures value { result ≡ nodes_at self.now context }
         ensures most { result ≤ most_nodes (kept_at self.now context) }
@@ -189,7 +186,7 @@ impl Trie {
         }
     }
 
-    /// What `find_counted` gives, in the contexts of these numbers.
+    /// What `find_counted` gives, in the contexts with these numbers.
     #[inline(always)]
     fn counted_in(&self, contexts: &[usize], text: &[u8], priority: u32) -> (Option<EntryId>, usize)
         ensures found { (plan : PlanOf) → Keeps plan self.now
@@ -208,9 +205,9 @@ impl Trie {
         (found.hit, found.count)
     }
 
-    /// The entry of the order's contexts that matches the dialled text and has the priority, as `dp_lookup::find` gives
-    /// it, and how many nodes were entered. Each entry into a node raises that count by one, in each of the contexts up to
-    /// the one that answers. The count stays at 18,446,744,073,709,551,615 where it would be more. It never allocates.
+    /// The entry of the order's contexts that matches the dialled text and has the priority, as `dp_lookup::find` gives it, and the number
+    /// of nodes that were entered. Each entry into a node raises that count by one, in each of the contexts up to the one that answers. The
+    /// count stops at 18,446,744,073,709,551,615. It never allocates.
     pub fn find_counted(
         &self,
         order: &SearchOrder,
@@ -236,7 +233,7 @@ impl Trie {
         self.find_in(order.contexts(), text, priority)
     }
 
-    /// The same in the contexts of these numbers.
+    /// The same in the contexts with these numbers.
     #[inline(always)]
     pub fn find_in(&self, contexts: &[usize], text: &[u8], priority: u32) -> Option<EntryId>
         ensures { (plan : PlanOf) → Keeps plan self.now → result ≡ found_entry plan contexts.now text.now priority }
@@ -254,7 +251,7 @@ impl Trie {
         self.find_label_in(order.contexts(), text, label)
     }
 
-    /// The same in the contexts of these numbers.
+    /// The same in the contexts with these numbers.
     pub fn find_label_in(&self, contexts: &[usize], text: &[u8], label: &[u8]) -> Option<u32>
         ensures { (plan : PlanOf) → Keeps plan self.now → result ≡ found_label plan contexts.now text.now label.now }
     {
@@ -269,7 +266,7 @@ impl Trie {
         self.more_in(order.contexts(), text)
     }
 
-    /// The same in the contexts of these numbers.
+    /// The same in the contexts with these numbers.
     pub fn more_in(&self, contexts: &[usize], text: &[u8]) -> bool
         ensures { (plan : PlanOf) → Keeps plan self.now → result ≡ goes_on_more plan contexts.now text.now }
     {

@@ -1,4 +1,4 @@
-//! The walk through a tree of patterns. It never allocates, and no call of it stands inside another.
+//! The walk through a tree of patterns. It never allocates and is not recursive.
 ghost use Rattle.std.specs.Prelude.{◌≡◌, ◌≤◌, length, slice_index, MatchOption, [], find, if◌then◌else◌};
 ghost use Rattle.std.specs.Option.{option_map};
 ghost use Rattle.dp_pattern.specs.Walk.{classes_of};
@@ -17,26 +17,25 @@ use crate::node::{HeldEntry, Leaf, Node, Step};
 use dp_lookup::EntryId;
 use dp_pattern::{Class, Tail};
 
-/// What a walk does at a node.
+/// The action of a walk at a node.
 #[derive(Clone, Copy)]
 pub(crate) enum Visit {
     /// It enters the node and goes on after it.
     Enters,
-    /// It goes on after all that stands below the node.
+    /// It goes on after everything below the node.
     Fails,
-    /// It enters the node, which holds what was asked for.
+    /// It enters the node, which holds the entry that was asked for.
     Holds(EntryId),
 }
 
-/// What a walk finds, and how many nodes it entered.
+/// The result of a walk, and the number of nodes that it entered.
 #[derive(Clone, Copy)]
 pub(crate) struct Counted {
     pub(crate) hit: Option<EntryId>,
     pub(crate) count: usize,
 }
 
-/// Whether the class takes the digit of this number. Where the digits have ended, it does if names that go on are asked
-/// for.
+/// Whether the class takes the digit with this number. After the last digit it does if the question asks for names that go on.
 pub(crate) fn takes(
     class: &Class,
     number: usize,
@@ -54,7 +53,7 @@ pub(crate) fn takes(
     }
 }
 
-/// Whether the tail allows what is left after so many of the digits.
+/// Whether the tail allows the digits that are left after so many of them.
 pub(crate) fn allows(
     tail: Tail,
     number: usize,
@@ -76,7 +75,7 @@ pub(crate) fn allows(
     }
 }
 
-/// What a walk does at a class.
+/// The action of a walk at a class.
 fn visit_class(
     class: &Class,
     depth: usize,
@@ -95,7 +94,7 @@ fn visit_class(
     }
 }
 
-/// What a walk does at a leaf.
+/// The action of a walk at a leaf.
 fn visit_leaf(
     leaf: Leaf,
     depth: usize,
@@ -121,7 +120,7 @@ fn visit_leaf(
     }
 }
 
-/// What a walk does at a node.
+/// The action of a walk at a node.
 fn visit_node(
     node: &Node,
     held: &[HeldEntry],
@@ -142,8 +141,8 @@ fn visit_node(
     }
 }
 
-/// The first entry of a tree that the question asks for, in the order in which a walk meets them. A node that fails ends
-/// the walk below it alone, and a leap passes over many roots that fail.
+/// The first entry of a tree that the question asks for, in the order in which a walk meets them. A node that fails ends only the walk
+/// below it, and a leap passes many failing roots.
 pub(crate) fn find_in_tree(
     nodes: &[Node],
     ends: &[usize],

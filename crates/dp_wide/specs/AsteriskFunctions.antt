@@ -2,7 +2,7 @@
 use Rattle.std.specs.Prelude.{ℕ, Bool, ◌||◌, List, [], ◌∷◌, codes}
 use Rattle.dp_wide.specs.Names.{is_text_of}
 
--- those whose first letter is A to C
+-- the names that begin with A to C
 unfoldable pub functions_a_to_c : List (List ℕ)
 functions_a_to_c =
     codes "AES_DECRYPT" ∷ codes "AES_ENCRYPT" ∷ codes "AGC" ∷ codes "AGENT" ∷ codes "AMI_CLIENT" ∷ codes "ARRAY" ∷ codes "AST_CONFIG"
@@ -13,7 +13,7 @@ functions_a_to_c =
     ∷ codes "CONFBRIDGE_CHANNELS" ∷ codes "CONFBRIDGE_INFO" ∷ codes "CONNECTEDLINE" ∷ codes "CSV_QUOTE" ∷ codes "CURL"
     ∷ codes "CURLOPT" ∷ codes "CUT" ∷ []
 
--- those whose first letter is D to E
+-- the names that begin with D to E
 unfoldable pub functions_d_to_e : List (List ℕ)
 functions_d_to_e =
     codes "DB" ∷ codes "DB_DELETE" ∷ codes "DB_EXISTS" ∷ codes "DB_KEYCOUNT" ∷ codes "DB_KEYS" ∷ codes "DEC" ∷ codes "DENOISE"
@@ -21,7 +21,7 @@ functions_d_to_e =
     ∷ codes "DUNDIRESULT" ∷ codes "ENUMLOOKUP" ∷ codes "ENUMQUERY" ∷ codes "ENUMRESULT" ∷ codes "ENV" ∷ codes "EVAL"
     ∷ codes "EVAL_EXTEN" ∷ codes "EXCEPTION" ∷ codes "EXISTS" ∷ codes "EXPORT" ∷ codes "EXTENSION_STATE" ∷ []
 
--- those whose first letter is F to I
+-- the names that begin with F to I
 unfoldable pub functions_f_to_i : List (List ℕ)
 functions_f_to_i =
     codes "FAXOPT" ∷ codes "FEATURE" ∷ codes "FEATUREMAP" ∷ codes "FIELDNUM" ∷ codes "FIELDQTY" ∷ codes "FILE"
@@ -31,7 +31,7 @@ functions_f_to_i =
     ∷ codes "IAXVAR" ∷ codes "ICONV" ∷ codes "IF" ∷ codes "IFMODULE" ∷ codes "IFTIME" ∷ codes "IMPORT" ∷ codes "INC" ∷ codes "ISNULL"
     ∷ []
 
--- those whose first letter is J to O
+-- the names that begin with J to O
 unfoldable pub functions_j_to_o : List (List ℕ)
 functions_j_to_o =
     codes "JABBER_RECEIVE" ∷ codes "JABBER_STATUS" ∷ codes "JITTERBUFFER" ∷ codes "JSON_DECODE" ∷ codes "KEYPADHASH" ∷ codes "LEN"
@@ -39,7 +39,7 @@ functions_j_to_o =
     ∷ codes "MASTER_CHANNEL" ∷ codes "MATH" ∷ codes "MD5" ∷ codes "MEETME_INFO" ∷ codes "MESSAGE" ∷ codes "MESSAGE_DATA"
     ∷ codes "MINIVMACCOUNT" ∷ codes "MINIVMCOUNTER" ∷ codes "MIXMONITOR" ∷ codes "MUTEAUDIO" ∷ codes "ODBC" ∷ codes "ODBC_FETCH" ∷ []
 
--- those whose first letter is P to Q
+-- the names that begin with P to Q
 unfoldable pub functions_p_to_q : List (List ℕ)
 functions_p_to_q =
     codes "PASSTHRU" ∷ codes "PERIODIC_HOOK" ∷ codes "PITCH_SHIFT" ∷ codes "PJSIP_AOR" ∷ codes "PJSIP_CONTACT"
@@ -49,7 +49,7 @@ functions_p_to_q =
     ∷ codes "QUEUE_GET_CHANNEL" ∷ codes "QUEUE_MEMBER" ∷ codes "QUEUE_MEMBER_COUNT" ∷ codes "QUEUE_MEMBER_LIST"
     ∷ codes "QUEUE_MEMBER_PENALTY" ∷ codes "QUEUE_VARIABLES" ∷ codes "QUEUE_WAITING_COUNT" ∷ codes "QUOTE" ∷ []
 
--- those whose first letter is R to S
+-- the names that begin with R to S
 unfoldable pub functions_r_to_s : List (List ℕ)
 functions_r_to_s =
     codes "RAND" ∷ codes "REALTIME" ∷ codes "REALTIME_DESTROY" ∷ codes "REALTIME_FIELD" ∷ codes "REALTIME_HASH"
@@ -61,14 +61,14 @@ functions_r_to_s =
     ∷ codes "STACK_PEEK" ∷ codes "STAT" ∷ codes "STRBETWEEN" ∷ codes "STRFTIME" ∷ codes "STRPTIME" ∷ codes "STRREPLACE"
     ∷ codes "SYSINFO" ∷ []
 
--- those whose first letter is T to Z
+-- the names that begin with T to Z
 unfoldable pub functions_t_to_z : List (List ℕ)
 functions_t_to_z =
     codes "TALK_DETECT" ∷ codes "TESTTIME" ∷ codes "TIMEOUT" ∷ codes "TOLOWER" ∷ codes "TOUPPER" ∷ codes "TRIM" ∷ codes "TRYLOCK"
     ∷ codes "TXTCIDNAME" ∷ codes "UNLOCK" ∷ codes "UNSHIFT" ∷ codes "URIDECODE" ∷ codes "URIENCODE" ∷ codes "VALID_EXTEN"
     ∷ codes "VERSION" ∷ codes "VMCOUNT" ∷ codes "VM_INFO" ∷ codes "VOLUME" ∷ []
 
--- whether a name is one of all these
+-- whether a name is one of these
 abbrev pub is_asterisk_function : List ℕ → Bool
 is_asterisk_function name =
     is_text_of functions_a_to_c name || is_text_of functions_d_to_e name || is_text_of functions_f_to_i name || is_text_of functions_j_to_o name

@@ -1,4 +1,4 @@
--- `ExecIf`, which runs an application of a table where a condition says so.
+-- `ExecIf`, which runs an application of a table if a condition holds.
 use Rattle.std.specs.Prelude.{ℕ, zero, suc, Bool, true, List, [], ◌∷◌, Option, Some, None, is_some, codes, if◌then◌else◌}
 use Rattle.std.specs.Option.{option_map, option_map_or}
 use Rattle.std.specs.Str.{byte}
@@ -19,33 +19,33 @@ use Rattle.dp_wide.specs.Sides.{called_side}
 abbrev pub has_old_form : List ℕ → Bool
 has_old_form arguments = option_map_or (λ cut. is_some (cut_outside (byte ",") cut.0)) (cut_once (byte "?") arguments) true
 
--- an application by its name and its arguments, where the name is not empty
+-- an application with its name and arguments, unless the name is empty
 abbrev pub named_call : List ℕ → List ℕ → Option (List ℕ × List ℕ)
 named_call [] arguments = None
 named_call (b ∷ bs) arguments = Some (b ∷ bs, arguments)
 
--- `NAME,ARGUMENTS` by its first comma outside parentheses; the arguments are all behind it, as they stand
+-- the application that `NAME,ARGUMENTS` names: its first comma outside parentheses ends the name; the arguments are unchanged
 abbrev pub called_part : List ℕ → Option (List ℕ × List ℕ) → Option (List ℕ × List ℕ)
 called_part text None = named_call (trim text) []
 called_part text (Some cut) = named_call (trim cut.0) cut.1
 
--- the application that the old form `CONDITION,NAME,ARGUMENTS` runs, by its first comma outside parentheses
+-- the application that the old form `CONDITION,NAME,ARGUMENTS` runs, given the first comma outside parentheses
 abbrev pub called_old : Option (List ℕ × List ℕ) → Option (List ℕ × List ℕ)
 called_old None = None
 called_old (Some cut) = if holds cut.0 then called_part cut.1 (cut_outside (byte ",") cut.1) else None
 
--- the name and the arguments of the application that an `ExecIf` with these arguments runs, where there is one: that of the side of
+-- the name and arguments of the application that an `ExecIf` with these arguments runs, if there is one: that of the side of
 -- `CONDITION?SIDE:SIDE` that is taken, or that of the old form
 unfoldable pub exec_if_application : List ℕ → Option (List ℕ × List ℕ)
 exec_if_application arguments =
     if has_old_form arguments then called_old (cut_outside (byte ",") arguments) else option_map called_side (chosen_side arguments)
 
--- the row that a table has of a name; a name that it lacks ends the call
+-- the row that a table has for a name; a name that the table lacks ends the call
 abbrev pub row_or_end : Option Row → Row
 row_or_end None = hangup_row
 row_or_end (Some row) = row
 
--- what an application of a table makes of a cell, where there is one; else the channel goes on
+-- how an application of a table changes a cell; without an application the channel goes on
 abbrev pub run_in : Rows → Option (List ℕ × List ℕ) → CellOf → Outcome
 run_in rows None cell = stays cell Next
 run_in rows (Some call) cell = row_or_end (rows call.0) call.1 cell
@@ -58,15 +58,15 @@ exec_if_row rows arguments cell = run_in rows (exec_if_application arguments) ce
 abbrev pub exec_if_title : List ℕ
 exec_if_title = codes "ExecIf"
 
--- the row of an `ExecIf` over a table where so many may still run inside each other, itself among them
+-- the row of an `ExecIf` over a table, when so many may still run inside each other, including this one
 abbrev pub exec_if_within : ℕ → Rows → Row
 exec_if_within zero rows = hangup_row
 exec_if_within (suc more) rows = exec_if_row (with_row exec_if_title (exec_if_within more rows) rows)
 
--- a table with `ExecIf`, which runs the applications of that same table: one inside 8 others ends the call
+-- a table with `ExecIf`, which runs the applications of this table; an `ExecIf` inside 8 others ends the call
 abbrev pub with_exec_if : Rows → Rows
 with_exec_if rows = with_row exec_if_title (exec_if_within 8 rows) rows
 
--- what `ExecIf` may change: all, as the application that it runs may
+-- what `ExecIf` may change: everything, because the application that it runs may
 abbrev pub everything : Touch
 everything = record { variables = true; frames = true; globals = true; caller = true; members = true; waiting = true }

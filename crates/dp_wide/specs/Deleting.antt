@@ -9,11 +9,11 @@ use Rattle.dp_app.specs.declared.touch.Touch.{Touch}
 use Rattle.dp_flow.specs.Touches.{nothing}
 use Rattle.dp_wide.specs.Cells.{cell_name}
 
--- the globals
+-- the touch of the globals
 abbrev pub the_globals : Touch
 the_globals = record nothing { globals = true }
 
--- the globals where the cell of a key is empty, and so known
+-- the globals after the cell of a key was emptied, so that it is known
 abbrev pub with_empty_key : Named → List ℕ → Named
 with_empty_key globals key = insert globals (cell_name (codes "DB") key) []
 

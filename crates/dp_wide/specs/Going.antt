@@ -1,4 +1,4 @@
--- The applications that go on here and change nothing.
+-- The applications that only go on here, and change nothing.
 use Rattle.std.specs.Prelude.{ℕ, Bool, false, List, [], ◌∷◌, codes}
 use Rattle.dp_app.specs.Knowledge.{Knowledge}
 use Rattle.dp_app.specs.Rows.{Rows}
@@ -20,7 +20,7 @@ going_names =
     ∷ codes "HangupCauseClear" ∷ codes "LookupCIDName" ∷ codes "LookupBlacklist" ∷ codes "SetCallerPres" ∷ codes "JabberSend"
     ∷ codes "MessageSend" ∷ []
 
--- whether the application of a name goes on
+-- whether the application with a name goes on
 abbrev pub goes_on : List ℕ → Bool
 goes_on name = is_word_of going_names name
 
@@ -32,6 +32,6 @@ with_going rows = with_named goes_on (λ name. next_row) rows
 abbrev pub with_going_touch : (List ℕ → Touch) → List ℕ → Touch
 with_going_touch touches = with_named_touch goes_on nothing touches
 
--- what is known of such a table: none of them looks at its arguments
+-- the knowledge of such a table: none of these applications looks at its arguments
 abbrev pub with_going_knowledge : Knowledge → Knowledge
 with_going_knowledge knowledge = with_named_knowledge goes_on (λ name. false) knowledge

@@ -13,7 +13,7 @@ use Rattle.dp_app.specs.declared.target.Target.TheVariants.{To}
 use Rattle.dp_flow.specs.Jumps.{inner_arguments, stays}
 use Rattle.dp_wide.specs.Subroutines.{counted_locals, entered_with, local}
 
--- the locals of a macro: those of a subroutine, and the place that called it
+-- the locals of a macro: those of a subroutine, and the place of the caller
 abbrev pub macro_locals : Place → List (List ℕ) → List Local
 macro_locals place arguments =
     counted_locals arguments
@@ -22,15 +22,15 @@ macro_locals place arguments =
     ∷ local (codes "MACRO_PRIORITY") (decimal place.priority)
     ∷ []
 
--- where a macro begins: the extension `s` of its own context
+-- the start of a macro: the extension `s` of its own context
 abbrev pub macro_target : List ℕ → List (List ℕ)
 macro_target name = (codes "macro-" ++ name) ∷ codes "s" ∷ codes "1" ∷ []
 
--- a macro is entered by its name and its arguments
+-- the entry into a macro, given its name and its arguments
 abbrev pub enter_macro : CellOf → List ℕ → List (List ℕ) → Outcome
 enter_macro cell name arguments = entered_with cell (macro_locals cell.place arguments) (macro_target (trim name))
 
--- a macro is entered by the first comma outside parentheses, where its name ends
+-- the entry into a macro, given the first comma outside parentheses, where its name ends
 abbrev pub macro_by : CellOf → List ℕ → Option (List ℕ × List ℕ) → Outcome
 macro_by cell text None = enter_macro cell text []
 macro_by cell text (Some cut) = enter_macro cell cut.0 (inner_arguments cut.1)
@@ -39,7 +39,7 @@ macro_by cell text (Some cut) = enter_macro cell cut.0 (inner_arguments cut.1)
 unfoldable pub macro_row : Row
 macro_row arguments cell = macro_by cell arguments (cut_outside 44 arguments)
 
--- the end of a macro: the innermost frame goes, and the channel goes back to its place; with no frame the channel goes on
+-- the end of a macro: the innermost frame is removed, and the channel goes back to its place; without a frame the channel goes on
 abbrev pub exit_by : CellOf → Option (Frame Place) → Outcome
 exit_by cell None = stays cell Next
 exit_by cell (Some frame) = record { cell = record cell { store = without_frame cell.store }; next = Jump (To frame.back) }

@@ -1,4 +1,4 @@
--- The applications that run outside this program, for which a channel waits.
+-- The applications that run outside this program while a channel waits.
 use Rattle.std.specs.Prelude.{ℕ, ◌||◌, Bool, true, false, List, [], ◌∷◌, Option, codes, fold, is_some}
 use Rattle.std.specs.List.{find}
 use Rattle.std.specs.Option.{option_map, unwrap_or}
@@ -19,15 +19,15 @@ use Rattle.dp_wide.specs.Names.{with_named, with_named_knowledge, with_named_tou
 use Rattle.dp_wide.specs.ReadNames.{read_names, with_listed}
 use Rattle.dp_wide.specs.Settings.{bare_name}
 
--- an application that says in no variable how it ended
+-- an application that reports in no variable how it ended
 abbrev pub without_status : List ℕ → List ℕ × List (List ℕ)
 without_status name = (name, [])
 
--- an application that says in one variable how it ended
+-- an application that reports in one variable how it ended
 abbrev pub with_status : List ℕ → List ℕ → List ℕ × List (List ℕ)
 with_status name status = (name, status ∷ [])
 
--- the applications that run outside, each with the variables in which it says how it ended
+-- the applications that run outside, each with the variables in which it reports how it ended
 unfoldable pub outside_applications : List (List ℕ × List (List ℕ))
 outside_applications =
     with_status (codes "VoiceMail") (codes "VMSTATUS") ∷ without_status (codes "VoiceMailMain")
@@ -56,50 +56,50 @@ outside_applications =
     ∷ with_status (codes "AgentRequest") (codes "AGENT_STATUS") ∷ without_status (codes "Morsecode") ∷ without_status (codes "SMS")
     ∷ without_status (codes "Curl") ∷ []
 
--- the variables in which the application of a name among some says how it ended
+-- the variables in which the application with a name, one of a list, reports how it ended
 abbrev pub statuses_among : List (List ℕ × List (List ℕ)) → List ℕ → Option (List (List ℕ))
 statuses_among applications name = option_map (λ a. a.1) (find (λ a. same_word name a.0) applications)
 
--- the same among all that run outside, if the application of the name is one of them
+-- the same for all applications that run outside, if the name is one of theirs
 abbrev pub outside_statuses : List ℕ → Option (List (List ℕ))
 outside_statuses name = statuses_among outside_applications name
 
--- whether the application of a name runs outside
+-- whether the application with a name runs outside
 abbrev pub is_outside : List ℕ → Bool
 is_outside name = is_some (outside_statuses name)
 
--- whether the first argument names a variable for what is read
+-- whether the first argument of an application names a variable for the input
 abbrev pub is_read : List ℕ → Bool
 is_read name = same_word name (codes "Read") || same_word name (codes "ReadExten")
 
--- a store in which names have no value any more
+-- the store after names have lost their values
 abbrev pub without_values : List (List ℕ) → StoreOf Place → StoreOf Place
 without_values names store = fold unset store names
 
--- the name of the variable for what is read: the first argument, as `Set` takes a name
+-- the name of the variable for the input: the first argument, read like a name in `Set`
 abbrev pub name_to_read : List ℕ → List ℕ
 name_to_read arguments = bare_name (part 0 (arguments_of arguments))
 
--- a store in which a name is one of those that were to be read, and has no value any more
+-- the store after a name was added to the names for input, and has lost its value
 abbrev pub after_reading : List ℕ → StoreOf Place → StoreOf Place
 after_reading name store = unset (set store read_names (with_listed (value_in store read_names) name)) name
 
--- the same of the name that the first argument is, where it names a variable
+-- the same for the name in the first argument, if it names a variable
 abbrev pub after_arguments : Bool → List ℕ → StoreOf Place → StoreOf Place
 after_arguments false arguments store = store
 after_arguments true arguments store = after_reading (name_to_read arguments) store
 
--- what was known of an earlier run is known no more, and the channel waits; one that is closing does not wait, and its call ends
+-- the values of an earlier run become unknown, and the channel waits; a channel that is closing does not wait, and its call ends
 abbrev pub outside_outcome : List (List ℕ) → Bool → List ℕ → CellOf → Bool → Outcome
 outside_outcome statuses reads arguments cell true = stays cell Hang
 outside_outcome statuses reads arguments cell false =
     record { cell = record cell { store = without_values statuses (after_arguments reads arguments cell.store) }; next = Park Pause }
 
--- the row of an application that runs outside, by its statuses and by whether its first argument names a variable
+-- the row of an application that runs outside, given its statuses and whether its first argument names a variable
 unfoldable pub outside_row : List (List ℕ) → Bool → Row
 outside_row statuses reads arguments cell = outside_outcome statuses reads arguments cell cell.is_closing
 
--- the row of a name
+-- the row of the application with a name
 abbrev pub row_outside : List ℕ → Row
 row_outside name = outside_row (unwrap_or (outside_statuses name) []) (is_read name)
 
@@ -111,6 +111,6 @@ with_outside rows = with_named is_outside row_outside rows
 abbrev pub with_outside_touch : (List ℕ → Touch) → List ℕ → Touch
 with_outside_touch touches = with_named_touch is_outside the_variables touches
 
--- what is known of such a table: of them `Read` alone looks at its arguments
+-- the knowledge of such a table: of these applications only `Read` looks at its arguments
 abbrev pub with_outside_knowledge : Knowledge → Knowledge
 with_outside_knowledge knowledge = with_named_knowledge is_outside is_read knowledge

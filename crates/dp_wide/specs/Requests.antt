@@ -1,4 +1,4 @@
--- What applications ask with their arguments that is not known: a function that does more, the clock, a time zone, or an option.
+-- The unknown things that applications ask for with their arguments: a function that does more, the clock, a time zone, or an option.
 use Rattle.std.specs.Prelude.{ℕ, ◌&&◌, List, [], ◌∷◌, Option, Some, None, codes, if◌then◌else◌}
 use Rattle.std.specs.Option.{option_map_or}
 use Rattle.std.specs.Str.{byte}
@@ -11,65 +11,65 @@ use Rattle.dp_app.specs.Parts.{has_option, is_given, part}
 use Rattle.dp_flow.specs.Settings.{argument_of}
 use Rattle.dp_wide.specs.Settings.{bare_name, does_more}
 
--- the name that is set by a function of an argument, where setting it does more than this machine follows
+-- the name that is set through a function with an argument, if setting it does more than this machine follows
 abbrev pub plain_asked : List ℕ → List ℕ → List ℕ → List ℕ
 plain_asked name function argument = if does_more function argument then name else []
 
--- the same of one of the names of an `ARRAY`, where an `ARRAY` is not followed either
+-- the same for a name in an `ARRAY`, where a further `ARRAY` is not followed either
 abbrev pub nested_asked : List ℕ → List ℕ → List ℕ → List ℕ
 nested_asked name function argument = if same_text function (codes "ARRAY") then name else plain_asked name function argument
 
--- what one of the names of an `ARRAY` asks, by its first `(`
+-- what a name in an `ARRAY` asks for, given its first `(`
 abbrev pub part_asked_by : List ℕ → Option (List ℕ × List ℕ) → List ℕ
 part_asked_by name None = []
 part_asked_by name (Some cut) = option_map_or (nested_asked name cut.0) (argument_of cut.1) []
 
--- the same by the name as it stands
+-- what a name in an `ARRAY` asks for
 abbrev pub part_asked : List ℕ → List ℕ
 part_asked part = part_asked_by (bare_name part) (cut_once (byte "(") (bare_name part))
 
--- what the first of some names asks that asks something
+-- what the first of a list of names that asks for something asks for
 abbrev pub parts_asked : List (List ℕ) → List ℕ
 parts_asked [] = []
 parts_asked (part ∷ parts) = earlier (part_asked part) (parts_asked parts)
 
--- what setting a function of an argument asks: of `ARRAY` what its names ask
+-- what setting a function with an argument asks for; for `ARRAY`, what its names ask for
 abbrev pub function_asked : List ℕ → List ℕ → List ℕ → List ℕ
 function_asked name function argument =
     if same_text function (codes "ARRAY") then parts_asked (parts_of argument) else plain_asked name function argument
 
--- what setting a name asks, by its first `(`
+-- what setting a name asks for, given its first `(`
 abbrev pub name_asked_by : List ℕ → Option (List ℕ × List ℕ) → List ℕ
 name_asked_by name None = []
 name_asked_by name (Some cut) = option_map_or (function_asked name cut.0) (argument_of cut.1) []
 
--- the same by the name alone
+-- what setting a name asks for
 abbrev pub name_asked : List ℕ → List ℕ
 name_asked name = name_asked_by name (cut_once (byte "(") name)
 
--- what a setting asks, as `NAME=VALUE`
+-- what a setting `NAME=VALUE` asks for
 abbrev pub setting_asked : List ℕ → List ℕ
 setting_asked text = option_map_or (λ cut. name_asked (bare_name cut.0)) (cut_once (byte "=") text) []
 
--- what the first of some settings asks that asks something
+-- what the first of a list of settings that asks for something asks for
 abbrev pub settings_asked : List (List ℕ) → List ℕ
 settings_asked [] = []
 settings_asked (text ∷ texts) = earlier (setting_asked text) (settings_asked texts)
 
--- a time zone is not followed, and told by the name of the application
+-- a time zone, which is not followed, is reported by the name of the application
 abbrev pub zone_asked : Option (List ℕ × List ℕ) → List ℕ
 zone_asked None = []
 zone_asked (Some cut) = if is_given (part 4 (arguments_of cut.0)) then codes "GotoIfTime" else []
 
--- what `GotoIfTime` asks: the clock, while nothing has set it, and a time zone
+-- what `GotoIfTime` asks for: the clock until something sets it, and a time zone
 abbrev pub time_asked : Sight → List ℕ → List ℕ
 time_asked sight arguments = if sight.has_global (codes "CLOCK") then zone_asked (cut_once (byte "?") arguments) else codes "CLOCK"
 
--- what `Dial` asks by the parts of its arguments: with devices, the option `G`, by which the called side goes elsewhere, too
+-- what `Dial` with devices asks for, given the parts of its arguments: the option `G`, by which the called side goes elsewhere too
 abbrev pub dial_asked : List (List ℕ) → List ℕ
 dial_asked parts = if is_given (part 0 parts) && has_option (byte "G") (part 2 parts) then codes "G" else []
 
--- what an application asks with its arguments, which is no `ExecIf`
+-- what an application other than `ExecIf` asks for with its arguments
 abbrev pub inner_asked : Sight → List ℕ → List ℕ → List ℕ
 inner_asked sight name arguments =
     if same_word name (codes "Set") then setting_asked arguments

@@ -1,4 +1,4 @@
--- What names set: the rows of `Set` and `MSet`, and what a name sets from outside.
+-- The effects of setting names: the rows of `Set` and `MSet`, and settings from outside.
 use Rattle.std.specs.Prelude.{ℕ, Bool, ◌==◌, ◌&&◌, ◌||◌, List, [], ◌∷◌, fold, Option, Some, None, unwrap_or, codes, if◌then◌else◌}
 use Rattle.std.specs.FinMap.{insert}
 use Rattle.std.specs.Option.{option_and_then, option_map_or}
@@ -17,37 +17,37 @@ use Rattle.dp_flow.specs.Settings.{argument_of, before_end}
 use Rattle.dp_wide.specs.Cells.{cell_name, is_of_all}
 use Rattle.dp_wide.specs.Deleting.{with_empty_key}
 
--- what can be set of a cell
+-- the settable parts of a cell
 pub record Settable : Type 0 where
   pub caller : List ℕ
   pub store : StoreOf Place
   pub globals : Named
 
--- what can be set of this cell
+-- the settable parts of this cell
 abbrev pub settable_of : CellOf → Settable
 settable_of cell = record { caller = cell.caller; store = cell.store; globals = cell.globals }
 
--- the cell with that as it is after settings
+-- the cell with its settable parts after settings
 abbrev pub with_settable : CellOf → Settable → CellOf
 with_settable cell s = record cell { caller = s.caller; store = s.store; globals = s.globals }
 
--- a name without one mark of inheritance, a `_`, at its front
+-- a name without a leading `_`, the mark of inheritance
 abbrev pub without_mark : List ℕ → List ℕ
 without_mark [] = []
 without_mark (b ∷ bs) = if b == 95 then bs else b ∷ bs
 
--- a name that is set, without the blanks at its ends and without two such marks at most
+-- a name that is set, without blanks at its ends and without up to two such marks
 abbrev pub bare_name : List ℕ → List ℕ
 bare_name name = without_mark (without_mark (trim name))
 
--- what a name sets: one thing, the name and the number of the caller, the key of a cell that gets empty, or each of some names
+-- what a name sets: one thing, the name and the number of the caller, the key of a cell that becomes empty, or each of a list of names
 pub data Effect : Type 0 where
   OneTarget : SettingTarget → Effect
   NameAndNumber : Effect
   EmptyKey : List ℕ → Effect
   EachName : List ℕ → Effect
 
--- setting the function does more than to write a cell, and has no effect here
+-- whether setting the function does more than to write a cell, so that it has no effect here
 abbrev pub does_more : List ℕ → List ℕ → Bool
 does_more function argument =
     same_text function (codes "HASH") || same_text function (codes "PUSH") || same_text function (codes "UNSHIFT")
@@ -55,17 +55,17 @@ does_more function argument =
     || same_text function (codes "POP") || same_text function (codes "EVAL")
     || (same_text function (codes "CHANNEL") && same_text argument (codes "hangup_handler_push"))
 
--- the cell of a function, by its whole name
+-- the cell of a function, given its whole name
 abbrev pub cell_target : List ℕ → List ℕ → SettingTarget
 cell_target name function = if is_of_all function then Global name else Variable name
 
--- what `CALLERID` of an argument sets, by the whole name
+-- what `CALLERID` with an argument sets, given the whole name
 abbrev pub caller_effect : List ℕ → List ℕ → Effect
 caller_effect name argument =
     if same_text argument (codes "num") || same_text argument (codes "number") then OneTarget Caller
     else (if same_text argument (codes "all") then NameAndNumber else OneTarget (Variable name))
 
--- what a function of an argument sets, by the whole name
+-- what a function with an argument sets, given the whole name
 abbrev pub function_effect : List ℕ → List ℕ → List ℕ → Effect
 function_effect name function argument =
     if same_text function (codes "GLOBAL") then OneTarget (Global argument)
@@ -76,17 +76,17 @@ function_effect name function argument =
     else (if does_more function argument then OneTarget Nothing
     else OneTarget (cell_target name function))))))
 
--- the variable of a name; the empty name sets nothing
+-- the variable with a name; the empty name sets nothing
 abbrev pub variable_target : List ℕ → SettingTarget
 variable_target [] = Nothing
 variable_target (b ∷ bs) = Variable (b ∷ bs)
 
--- a function sets something where it has an argument
+-- what a function sets if it has an argument
 abbrev pub called_effect : List ℕ → List ℕ → Option (List ℕ) → Effect
 called_effect name function None = OneTarget Nothing
 called_effect name function (Some argument) = function_effect name function argument
 
--- what a name sets, by its first `(`: with one it is a function
+-- what a name sets, given its first `(`, which makes it a function
 abbrev pub effect_by : List ℕ → Option (List ℕ × List ℕ) → Effect
 effect_by name None = OneTarget (variable_target name)
 effect_by name (Some cut) = called_effect name cut.0 (argument_of cut.1)
@@ -95,18 +95,18 @@ effect_by name (Some cut) = called_effect name cut.0 (argument_of cut.1)
 unfoldable pub effect_of : List ℕ → Effect
 effect_of name = effect_by name (cut_once 40 name)
 
--- the one thing that is set, where it is one
+-- the one thing that is set, if it is one
 abbrev pub one_target : Effect → SettingTarget
 one_target (OneTarget target) = target
 one_target NameAndNumber = Nothing
 one_target (EmptyKey key) = Nothing
 one_target (EachName names) = Nothing
 
--- what setting a name from outside sets
+-- what a name that is set from outside sets
 abbrev pub wide_target : List ℕ → SettingTarget
 wide_target name = one_target (effect_of (bare_name name))
 
--- a value is set
+-- the parts after a value was set
 abbrev pub with_target : Settable → SettingTarget → List ℕ → Settable
 with_target s (Variable name) value = record s { store = set s.store name value }
 with_target s (Global name) value = record s { globals = insert s.globals name value }
@@ -114,85 +114,85 @@ with_target s (Local name) value = record s { store = set_local s.store name val
 with_target s Caller value = record s { caller = value }
 with_target s Nothing value = s
 
--- the name and the number of a caller
+-- the name and the number of a caller, as texts
 pub record CallerText : Type 0 where
   pub name : List ℕ
   pub number : List ℕ
 
--- what stands before a quote, if that is the last byte
+-- the text before a quote that is the last byte
 abbrev pub before_quote : List ℕ → Option (List ℕ)
 before_quote after = option_and_then (before_end after) (before_last 34 after)
 
--- a text without the quotes at both of its ends
+-- a text without the quotes at its two ends
 abbrev pub without_quotes : List ℕ → List ℕ
 without_quotes [] = []
 without_quotes (b ∷ bs) = if b == 34 then unwrap_or (before_quote bs) (b ∷ bs) else b ∷ bs
 
--- a number with no name
+-- a number without a name
 abbrev pub number_alone : List ℕ → CallerText
 number_alone text = record { name = []; number = trim text }
 
--- a name in quotes or bare, and a number in angle brackets
+-- a name, quoted or bare, and a number in angle brackets
 abbrev pub name_and_number : List ℕ → List ℕ → CallerText
 name_and_number front number = record { name = without_quotes (trim front); number = trim number }
 
--- a caller by the first `<`: the number ends at the last `>` after it, and with no such brackets all is the number
+-- the caller that a text names, given the first `<`: the number ends at the last `>` after it; without these all is the number
 abbrev pub caller_by : List ℕ → Option (List ℕ × List ℕ) → CallerText
 caller_by text None = number_alone text
 caller_by text (Some cut) = option_map_or (name_and_number cut.0) (before_last 62 cut.1) (number_alone text)
 
--- the name and the number that a text has of a caller
+-- the name and the number of the caller that a text names
 unfoldable pub caller_of : List ℕ → CallerText
 caller_of text = caller_by text (cut_once 60 text)
 
--- the name and the number of the caller are set
+-- the parts after the name and the number of the caller were set
 abbrev pub with_caller : Settable → CallerText → Settable
 with_caller s caller =
     record s { caller = caller.number; store = set s.store (cell_name (codes "CALLERID") (codes "name")) caller.name }
 
--- a name is set, where each of some names is a plain cell
+-- the parts after a name was set, with each of a list of names taken as a plain cell
 abbrev pub with_effect : Settable → List ℕ → Effect → List ℕ → Settable
 with_effect s name (OneTarget target) value = with_target s target value
 with_effect s name NameAndNumber value = with_caller s (caller_of value)
 with_effect s name (EmptyKey key) value = record s { globals = with_empty_key s.globals key }
 with_effect s name (EachName names) value = with_target s (Variable name) value
 
--- one of some names is set
+-- the parts after one of a list of names was set
 abbrev pub with_one : Settable → List ℕ → List ℕ → Settable
 with_one s name value = with_effect s (bare_name name) (effect_of (bare_name name)) value
 
--- the first of some values; the empty text where there is none
+-- the first of a list of values; empty if there is none
 abbrev pub first_value : List (List ℕ) → List ℕ
 first_value [] = []
 first_value (value ∷ values) = value
 
--- the values after the first one
+-- the values after the first
 abbrev pub later_values : List (List ℕ) → List (List ℕ)
 later_values [] = []
 later_values (value ∷ values) = values
 
--- each of some names is set to its value, in order; where there are fewer values the others are empty
+-- the parts after each of a list of names was set to its value, in order; missing values are empty
 abbrev pub with_each : Settable → List (List ℕ) → List (List ℕ) → Settable
 with_each s [] values = s
 with_each s (name ∷ names) values = with_each (with_one s name (first_value values)) names (later_values values)
 
--- a name is set by what it sets
+-- the parts after a name was set, given what it sets
 abbrev pub with_setting : Settable → List ℕ → Effect → List ℕ → Settable
 with_setting s name (OneTarget target) value = with_effect s name (OneTarget target) value
 with_setting s name NameAndNumber value = with_effect s name NameAndNumber value
 with_setting s name (EmptyKey key) value = with_effect s name (EmptyKey key) value
 with_setting s name (EachName names) value = with_each s (parts_of names) (parts_of value)
 
--- a name is set
+-- the parts after a name was set
 abbrev pub with_value : Settable → List ℕ → List ℕ → Settable
 with_value s name value = with_setting s (bare_name name) (effect_of (bare_name name)) value
 
--- what stands before the first `=` is the name, and what stands after it the value; with no `=` there is no effect
+-- the parts after a setting: the name is before the first `=`, and the value after it; without a `=` nothing changes
 abbrev pub with_pair : Settable → Option (List ℕ × List ℕ) → Settable
 with_pair s None = s
 with_pair s (Some cut) = with_value s cut.0 cut.1
 
--- a setting by its text
+-- the parts after a setting with this text
 abbrev pub with_text : Settable → List ℕ → Settable
 with_text s text = with_pair s (cut_once 61 text)
 

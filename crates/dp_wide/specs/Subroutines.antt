@@ -1,4 +1,4 @@
--- The rows of `Gosub` and `GosubIf` whose subroutines know how many arguments they have.
+-- The rows of `Gosub` and `GosubIf`, with subroutines that know the number of their arguments.
 use Rattle.std.specs.Prelude.{ℕ, ◌-◌, List, [], ◌∷◌, ◌++◌, Option, Some, None, length, take, codes}
 use Rattle.std.specs.Fmt.{decimal}
 use Rattle.dp_conf.specs.Levels.{arguments_of}
@@ -11,28 +11,28 @@ use Rattle.dp_app.specs.declared.target.Target.TheVariants.{Existing}
 use Rattle.dp_flow.specs.Conditions.{chosen_side}
 use Rattle.dp_flow.specs.Jumps.{SubroutineCall, argument_locals, place_after, stays, subroutine_call}
 
--- a local of this name
+-- a local with this name
 abbrev pub local : List ℕ → List ℕ → Local
 local name value = record { name = name; value = value }
 
--- the locals of a subroutine: `ARG1`, `ARG2` and so on, and `ARGC`, how many these are
+-- the locals of a subroutine: `ARG1`, `ARG2` and so on, and their number `ARGC`
 abbrev pub counted_locals : List (List ℕ) → List Local
 counted_locals arguments = argument_locals 1 arguments ++ local (codes "ARGC") (decimal (length arguments)) ∷ []
 
--- a subroutine is entered with these locals: a frame is pushed that goes back to the place after this one, and the channel goes
--- to the target if an entry is found there
+-- the entry into a subroutine with these locals: it pushes a frame that returns to the place after this one, and sends the channel to the
+-- target if an entry is found there
 abbrev pub entered_with : CellOf → List Local → List (List ℕ) → Outcome
 entered_with cell locals target = record {
   cell = record cell { store = with_frame cell.store (place_after cell.place) locals };
   next = Jump (Existing target);
 }
 
--- a subroutine is entered, by the parts of its target before the last one
+-- the entry into a subroutine, given the parts of its target before the last one
 abbrev pub enter_counted : CellOf → List (List ℕ) → Option SubroutineCall → Outcome
 enter_counted cell front None = stays cell Hang
 enter_counted cell front (Some c) = entered_with cell (counted_locals c.arguments) (front ++ c.priority ∷ [])
 
--- a subroutine is entered by its target's parts
+-- the entry into a subroutine, given the parts of its target
 abbrev pub enter_parts : List (List ℕ) → CellOf → Outcome
 enter_parts parts cell = enter_counted cell (take (length parts - 1) parts) (subroutine_call parts)
 
@@ -40,7 +40,7 @@ enter_parts parts cell = enter_counted cell (take (length parts - 1) parts) (sub
 unfoldable pub gosub_row : Row
 gosub_row arguments cell = enter_parts (arguments_of arguments) cell
 
--- a subroutine is entered by the side that is taken, where one is
+-- the entry into the subroutine of the side that is taken, if there is one
 abbrev pub gosub_if : Option (List ℕ) → CellOf → Outcome
 gosub_if None cell = stays cell Next
 gosub_if (Some side) cell = gosub_row side cell

@@ -1,4 +1,4 @@
--- Functions of a text alone.
+-- The functions of a text alone.
 use Rattle.std.specs.Prelude.{ℕ, not, List, [], map}
 use Rattle.std.specs.Char.{to_ascii_lowercase, to_ascii_uppercase}
 use Rattle.std.specs.Option.{option_map_or}
@@ -10,7 +10,7 @@ use Rattle.dp_wide.specs.Texts.{kept_of}
 use Rattle.dp_wide.specs.declared.text_functions.TextFunction.{TextFunction}
 use Rattle.dp_wide.specs.declared.text_functions.TextFunction.TheVariants.{If, Filter, ToUpper, ToLower, IsNull, Exists}
 
--- the value of `FILTER`: the bytes that the set before the first comma has, of the text after it
+-- the value of `FILTER`: the bytes of the text after the first comma that are in the set before it
 abbrev pub filter_value : List ℕ → List ℕ
 filter_value argument = option_map_or (λ parts. kept_of parts.0 parts.1) (cut_once (byte ",") argument) []
 

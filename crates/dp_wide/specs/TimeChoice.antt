@@ -12,20 +12,20 @@ use Rattle.dp_flow.specs.Jumps.{jump_if, stays}
 use Rattle.dp_wide.specs.Times.{lies_in, moment_of}
 use Rattle.dp_wide.specs.declared.times.Moment.{Moment}
 
--- the moment that the global `CLOCK` writes, where it writes one
+-- the moment in the global `CLOCK`, if it has one
 abbrev pub clock_in : Named → Option Moment
 clock_in globals = moment_of (value_or_empty (globals ∷ []) (codes "CLOCK"))
 
--- whether a moment lies in `TIMES,WEEKDAYS,DAYS,MONTHS`, by these parts; a part that is missing is empty and means all, and a fifth and
--- what comes behind it have no effect
+-- whether a moment is in `TIMES,WEEKDAYS,DAYS,MONTHS`, given the parts; a missing part is empty and means all, and a fifth part and later
+-- ones have no effect
 abbrev pub lies_in_parts : List (List ℕ) → Moment → Bool
 lies_in_parts parts moment = lies_in moment (part 0 parts) (part 1 parts) (part 2 parts) (part 3 parts)
 
--- whether the clock lies in these ranges; where there is no moment, it lies in none, not even in all
+-- whether the clock is in these ranges; without a moment it is in none, not even in all
 abbrev pub is_time : Option Moment → List ℕ → Bool
 is_time clock ranges = option_map_or (lies_in_parts (arguments_of ranges)) clock false
 
--- the side of `RANGES?SIDE:SIDE` that is taken, where it is there
+-- the side of `RANGES?SIDE:SIDE` that is taken, if there is one
 abbrev pub timed_side : Option Moment → List ℕ → Option (List ℕ)
 timed_side clock arguments =
     option_and_then (λ cut. taken_side (is_time clock cut.0) cut.1) (cut_once (byte "?") arguments)

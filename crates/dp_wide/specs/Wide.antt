@@ -1,4 +1,4 @@
--- The wide table: its rows, and what is known of what its applications would do.
+-- The wide table: its rows, and the knowledge of what its applications would do.
 use Rattle.std.specs.Prelude.{ℕ, zero, suc, Bool, true, false, List, [], ◌∷◌, Option, Some, None, codes, if◌then◌else◌}
 use Rattle.std.specs.Option.{option_and_then}
 use Rattle.dp_conf.specs.Words.{same_word}
@@ -49,7 +49,7 @@ outside_table table = record {
   listed = table.listed;
 }
 
--- the applications that the twenty-one of this program do not have, or have otherwise, before those that only go on, those that run
+-- the table with the applications that this program's twenty-one lack or have in another form, before those that only go on, those that run
 -- outside, and the twenty-one
 abbrev pub own_table : Table
 own_table =
@@ -63,7 +63,7 @@ own_table =
     (with_application (codes "DBdel") the_globals delete_row delete_lawful
     (going_table (outside_table standard_table)))))))))
 
--- all of these but `ExecIf`, of which those that do not look at their arguments come first
+-- the whole table without `ExecIf`; the applications that do not look at their arguments come first
 unfoldable pub inner_table : Table
 inner_table =
     with_application (codes "NoOp") nothing next_row next_lawful
@@ -73,17 +73,17 @@ inner_table =
     (with_application (codes "Busy") nothing hangup_row hangup_lawful
     (with_application (codes "Congestion") nothing hangup_row hangup_lawful own_table)))))
 
--- the wide table: `ExecIf` runs what the table runs
+-- the wide table: its `ExecIf` runs what the table runs
 unfoldable pub wide_table : Table
 wide_table =
     with_application exec_if_title everything (exec_if_within 8 inner_table.rows)
     (exec_if_within_lawful 8 inner_table.touches inner_table.rows inner_table.lawful) inner_table
 
--- the row of each of its names
+-- the row for each of its names
 abbrev pub wide_rows : Rows
 wide_rows = wide_table.rows
 
--- what the application of each of its names may change
+-- what the application with each of its names may change
 abbrev pub wide_touches : List ℕ → Touch
 wide_touches = wide_table.touches
 
@@ -91,22 +91,22 @@ wide_touches = wide_table.touches
 pub wide_lawful : IsLawful wide_touches wide_rows
 wide_lawful = wide_table.lawful
 
--- each of its names has each of its spellings
+-- each of its names is found in each spelling
 pub wide_blind : IsBlind wide_touches wide_rows
 wide_blind = wide_table.blind
 
--- the applications that do not look at their arguments, beside those of the other lists
+-- the applications that do not look at their arguments, besides those of the other lists
 abbrev pub quiet_names : List (List ℕ)
 quiet_names =
     codes "NoOp" ∷ codes "Verbose" ∷ codes "Answer" ∷ codes "Hangup" ∷ codes "Busy" ∷ codes "Congestion" ∷ []
 
--- the applications of the table's own that look at theirs
+-- the table's own applications that look at their arguments
 abbrev pub own_names : List (List ℕ)
 own_names =
     codes "Set" ∷ codes "MSet" ∷ codes "GotoIfTime" ∷ codes "Gosub" ∷ codes "GosubIf" ∷ codes "Macro" ∷ codes "MacroExit" ∷ codes "DBdel"
     ∷ []
 
--- whether an application looks at its arguments, without `ExecIf`
+-- whether an application other than `ExecIf` looks at its arguments
 unfoldable pub inner_looks : List ℕ → Bool
 inner_looks name =
     if is_word_of quiet_names name then false
@@ -116,15 +116,15 @@ inner_looks name =
 abbrev pub wide_looks : List ℕ → Bool
 wide_looks name = if same_word name exec_if_title then true else inner_looks name
 
--- the application that runs in the end, and its arguments, where an `ExecIf` may run another and so many may stand inside each other;
--- none where nothing runs
+-- the application that finally runs, and its arguments, if an `ExecIf` may run another and so many may stand inside each other; None if
+-- nothing runs
 abbrev pub call_in_the_end : ℕ → List ℕ → List ℕ → Option (List ℕ × List ℕ)
 call_in_the_end zero name arguments = if same_word name exec_if_title then None else Some (name, arguments)
 call_in_the_end (suc more) name arguments =
     if same_word name exec_if_title then option_and_then (λ call. call_in_the_end more call.0 call.1) (exec_if_application arguments)
     else Some (name, arguments)
 
--- what an application asks that runs in the end: itself, where the table lacks it
+-- what the application that finally runs asks for: itself if the table lacks it
 abbrev pub call_asked : Sight → Option (List ℕ × List ℕ) → List ℕ
 call_asked sight None = []
 call_asked sight (Some call) =
@@ -132,10 +132,10 @@ call_asked sight (Some call) =
     then (if inner_looks call.0 then inner_asked sight call.0 call.1 else [])
     else call.0
 
--- what an application asks with its arguments that is not known
+-- the unknown things that an application asks for with its arguments
 unfoldable pub wide_asks : Sight → List ℕ → List ℕ → List ℕ
 wide_asks sight name arguments = call_asked sight (call_in_the_end 8 name arguments)
 
--- what is known of the wide table
+-- the knowledge of the wide table
 abbrev pub wide_knowledge : Knowledge
 wide_knowledge = record { looks = wide_looks; asks = wide_asks }

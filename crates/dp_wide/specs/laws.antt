@@ -1,4 +1,4 @@
--- Proofs of what the ghost members of applications and tables say, which stand here since these members name them.
+-- Proofs of what the ghost members of applications and tables say. They are here because these members name them.
 pub mod Choices
 pub mod DeletingLawful
 pub mod GoingLawful

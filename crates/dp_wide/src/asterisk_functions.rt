@@ -5,7 +5,7 @@ ghost use Rattle.dp_wide.specs.Names.{is_text_of};
 
 use crate::names::is_text_of;
 
-/// Those whose first letter is A to C.
+/// The names that begin with A to C.
 const FUNCTIONS_A_TO_C: [&[u8]; 35] = [
     b"AES_DECRYPT",
     b"AES_ENCRYPT",
@@ -44,7 +44,7 @@ const FUNCTIONS_A_TO_C: [&[u8]; 35] = [
     b"CUT",
 ];
 
-/// Those whose first letter is D to E.
+/// The names that begin with D to E.
 const FUNCTIONS_D_TO_E: [&[u8]; 24] = [
     b"DB",
     b"DB_DELETE",
@@ -72,7 +72,7 @@ const FUNCTIONS_D_TO_E: [&[u8]; 24] = [
     b"EXTENSION_STATE",
 ];
 
-/// Those whose first letter is F to I.
+/// The names that begin with F to I.
 const FUNCTIONS_F_TO_I: [&[u8]; 31] = [
     b"FAXOPT",
     b"FEATURE",
@@ -107,7 +107,7 @@ const FUNCTIONS_F_TO_I: [&[u8]; 31] = [
     b"ISNULL",
 ];
 
-/// Those whose first letter is J to O.
+/// The names that begin with J to O.
 const FUNCTIONS_J_TO_O: [&[u8]; 24] = [
     b"JABBER_RECEIVE",
     b"JABBER_STATUS",
@@ -135,7 +135,7 @@ const FUNCTIONS_J_TO_O: [&[u8]; 24] = [
     b"ODBC_FETCH",
 ];
 
-/// Those whose first letter is P to Q.
+/// The names that begin with P to Q.
 const FUNCTIONS_P_TO_Q: [&[u8]; 28] = [
     b"PASSTHRU",
     b"PERIODIC_HOOK",
@@ -167,7 +167,7 @@ const FUNCTIONS_P_TO_Q: [&[u8]; 28] = [
     b"QUOTE",
 ];
 
-/// Those whose first letter is R to S.
+/// The names that begin with R to S.
 const FUNCTIONS_R_TO_S: [&[u8]; 42] = [
     b"RAND",
     b"REALTIME",
@@ -213,7 +213,7 @@ const FUNCTIONS_R_TO_S: [&[u8]; 42] = [
     b"SYSINFO",
 ];
 
-/// Those whose first letter is T to Z.
+/// The names that begin with T to Z.
 const FUNCTIONS_T_TO_Z: [&[u8]; 17] = [
     b"TALK_DETECT",
     b"TESTTIME",
@@ -290,7 +290,7 @@ fn is_one_t_to_z(name: &[u8]) -> bool
     is_text_of(&FUNCTIONS_T_TO_Z, name)
 }
 
-/// Whether a name is that of a function of Asterisk 20, as `DB` or `STRFTIME`. Names are compared byte by byte.
+/// Whether a name is that of a function of Asterisk 20, such as `DB` or `STRFTIME`. Names are compared byte by byte.
 pub fn is_asterisk_function(name: &[u8]) -> bool
     ensures { result ≡ spec.is_asterisk_function name.now }
 {

@@ -1,7 +1,7 @@
-//! Brackets that Asterisk counts inside of groups, after the Asterisk documentation's pages on variables and on expressions.
+//! Brackets that Asterisk counts inside groups, after the Asterisk documentation's pages on variables and on expressions.
 //!
-//! Inside of `${` Asterisk counts each `{` with its `}`, and inside of `$[` each `[` with its `]`. This program does not. A text in
-//! which that makes a difference is not read at all (a choice of this program).
+//! Inside `${` Asterisk counts each `{` with its `}`, and inside `$[` each `[` with its `]`. This program does not. It does not read a text
+//! at all if that makes a difference (a choice of this program).
 ghost use Rattle.std.specs.Prelude.{◌≡◌, ◌≤◌, ◌∷◌, ℕ, List, [], IfOk, OnErr, OnOk, is_some, length};
 ghost use Rattle.dp_conf.specs.Groups as groups;
 ghost use Rattle.dp_conf.specs.GroupsRead as reading;
@@ -12,7 +12,7 @@ use dp_conf::{GroupKind, Mark, NoMemory};
 use std::alloc::Global;
 use std::marker::Model;
 
-/// Whether the byte ends a group of this kind, where there is one.
+/// Whether the byte ends a group of this kind, if there is one.
 fn is_end(innermost: Option<GroupKind>, byte: u8) -> bool
     ensures { result ≡ reading.is_end_of innermost byte }
 {
@@ -23,7 +23,7 @@ fn is_end(innermost: Option<GroupKind>, byte: u8) -> bool
     }
 }
 
-/// The kind of group that a `$` with this byte after it opens.
+/// The kind of group that a `$` followed by this byte opens.
 fn kind_of(byte: u8) -> Option<GroupKind>
     ensures { result ≡ groups.kind_of byte }
 {
@@ -34,7 +34,7 @@ fn kind_of(byte: u8) -> Option<GroupKind>
     }
 }
 
-/// The kind of group that a byte opens, by the bytes after it.
+/// The kind of group that a byte opens, given the bytes after it.
 fn opening(byte: u8, after: &[u8]) -> Option<GroupKind>
     ensures { result ≡ groups.opening byte after.now }
 {
@@ -44,7 +44,7 @@ fn opening(byte: u8, after: &[u8]) -> Option<GroupKind>
     }
 }
 
-/// Whether Asterisk counts the byte inside of a group of this kind.
+/// Whether Asterisk counts the byte inside a group of this kind.
 fn counts_in(byte: u8, kind: GroupKind) -> bool
     ensures { result ≡ spec.counts_in byte kind }
 {
@@ -54,7 +54,7 @@ fn counts_in(byte: u8, kind: GroupKind) -> bool
     }
 }
 
-/// The groups that are open at a place of a text. A contract sees their kinds, the innermost first.
+/// The open groups at a place in a text. A contract sees their kinds, innermost first.
 #[derive(Drop)]
 struct OpenGroups {
     kinds: Vec<GroupKind>,
@@ -70,7 +70,7 @@ impl Model for OpenGroups {
 }
 
 impl OpenGroups {
-    /// No group. It never allocates.
+    /// No groups. It never allocates.
     fn new(alloc: Global) -> Self
         ensures { result ≡ [] }
     {
@@ -89,7 +89,7 @@ impl OpenGroups {
         }
     }
 
-    /// What a byte is, by the bytes after it.
+    /// The meaning of a byte, given the bytes after it.
     fn mark(&self, byte: u8, after: &[u8]) -> Mark
         ensures { result ≡ reading.mark_at self.now byte after.now }
     {
@@ -102,7 +102,7 @@ impl OpenGroups {
         }
     }
 
-    /// Whether Asterisk counts a byte inside of one of them.
+    /// Whether Asterisk counts a byte inside one of these groups.
     fn count(&self, byte: u8) -> bool
         ensures { result ≡ spec.is_counted (Mark.Byte byte) self.now }
     {
@@ -119,7 +119,7 @@ impl OpenGroups {
         }
     }
 
-    /// Takes a mark. After a refused growth all is as before.
+    /// Takes a mark. If memory runs out nothing changes.
     fn take(&mut self, mark: Mark) -> Result<(), NoMemory>
         ensures ok { OnOk result (self.new ≡ spec.open_after mark self.old) }
         ensures err { OnErr result (self.new ≡ self.old) }
@@ -138,7 +138,7 @@ impl OpenGroups {
     }
 }
 
-/// A text without its first byte, where it has one.
+/// A text without its first byte, if it has one.
 fn without_first(text: &[u8]) -> &[u8]
     ensures counted { (kinds : List GroupKind) → spec.has_counted result.now kinds 0 ≡ spec.has_counted text.now kinds 1 }
     ensures shorter { length result.now ≤ length text.now }
@@ -149,7 +149,7 @@ fn without_first(text: &[u8]) -> &[u8]
     }
 }
 
-/// What stands after a mark, by the bytes after its first.
+/// The text after a mark, given the bytes after its first.
 fn behind(mark: Mark, after: &[u8]) -> &[u8]
     ensures counted { (kinds : List GroupKind) → spec.has_counted result.now kinds 0 ≡ spec.has_counted after.now kinds (spec.bytes_left mark) }
     ensures shorter { length result.now ≤ length after.now }
@@ -160,9 +160,9 @@ fn behind(mark: Mark, after: &[u8]) -> &[u8]
     }
 }
 
-/// Whether the groups of a text are those that Asterisk reads in it.
+/// Whether the groups of a text are the same as those that Asterisk reads in it.
 ///
-/// It never allocates for a text with no `$`. The error comes only where a growth was refused.
+/// It never allocates for a text without a `$`. It fails only if memory runs out.
 pub(crate) fn reads(alloc: Global, text: &[u8]) -> Result<bool, NoMemory>
     ensures { IfOk result (λ is. is ≡ spec.reads text.now) }
 {

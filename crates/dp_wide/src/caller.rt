@@ -1,7 +1,7 @@
 //! The caller, after the Asterisk documentation's page on the function `CALLERID`.
 //!
 //! `CALLERID(num)` and `CALLERID(number)` are the caller's number, and `CALLERID(all)` is `"NAME" <NUMBER>`. NAME is the cell
-//! `CALLERID(name)`, and so is every other part of the caller a cell (a choice of this program).
+//! `CALLERID(name)`, and every other part of the caller is a cell too (a choice of this program).
 ghost use Rattle.std.specs.Prelude.{◌≡◌, IfOk};
 ghost use Rattle.std.specs.Option.{option_map};
 ghost use Rattle.dp_vars.specs.Shown.{value_bytes};
@@ -13,7 +13,7 @@ use dp_conf::NoMemory;
 use dp_vars::{ChannelSeen, Counts, FoundValue, FunctionValue, Scope, is_set, value_of};
 use std::alloc::Global;
 
-/// The number of the caller; empty where there is no channel.
+/// The number of the caller; empty if there is no channel.
 fn number_of<'a>(channel: Option<ChannelSeen<'a>>) -> &'a [u8]
     ensures { result.now ≡ caller_of (option_map view_of channel.entry) }
 {
@@ -37,7 +37,7 @@ fn asks_all(argument: &[u8]) -> bool
     argument == b"all".as_slice()
 }
 
-/// A name and a number in one text.
+/// The text of a name and a number.
 fn caller_text(alloc: Global, name: &[u8], number: &[u8]) -> Result<Vec<u8>, NoMemory>
     ensures { IfOk result (λ text. text.items ≡ spec.caller_text name.now number.now) }
 {
@@ -49,7 +49,7 @@ fn caller_text(alloc: Global, name: &[u8], number: &[u8]) -> Result<Vec<u8>, NoM
     Ok(text)
 }
 
-/// The name and the number of the caller in one text, which is known where the name is.
+/// The name and the number of the caller in one text, which is known if the name is.
 fn all_value<'a, B, C: Counts>(
     alloc: Global,
     scope: &Scope<'a, B, C>,
@@ -67,7 +67,7 @@ fn all_value<'a, B, C: Counts>(
     })
 }
 
-/// The part of the caller that an argument asks for. The number is known, and what reads a cell is where that is.
+/// The part of the caller that an argument asks for. The number is known, and a text that reads a cell is known if the cell is.
 pub(crate) fn caller_value<'a, B, C: Counts>(
     alloc: Global,
     scope: &Scope<'a, B, C>,

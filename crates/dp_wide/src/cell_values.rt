@@ -1,6 +1,6 @@
-//! What cells have been set to, after the Asterisk documentation's pages on functions.
+//! The values that were written to cells, after the Asterisk documentation's pages on functions.
 //!
-//! That a cell keeps what was written in it, and is not known before unless a script says that it is empty, is a choice of this program.
+//! A cell keeps what was written to it. Before that it is unknown unless a script says that it is empty. This is a choice of this program.
 ghost use Rattle.std.specs.Prelude.{◌≡◌, ◌||◌, IfOk};
 ghost use Rattle.dp_vars.specs.Shown.{value_bytes};
 ghost use Rattle.dp_vars.specs.Sights.{sight_of};
@@ -11,14 +11,14 @@ use dp_conf::NoMemory;
 use dp_vars::{Counts, FoundValue, FunctionValue, Scope, is_set, variable};
 use std::alloc::Global;
 
-/// The name of the global that says of a function that those of its cells are empty which nothing wrote.
+/// The name of the global that says of a function that its unwritten cells are empty.
 pub fn assumed_name(alloc: Global, function: &[u8]) -> Result<Vec<u8>, NoMemory>
     ensures { IfOk result (λ name. name.items ≡ spec.assumed_name function.now) }
 {
     cell_name(alloc, b"ASSUMED", function)
 }
 
-/// Whether a script said of a function that those of its cells are empty which nothing wrote.
+/// Whether a script said of a function that its unwritten cells are empty.
 fn is_assumed<B, C: Counts>(
     alloc: Global,
     scope: &Scope<'_, B, C>,
@@ -30,7 +30,7 @@ fn is_assumed<B, C: Counts>(
     Ok(scope.globals.has(&name))
 }
 
-/// Whether a cell of a function is known, by whether something wrote it.
+/// Whether a cell of a function is known, given whether something has written it.
 pub(crate) fn knows_cell<B, C: Counts>(
     alloc: Global,
     scope: &Scope<'_, B, C>,
@@ -45,8 +45,7 @@ pub(crate) fn knows_cell<B, C: Counts>(
     is_assumed(alloc, scope, function)
 }
 
-/// The value of a function of an argument that is a cell, which is known where something wrote it, or where a script said that it is
-/// empty.
+/// The value of a function with an argument that is a cell. It is known if something has written it, or if a script said that it is empty.
 pub(crate) fn cell_value<'a, B, C: Counts>(
     alloc: Global,
     scope: &Scope<'a, B, C>,

@@ -1,11 +1,11 @@
-//! Cells: variables whose names are those of a function with its argument, as `DB(fwd/200)`.
+//! Cells: variables named after a function with its argument, such as `DB(fwd/200)`.
 ghost use Rattle.std.specs.Prelude.{◌≡◌, IfOk};
 ghost use Rattle.dp_wide.specs.Cells as spec;
 
 use dp_conf::NoMemory;
 use std::alloc::Global;
 
-/// Whether the cells of a function are of all channels, so that they are globals.
+/// Whether the cells of a function belong to all channels, so that they are globals.
 pub(crate) fn is_of_all(function: &[u8]) -> bool
     ensures { result ≡ spec.is_of_all function.now }
 {
@@ -16,7 +16,7 @@ pub(crate) fn is_of_all(function: &[u8]) -> bool
         || function == b"ENV".as_slice()
 }
 
-/// The name of the variable that a cell is.
+/// The name of the variable for a cell.
 pub(crate) fn cell_name(
     alloc: Global,
     function: &[u8],

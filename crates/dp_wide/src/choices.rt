@@ -6,7 +6,7 @@ use dp_conf::trim;
 use dp_flow::chosen_side;
 
 /// The value of `IF(condition?[side][:side])`, after the Asterisk documentation's page on the function `IF`: the side that is taken,
-/// without the blanks at its ends. The sides are cut as those of `GotoIf` are, and one that is not there is empty.
+/// without blanks at its ends. The sides are separated like those of `GotoIf`, and a missing side is empty.
 pub fn if_value(argument: &[u8]) -> &[u8]
     ensures { result.now ≡ spec.if_value argument.now }
 {

@@ -8,7 +8,7 @@ use dp_conf::{NoMemory, trim};
 use dp_vars::Globals;
 use std::alloc::Global;
 
-/// Makes the cell of a key of the database empty. After a refused growth the globals are as before.
+/// Empties the cell of a key of the database. If memory runs out the globals are as before.
 pub(crate) fn empty_key(alloc: Global, globals: &mut Globals, key: &[u8]) -> Result<(), NoMemory>
     ensures ok { OnOk result (globals.new ≡ spec.with_empty_key globals.old key.now) }
     ensures err { OnErr result (globals.new ≡ globals.old) }
@@ -19,7 +19,7 @@ pub(crate) fn empty_key(alloc: Global, globals: &mut Globals, key: &[u8]) -> Res
 
 /// `DBdel(family/key)`: the cell `DB(family/key)` is empty from now on. The channel goes on.
 ///
-/// That a key which was deleted is known to be empty, where one that nothing wrote is unknown, is a choice of this program.
+/// A key that was deleted is known to be empty, while a key that nothing wrote is unknown. This is a choice of this program.
 pub struct DbDel;
 
 impl Application for DbDel {

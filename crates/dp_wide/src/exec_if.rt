@@ -15,7 +15,7 @@ use dp_flow::{holds, taken_side};
 use std::alloc::Global;
 use std::marker::PhantomData;
 
-/// The text up to its last `)`, or all of it where there is none.
+/// The text before its last `)`, or all of it if there is none.
 fn before_closing(text: &[u8]) -> &[u8]
     ensures { result.now ≡ unwrap_or (before_last 41 text.now) text.now }
 {
@@ -25,7 +25,7 @@ fn before_closing(text: &[u8]) -> &[u8]
     }
 }
 
-/// The application that a side writes, by its name and its arguments.
+/// The application that a side names, with its arguments.
 fn called_side(side: &[u8]) -> (&[u8], &[u8])
     ensures { (result.0.now, result.1.now) ≡ sides.called_side side.now }
 {
@@ -36,7 +36,7 @@ fn called_side(side: &[u8]) -> (&[u8], &[u8])
     }
 }
 
-/// An application by its name and its arguments, where the name is not empty.
+/// An application with its name and arguments, unless the name is empty.
 fn named_call<'a>(name: &'a [u8], arguments: &'a [u8]) -> Option<(&'a [u8], &'a [u8])>
     ensures { option_map (λ call. (call.0.now, call.1.now)) result ≡ spec.named_call name.now arguments.now }
 {
@@ -46,7 +46,7 @@ fn named_call<'a>(name: &'a [u8], arguments: &'a [u8]) -> Option<(&'a [u8], &'a 
     Some((name, arguments))
 }
 
-/// The application that `NAME,ARGUMENTS` writes.
+/// The application that `NAME,ARGUMENTS` names.
 fn called_part(text: &[u8]) -> Option<(&[u8], &[u8])>
     ensures { option_map (λ call. (call.0.now, call.1.now)) result ≡ spec.called_part text.now (cut_outside 44 text.now) }
 {
@@ -67,14 +67,14 @@ fn called_old(arguments: &[u8]) -> Option<(&[u8], &[u8])>
     called_part(rest)
 }
 
-/// The name and the arguments of the application that an `ExecIf` with these expanded arguments runs, or None where it runs none.
+/// The name and the arguments of the application that an `ExecIf` with these expanded arguments runs, or None if it runs none.
 ///
-/// In `CONDITION?[SIDE][:SIDE]` the condition ends at the first `?`, and the sides are cut as those of `GotoIf` are. A side is
-/// `NAME` or `NAME(ARGUMENTS)`, of which the arguments go up to its last `)`. Without a `)` they go to the end, and a side that is
-/// not there, or of blanks alone, runs nothing (choices of this program).
+/// In `CONDITION?[SIDE][:SIDE]` the condition ends at the first `?`, and the sides are separated like those of `GotoIf`. A side is `NAME`
+/// or `NAME(ARGUMENTS)`; the arguments end at its last `)`. Without a `)` they go to the end of the side. A side that is missing, or of
+/// blanks alone, runs nothing (choices of this program).
 ///
-/// Where a comma outside parentheses comes before the first `?`, or there is no `?`, it is the old form
-/// `CONDITION,NAME[,ARGUMENTS]`, of which the arguments are all behind the second comma outside parentheses, as they stand.
+/// If a comma outside parentheses comes before the first `?`, or there is no `?`, it is the old form `CONDITION,NAME[,ARGUMENTS]`. Its
+/// arguments are everything after the second comma outside parentheses, unchanged.
 #[tactic(auto, unfolding(crate::specs::Choices::exec_if_application, dp_flow::specs::Conditions::chosen_side))]
 pub fn exec_if_application(arguments: &[u8]) -> Option<(&[u8], &[u8])>
     ensures { option_map (λ call. (call.0.now, call.1.now)) result ≡ spec.exec_if_application arguments.now }
@@ -110,8 +110,8 @@ fn run_or_end<T: AppTable>(
     }
 }
 
-/// `ExecIf(condition?[side][:side])`: the side that is taken is an application, which runs out of the table `T`. Where there is none
-/// the channel goes on, and a name that the table lacks ends the call (a choice of this program).
+/// `ExecIf(condition?[side][:side])`: the side that is taken names an application of the table `T`, which runs. Without such a side the
+/// channel goes on, and a name that the table lacks ends the call (a choice of this program).
 pub struct ExecIf<T> {
     table: PhantomData<T>,
 }
@@ -180,18 +180,18 @@ impl Application for ExecIfEnd {
 /// The table `T` with an `ExecIf` that runs the applications of another table.
 type Around<Inner, T> = With<ExecIf<Inner>, T>;
 
-/// The same with two of them, one inside the other.
+/// The same with two of them, nested.
 type Two<Inner, T> = Around<Around<Inner, T>, T>;
 
-/// The same with four of them.
+/// The same with four of them, nested.
 type Four<Inner, T> = Two<Two<Inner, T>, T>;
 
-/// The table `T` with `ExecIf`, which runs the applications of that same table: one inside 8 others ends the call (a choice of this
+/// The table `T` with `ExecIf`, which runs the applications of this table; an `ExecIf` inside 8 others ends the call (a choice of this
 /// program).
 pub type WithExecIf<T> = Four<Four<With<ExecIfEnd, T>, T>, T>;
 
-/// Runs the application of this name out of the table `T` with `ExecIf`, or gives None where the table lacks the name. After a refused
-/// growth the cell is as before.
+/// Runs the application with this name from the table `T` with `ExecIf`, or gives None if the table lacks the name. If memory runs out the
+/// cell is as before.
 pub(crate) fn dispatch_with_exec_if<T: AppTable>(
     alloc: Global,
     name: &[u8],

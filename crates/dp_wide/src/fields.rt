@@ -1,7 +1,7 @@
-//! Fields of the value of a group, after the Asterisk documentation's pages on the functions `CUT` and `FIELDQTY`.
+//! Fields of a group's value, after the Asterisk documentation's pages on the functions `CUT` and `FIELDQTY`.
 //!
-//! `CUT(NAME,D,FIELDS)` and `FIELDQTY(NAME,D)` read the value of the group `${NAME}`. So NAME may ask for a part, as `EXTEN:2`, or
-//! be a call of a function, and it is known where that group is.
+//! `CUT(NAME,D,FIELDS)` and `FIELDQTY(NAME,D)` read the value of the group `${NAME}`. So NAME may ask for a part, such as `EXTEN:2`, or be
+//! a function call, and the result is known if that group is.
 ghost use Rattle.std.specs.Prelude.{◌≡◌, IfOk};
 ghost use Rattle.dp_vars.specs.Shown.{value_bytes};
 ghost use Rattle.dp_vars.specs.Sights.{sight_of};
@@ -12,14 +12,14 @@ use dp_conf::{NoMemory, cut_outside};
 use dp_vars::{Counts, Expanded, FoundValue, FunctionValue, Functions, Scope, group_value};
 use std::alloc::Global;
 
-/// The value of the group of a name, and whether it is known.
+/// The value of the group with a name, and whether it is known.
 #[derive(Drop)]
 struct NamedValue {
     bytes: Vec<u8>,
     is_known: bool,
 }
 
-/// What stands before the first comma outside parentheses, or all.
+/// The text before the first comma outside parentheses, or the whole text.
 fn first_argument(text: &[u8]) -> &[u8]
     ensures { result.now ≡ spec.first_argument text.now }
 {
@@ -29,7 +29,7 @@ fn first_argument(text: &[u8]) -> &[u8]
     }
 }
 
-/// What stands after that comma, or nothing.
+/// The text after that comma, or nothing.
 fn other_arguments(text: &[u8]) -> &[u8]
     ensures { result.now ≡ spec.other_arguments text.now }
 {
@@ -39,7 +39,8 @@ fn other_arguments(text: &[u8]) -> &[u8]
     }
 }
 
-/// The byte at which `CUT` cuts, and what chooses fields. A comma after a `\` at the front parts nothing (a choice of this program).
+/// The byte at which `CUT` cuts, and the text that chooses fields. A comma after a leading `\` separates nothing (a choice of this
+/// program).
 fn way_of(arguments: &[u8]) -> (u8, &[u8])
     ensures byte { result.0 ≡ (spec.way_of arguments.now).0 }
     ensures fields { result.1.now ≡ (spec.way_of arguments.now).1 }
@@ -53,7 +54,7 @@ fn way_of(arguments: &[u8]) -> (u8, &[u8])
     }
 }
 
-/// The value of the group of a name.
+/// The value of the group with a name.
 fn named_value<F: Functions, B, C: Counts>(
     alloc: Global,
     scope: &Scope<'_, B, C>,
@@ -87,7 +88,7 @@ pub(crate) fn cut_value<'a, F: Functions, B, C: Counts>(
     Ok(FunctionValue { value, is_known })
 }
 
-/// How many fields the value has that an argument of `FIELDQTY` names. All that stands after the name is the second argument.
+/// The number of fields of the value that an argument of `FIELDQTY` names. Everything after the name is the second argument.
 pub(crate) fn count_value<'a, F: Functions, B, C: Counts>(
     alloc: Global,
     scope: &Scope<'a, B, C>,

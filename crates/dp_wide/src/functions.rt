@@ -1,11 +1,11 @@
 //! The functions of the wide table, after the Asterisk documentation's pages on functions.
 //!
-//! They are the five of every dialplan, those of fields, of texts, of keys and of queues, and cells: a name that is none of these, as
-//! `CDR` or `DEVICE_STATE`, has for each argument what was written there.
+//! They are the five of every dialplan, those of fields, of texts, of keys and of queues, and cells: any other name, such as `CDR` or
+//! `DEVICE_STATE`, has for each argument the value that was written there.
 //!
-//! What a function may not know, a text that calls it does not know. `INC`, `DEC`, `SHIFT`, `POP`, `EVAL` and `HASH` change variables
-//! or read texts anew, which no value can. `REGEX` is left unknown as well: reading its expressions would put the library of regular
-//! expressions below every run of a dialplan.
+//! If a function may not know its value, a text that calls it does not know its own. `INC`, `DEC`, `SHIFT`, `POP`, `EVAL` and `HASH` change
+//! variables or read texts again, which no value can do. `REGEX` is left unknown as well: to read its expressions, every run of a dialplan
+//! would depend on the library of regular expressions.
 ghost use Rattle.std.specs.Prelude.{◌≡◌, IfOk};
 ghost use Rattle.dp_vars.specs.Shown.{value_bytes};
 ghost use Rattle.dp_vars.specs.Sights.{sight_of};
@@ -29,20 +29,20 @@ use dp_vars::{
 use std::alloc::Global;
 use std::marker::PhantomData;
 
-/// A function that this table has beside the five of every dialplan.
+/// A function that this table has besides the five of every dialplan.
 #[derive(Clone, Copy)]
 pub(crate) enum WideFunction {
     /// Some fields of a value.
     Cut,
-    /// How many fields a value has.
+    /// The number of fields of a value.
     FieldQty,
     OfText(TextFunction),
     OfSight(SightFunction),
-    /// One that reads or does more than this machine follows.
+    /// A function that reads or does more than this machine follows.
     Foreign,
 }
 
-/// The function of a text of this name.
+/// The function of a text with this name.
 fn text_function_of(name: &[u8]) -> Option<TextFunction>
     ensures { result ≡ spec.text_function_of name.now }
 {
@@ -63,7 +63,7 @@ fn text_function_of(name: &[u8]) -> Option<TextFunction>
     }
 }
 
-/// The function of a key or of the name of a queue that has this name.
+/// The function of a key or of a queue's name that has this name.
 fn sight_function_of(name: &[u8]) -> Option<SightFunction>
     ensures { result ≡ spec.sight_function_of name.now }
 {
@@ -80,7 +80,7 @@ fn sight_function_of(name: &[u8]) -> Option<SightFunction>
     }
 }
 
-/// Whether the function of this name reads or does more than this machine follows.
+/// Whether the function with this name reads or does more than this machine follows.
 fn is_foreign(name: &[u8]) -> bool
     ensures { result ≡ spec.is_foreign name.now }
 {
@@ -93,7 +93,7 @@ fn is_foreign(name: &[u8]) -> bool
         || name == b"HASH".as_slice()
 }
 
-/// The function of a text, or of what a text can see, that has this name.
+/// The function of a text, or of what a text can see, with this name.
 fn plain_function_of(name: &[u8]) -> Option<WideFunction>
     ensures { result ≡ spec.plain_function_of name.now }
 {
@@ -106,7 +106,7 @@ fn plain_function_of(name: &[u8]) -> Option<WideFunction>
     }
 }
 
-/// The function of this name beside the five of every dialplan, or None where the name is that of cells.
+/// The function with this name besides the five of every dialplan, or None if the name is that of cells.
 fn wide_function_of(name: &[u8]) -> Option<WideFunction>
     ensures { result ≡ spec.wide_function_of name.now }
 {
@@ -121,7 +121,7 @@ fn wide_function_of(name: &[u8]) -> Option<WideFunction>
     }
 }
 
-/// Whether the name is that of a function, and not of cells alone.
+/// Whether the name is that of a function and not only of cells.
 pub fn is_computed(name: &[u8]) -> bool
     ensures { result ≡ spec.is_computed name.now }
 {
@@ -149,7 +149,7 @@ fn five_value<'a, B, C: Counts>(
     }
 }
 
-/// The value of a function that this table has beside those.
+/// The value of a further function of this table.
 fn wide_value<'a, F: Functions, B, C: Counts>(
     alloc: Global,
     scope: &Scope<'a, B, C>,
@@ -179,7 +179,7 @@ fn wide_value<'a, F: Functions, B, C: Counts>(
     }
 }
 
-/// The value of any other name than the five.
+/// The value of a name other than the five.
 fn other_value<'a, F: Functions, B, C: Counts>(
     alloc: Global,
     scope: &Scope<'a, B, C>,
@@ -197,7 +197,7 @@ fn other_value<'a, F: Functions, B, C: Counts>(
     }
 }
 
-/// Whether a plain name has a value that comes from outside.
+/// Whether a plain name has a value from outside.
 fn comes_from_outside<B, C: Counts>(scope: &Scope<'_, B, C>, name: &[u8]) -> bool
     ensures { result ≡ spec.comes_from_outside (sight_of C.count scope.now) name.now }
 {
@@ -214,7 +214,7 @@ fn is_known_name<B, C: Counts>(scope: &Scope<'_, B, C>, name: &[u8]) -> bool
     true
 }
 
-/// No functions: a call is empty and not known.
+/// No functions: every function call is empty and unknown.
 struct NoCalls;
 
 impl Functions for NoCalls {
@@ -249,7 +249,7 @@ impl Functions for NoCalls {
     }
 }
 
-/// The functions, where those of `F` read the names in arguments.
+/// The functions when those of `F` read the names in arguments.
 struct Around<F> {
     inner: PhantomData<F>,
 }
@@ -294,11 +294,11 @@ impl<F: Functions> Functions for Around<F> {
 /// The functions with four more calls around those of `F`.
 type Four<F> = Around<Around<Around<Around<F>>>>;
 
-/// The functions where at most 8 calls stand inside each other.
+/// The functions when at most 8 function calls stand inside each other.
 type Nested = Four<Four<NoCalls>>;
 
-/// The functions of the wide table. At most 8 calls stand inside each other in one group. A call that is deeper is empty and not known
-/// (a choice of this program).
+/// The functions of the wide table. At most 8 function calls stand inside each other in one group. A deeper call is empty and unknown (a
+/// choice of this program).
 pub struct WideFunctions;
 
 impl Functions for WideFunctions {

@@ -1,4 +1,4 @@
-//! The applications that go on here, after the Asterisk documentation's application reference. What they do outside this program,
+//! The applications that only go on here, after the Asterisk documentation's application reference. Their work outside this program, such
 //! as to play, to record or to write a log, is left out.
 ghost use Rattle.std.specs.Prelude.{◌≡◌};
 ghost use Rattle.dp_wide.specs.Going as spec;
@@ -58,7 +58,7 @@ const GOING: [&[u8]; 44] = [
     b"MessageSend",
 ];
 
-/// Whether the application of a name goes on here and changes nothing (a choice of this program). Names of applications are
+/// Whether the application with a name only goes on here, and changes nothing (a choice of this program). Names of applications are
 /// compared without regard to ASCII case.
 #[tactic(auto, unfolding(crate::specs::Going::going_names))]
 pub fn goes_on(name: &[u8]) -> bool
@@ -67,8 +67,8 @@ pub fn goes_on(name: &[u8]) -> bool
     is_word_of(&GOING, name)
 }
 
-/// A table in which the applications that go on come first, each before the same name of the other table: the channel goes on at
-/// the next priority, with nothing changed.
+/// A table in which the applications that only go on come first, each before the same name of the other table: the channel goes on at the
+/// next priority, and nothing changes.
 pub struct WithGoing<T> {
     types: PhantomData<T>,
 }

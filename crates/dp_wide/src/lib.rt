@@ -1,5 +1,5 @@
-//! The wide table: the applications and the functions of a dialplan that people use, after the Asterisk documentation's application and
-//! function references, and the plain functions over texts and moments of which they are made.
+//! The wide table: the applications and functions that people use in dialplans, after the Asterisk documentation's application and function
+//! references, and the plain functions over texts and moments from which they are made.
 #![tactic(auto)]
 
 mod asterisk_functions;

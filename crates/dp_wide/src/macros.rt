@@ -11,7 +11,7 @@ use dp_conf::{NoMemory, cut_outside, trim};
 use dp_vars::Local;
 use std::alloc::Global;
 
-/// The locals of a macro by its arguments' text, and by the place that called it.
+/// The locals of a macro, given the text of its arguments and the place of the caller.
 fn macro_locals(alloc: Global, place: &Place, arguments: &[u8]) -> Result<Vec<Local>, NoMemory>
     ensures { IfOk result (λ locals. locals.items ≡ spec.macro_locals place.now (inner_arguments arguments.now)) }
 {
@@ -27,7 +27,7 @@ fn macro_locals(alloc: Global, place: &Place, arguments: &[u8]) -> Result<Vec<Lo
     Ok(locals)
 }
 
-/// Where a macro begins.
+/// The start of a macro.
 fn macro_target(alloc: Global, name: &[u8]) -> Result<TargetParts, NoMemory>
     ensures { IfOk result (λ target. target ≡ spec.macro_target name.now) }
 {
@@ -36,7 +36,7 @@ fn macro_target(alloc: Global, name: &[u8]) -> Result<TargetParts, NoMemory>
     TargetParts::with_last(alloc, &[&context, b"s"], b"1")
 }
 
-/// A macro is entered by its name and its arguments' text. After a refused growth the cell is as before.
+/// Enters a macro, given its name and the text of its arguments. If memory runs out the cell is as before.
 fn enter_macro(
     alloc: Global,
     name: &[u8],
@@ -55,11 +55,11 @@ fn enter_macro(
     Ok(going)
 }
 
-/// `Macro(name[,arguments])`: as `Gosub` of the extension `s` of the context `macro-name`, where the locals `MACRO_EXTEN`,
-/// `MACRO_CONTEXT` and `MACRO_PRIORITY` are the place that called.
+/// `Macro(name[,arguments])`: does `Gosub` to the extension `s` of the context `macro-name`, with the place of the caller in the locals
+/// `MACRO_EXTEN`, `MACRO_CONTEXT` and `MACRO_PRIORITY`.
 ///
-/// Where no entry is found there, the call ends as with `Gosub`: the frame is pushed and the channel hangs up (a choice of this
-/// program). In Asterisk the channel goes on at the next priority. An application sees no dialplan, and so cannot choose between the two.
+/// If no entry is found there, the call ends as with `Gosub`: the frame is pushed and the channel hangs up (a choice of this program). In
+/// Asterisk the channel goes on at the next priority. An application sees no dialplan, so it cannot choose between the two.
 pub struct Macro;
 
 impl Application for Macro {
@@ -100,7 +100,7 @@ impl Application for Macro {
     }
 }
 
-/// `MacroExit()`: the innermost frame goes, and the channel goes back to the frame's place. With no frame the channel goes on.
+/// `MacroExit()`: removes the innermost frame, and sends the channel back to the frame's place. Without a frame the channel goes on.
 pub struct MacroExit;
 
 impl Application for MacroExit {

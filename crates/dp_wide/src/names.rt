@@ -1,12 +1,12 @@
-//! Names of applications and of variables, each as one of a list, after the Asterisk documentation's application reference and its
-//! page on channel variables.
+//! Names of applications and of variables, in lists, after the Asterisk documentation's application reference and its page on channel
+//! variables.
 ghost use Rattle.std.specs.Prelude.{◌≡◌, map};
 ghost use Rattle.dp_conf.specs.Words as words;
 ghost use Rattle.dp_wide.specs.Names as spec;
 
 use dp_conf::same_word;
 
-/// The variables in which applications say how they ended.
+/// The variables in which applications report how they ended.
 const STATUSES: [&[u8]; 30] = [
     b"VMSTATUS",
     b"READSTATUS",
@@ -40,7 +40,7 @@ const STATUSES: [&[u8]; 30] = [
     b"LOOKUPBLSTATUS",
 ];
 
-/// The names that Asterisk itself gives a value.
+/// The names to which Asterisk itself gives a value.
 const GIVEN: [&[u8]; 26] = [
     b"UNIQUEID",
     b"LINKEDID",
@@ -91,7 +91,7 @@ pub(crate) fn is_text_of(texts: &[&[u8]], name: &[u8]) -> bool
     texts.iter().any(|text| same_text(name, text))
 }
 
-/// Whether a variable is one in which an application that this program does not run says how it ended, as `VMSTATUS`, after the
+/// Whether a variable is one in which an application that this program does not run reports how it ended, such as `VMSTATUS`, after the
 /// pages of the Asterisk documentation's application reference on these applications. Names are compared byte by byte.
 #[tactic(auto, unfolding(crate::specs::Names::status_names))]
 pub fn is_status(name: &[u8]) -> bool
@@ -100,7 +100,7 @@ pub fn is_status(name: &[u8]) -> bool
     is_text_of(&STATUSES, name)
 }
 
-/// Whether a name is one that Asterisk itself gives a value, and this program does not, as `UNIQUEID`, after the Asterisk
+/// Whether a name is one to which Asterisk itself gives a value, but this program does not, such as `UNIQUEID`, after the Asterisk
 /// documentation's page on channel variables. Names are compared byte by byte.
 #[tactic(auto, unfolding(crate::specs::Names::given_names))]
 pub fn is_given_by_asterisk(name: &[u8]) -> bool

@@ -1,5 +1,5 @@
-//! The applications that run outside this program, after the Asterisk documentation's application reference. A channel that reaches
-//! one waits, and what comes of it is told from outside.
+//! The applications that run outside this program, after the Asterisk documentation's application reference. A channel that reaches one
+//! waits, and its result comes from outside.
 ghost use Rattle.std.specs.Prelude.{◌≡◌, IfOk, OnErr, OnOk, map};
 ghost use Rattle.std.specs.Option.{option_map};
 ghost use Rattle.dp_app.specs.Cells.{KeepsLoans, cell_now};
@@ -13,7 +13,7 @@ use dp_vars::{Counts, Scope, Store};
 use std::alloc::Global;
 use std::marker::PhantomData;
 
-/// The applications that run outside, each with the variables in which it says how it ended.
+/// The applications that run outside, each with the variables in which it reports how it ended.
 const OUTSIDE: [(&[u8], &[&[u8]]); 55] = [
     (b"VoiceMail", &[b"VMSTATUS"]),
     (b"VoiceMailMain", &[]),
@@ -75,7 +75,7 @@ const OUTSIDE: [(&[u8], &[&[u8]]); 55] = [
     (b"Curl", &[]),
 ];
 
-/// The variables in which the application of a name among some says how it ended, if it is one of them.
+/// The variables in which the application with a name, one of a list, reports how it ended.
 fn statuses_among<'a>(
     applications: &[(&[u8], &'a [&'a [u8]])],
     name: &[u8],
@@ -93,7 +93,7 @@ fn statuses_among<'a>(
     None
 }
 
-/// The variables in which the application of a name says how it ended; None where it does not run outside.
+/// The variables in which the application with a name reports how it ended; None if it does not run outside.
 #[tactic(auto, unfolding(crate::specs::Outside::outside_applications))]
 fn outside_statuses(name: &[u8]) -> Option<&'static [&'static [u8]]>
     ensures { option_map (λ statuses. map (λ status. status.now) statuses.now) result ≡ spec.outside_statuses name.now }
@@ -101,21 +101,21 @@ fn outside_statuses(name: &[u8]) -> Option<&'static [&'static [u8]]>
     statuses_among(&OUTSIDE, name)
 }
 
-/// Whether the application of a name runs outside this program. Names of applications are compared without regard to ASCII case.
+/// Whether the application with a name runs outside this program. Names of applications are compared without regard to ASCII case.
 pub fn is_outside(name: &[u8]) -> bool
     ensures { result ≡ spec.is_outside name.now }
 {
     outside_statuses(name).is_some()
 }
 
-/// Whether the first argument names a variable for what is read.
+/// Whether the first argument of an application names a variable for the input.
 fn is_read(name: &[u8]) -> bool
     ensures { result ≡ spec.is_read name.now }
 {
     same_word(name, b"Read") || same_word(name, b"ReadExten")
 }
 
-/// Takes the values of some names away.
+/// Removes the values of a list of names.
 fn unset_all(store: &mut Store<Place>, names: &[&[u8]])
     ensures { store.new ≡ spec.without_values (map (λ name. name.now) names.now) store.old }
 {
@@ -124,7 +124,7 @@ fn unset_all(store: &mut Store<Place>, names: &[&[u8]])
     }
 }
 
-/// The name of the variable for what is read: the first argument, as `Set` takes a name.
+/// The name of the variable for the input: the first argument, read like a name in `Set`.
 fn name_to_read(arguments: &[u8]) -> &[u8]
     ensures { result.now ≡ spec.name_to_read arguments.now }
 {
@@ -132,7 +132,7 @@ fn name_to_read(arguments: &[u8]) -> &[u8]
     bare_name(trim(first))
 }
 
-/// Keeps that a name was to be read, and takes its value away. After a refused growth the store is as before.
+/// Records that a name is for input, and removes its value. If memory runs out the store is as before.
 fn begin_reading(alloc: Global, store: &mut Store<Place>, name: &[u8]) -> Result<(), NoMemory>
     ensures ok { OnOk result (store.new ≡ spec.after_reading name.now store.old) }
     ensures err { OnErr result (store.new ≡ store.old) }
@@ -143,7 +143,7 @@ fn begin_reading(alloc: Global, store: &mut Store<Place>, name: &[u8]) -> Result
     Ok(())
 }
 
-/// The same of the name that the first argument is, where it names a variable.
+/// The same for the name in the first argument, if it names a variable.
 fn begin_reading_first(
     alloc: Global,
     store: &mut Store<Place>,
@@ -159,8 +159,8 @@ fn begin_reading_first(
     Ok(())
 }
 
-/// The channel waits for an application that runs outside, and nothing is known any more of how an earlier run of it ended. One that
-/// is closing does not wait, and its call ends. After a refused growth the cell is as before.
+/// The channel waits for an application that runs outside, and how an earlier run of it ended becomes unknown. A channel that is closing
+/// does not wait, and its call ends. If memory runs out the cell is as before.
 #[tactic(auto, unfolding(crate::specs::Outside::outside_row))]
 fn wait_outside(
     alloc: Global,
@@ -184,10 +184,10 @@ fn wait_outside(
 
 /// A table in which the applications that run outside come first, each before the same name of the other table.
 ///
-/// The channel waits until a time-out, after which it goes on at the next priority. What the application says of how it ended, and
-/// what `Read` read, is told from outside while it waits: until then the variables for it have no value, also where an earlier run
-/// left one, and nothing is known of them. The names that `Read` was given stand in the variable `READ()`. While the channel is
-/// closing the call ends in place of the wait. All this is a choice of this program.
+/// The channel waits until a time-out, after which it goes on at the next priority. How the application ended, and what `Read` read, comes
+/// from outside while the channel waits: until then the variables for it have no value, even if an earlier run left one, and nothing is
+/// known of them. The names that `Read` was given are kept in the variable `READ()`. If the channel is closing the call ends instead of
+/// waiting. All this is a choice of this program.
 pub struct WithOutside<T> {
     types: PhantomData<T>,
 }

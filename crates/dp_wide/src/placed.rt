@@ -1,4 +1,4 @@
-//! The applications of the wide table that are found by their numbers.
+//! The applications of the wide table that are found by number.
 ghost use Rattle.std.specs.Prelude.{◌≡◌, is_some};
 ghost use Rattle.dp_app.specs.Rows.{has_row};
 ghost use Rattle.dp_wide.specs.steps.Placed as spec;
@@ -22,35 +22,35 @@ type Membership = With<
     With<RemoveQueueMember, With<PauseQueueMember, With<UnpauseQueueMember, NoApps>>>,
 >;
 
-/// Those and the ones that wait.
+/// Those, and the applications that wait.
 type Waiting = With<Wait, With<WaitExten, With<Background, With<Dial, With<Queue, Membership>>>>>;
 
-/// Those and the ones that end the call, and that play or print nothing here.
+/// Those, and the applications that end the call, or that play or print nothing here.
 type Silent = With<
     Answer,
     With<Hangup, With<Verbose, With<Playback, With<Busy, With<Congestion, Waiting>>>>>,
 >;
 
-/// Those and the ones that enter and leave subroutines and macros.
+/// Those, and the applications that enter and leave subroutines and macros.
 type Calling = With<
     GosubWide,
     With<GosubIfWide, With<Return, With<StackPop, With<Macro, With<MacroExit, Silent>>>>>,
 >;
 
-/// The applications of the wide table, each by its place, but `ExecIf`, those that only go on and those that run outside. The ones
-/// that most lines of a dialplan name come first, since names are compared in this order.
+/// The applications of the wide table, each at its place, without `ExecIf`, those that only go on and those that run outside. The
+/// applications that most lines of a dialplan name come first, because names are compared in this order.
 pub(crate) type Placed = With<
     NoOp,
     With<Goto, With<SetWide, With<GotoIf, With<MSet, With<GotoIfTime, With<DbDel, Calling>>>>>>,
 >;
 
-/// The number of all applications that only go on. It is above the number of each place.
+/// The number of all applications that only go on. It is greater than the number of each place.
 pub(crate) const GOES_ON: AppNumber = AppNumber { place: 1000 };
 
 /// The number of all applications that run outside.
 pub(crate) const OUTSIDE: AppNumber = AppNumber { place: 1001 };
 
-/// The number of `ExecIf`, with whose name the table begins.
+/// The number of `ExecIf`, whose name is the first of the table.
 pub(crate) const BY_NAME: AppNumber = AppNumber { place: 1002 };
 
 /// The number of a placed application.

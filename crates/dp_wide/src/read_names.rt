@@ -1,7 +1,7 @@
 //! The names that `Read` was given, after the Asterisk documentation's page on `Read`.
 //!
-//! What is read is told from outside. Until something sets such a name its value is not known, and a channel keeps these names in
-//! the variable `READ()` (a choice of this program).
+//! The input comes from outside. Until something sets such a name its value is unknown, and a channel keeps these names in the variable
+//! `READ()` (a choice of this program).
 ghost use Rattle.std.specs.Prelude.{◌≡◌, [], ◌∷◌, IfOk, codes};
 ghost use Rattle.std.specs.Option.{option_map};
 ghost use Rattle.dp_vars.specs.Sights.{after, sight_of, stored_maps};
@@ -22,7 +22,7 @@ fn is_listed(names: &[u8], name: &[u8]) -> bool
         .any(|listed| same_text(name, listed))
 }
 
-/// A text of names with a name more, where it is none of them yet.
+/// A text of names with one more name, unless it already has this one.
 pub(crate) fn with_listed(
     alloc: Global,
     names: Option<&[u8]>,
@@ -41,7 +41,7 @@ pub(crate) fn with_listed(
     Ok(text)
 }
 
-/// The text of names that a store has, where there is a store.
+/// The text of names in a store, if there is a store.
 fn names_in_store<'a, B>(store: Option<&'a Store<B>>) -> Option<&'a [u8]>
     ensures { option_map (λ names. names.now) result ≡ first_value (stored_maps (after store.entry)) spec.read_names }
 {
@@ -51,7 +51,7 @@ fn names_in_store<'a, B>(store: Option<&'a Store<B>>) -> Option<&'a [u8]>
     }
 }
 
-/// The text of names that the globals have.
+/// The text of names in the globals.
 fn names_in_globals(globals: &Globals) -> Option<&[u8]>
     ensures { option_map (λ names. names.now) result ≡ first_value (globals.now ∷ []) spec.read_names }
 {
@@ -61,7 +61,7 @@ fn names_in_globals(globals: &Globals) -> Option<&[u8]>
     None
 }
 
-/// The text of names that a scope has.
+/// The text of names in a scope.
 fn names_seen<'a, B, C: Counts>(scope: &Scope<'a, B, C>) -> Option<&'a [u8]>
     ensures { option_map (λ names. names.now) result ≡ spec.names_seen (sight_of C.count scope.now) }
 {

@@ -1,4 +1,4 @@
-//! What applications ask with their arguments that is not known, after the Asterisk documentation's application reference.
+//! The unknown things that applications ask for with their arguments, after the Asterisk documentation's application reference.
 ghost use Rattle.std.specs.Prelude.{◌≡◌, IfOk, map};
 ghost use Rattle.dp_conf.specs.Cut.{cut_once};
 ghost use Rattle.dp_conf.specs.Levels.{arguments_of, parts_of};
@@ -12,7 +12,7 @@ use dp_flow::argument_of;
 use dp_vars::{Counts, Scope};
 use std::alloc::Global;
 
-/// The name that is set by a function of an argument, where setting it does more than this machine follows.
+/// The name that is set through a function with an argument, if setting it does more than this machine follows.
 fn plain_asked<'a>(name: &'a [u8], function: &[u8], argument: &[u8]) -> &'a [u8]
     ensures { result.now ≡ spec.plain_asked name.now function.now argument.now }
 {
@@ -23,7 +23,7 @@ fn plain_asked<'a>(name: &'a [u8], function: &[u8], argument: &[u8]) -> &'a [u8]
     }
 }
 
-/// The same of one of the names of an `ARRAY`, where an `ARRAY` is not followed either.
+/// The same for a name in an `ARRAY`, where a further `ARRAY` is not followed either.
 fn nested_asked<'a>(name: &'a [u8], function: &[u8], argument: &[u8]) -> &'a [u8]
     ensures { result.now ≡ spec.nested_asked name.now function.now argument.now }
 {
@@ -34,7 +34,7 @@ fn nested_asked<'a>(name: &'a [u8], function: &[u8], argument: &[u8]) -> &'a [u8
     }
 }
 
-/// What one of the names of an `ARRAY` asks.
+/// What a name in an `ARRAY` asks for.
 fn part_asked(part: &[u8]) -> &[u8]
     ensures { result.now ≡ spec.part_asked part.now }
 {
@@ -48,7 +48,7 @@ fn part_asked(part: &[u8]) -> &[u8]
     }
 }
 
-/// What the first of the names of an `ARRAY` asks that asks something.
+/// What the first name in an `ARRAY` that asks for something asks for.
 fn parts_asked(names: &[u8]) -> &[u8]
     ensures { result.now ≡ spec.parts_asked (parts_of names.now) }
 {
@@ -64,7 +64,7 @@ fn parts_asked(names: &[u8]) -> &[u8]
     b""
 }
 
-/// What setting a function of an argument asks, by the whole name.
+/// What setting a function with an argument asks for, given the whole name.
 fn function_asked<'a>(name: &'a [u8], function: &[u8], argument: &'a [u8]) -> &'a [u8]
     ensures { result.now ≡ spec.function_asked name.now function.now argument.now }
 {
@@ -75,7 +75,7 @@ fn function_asked<'a>(name: &'a [u8], function: &[u8], argument: &'a [u8]) -> &'
     }
 }
 
-/// What setting a name asks.
+/// What setting a name asks for.
 fn name_asked(name: &[u8]) -> &[u8]
     ensures { result.now ≡ spec.name_asked name.now }
 {
@@ -88,7 +88,7 @@ fn name_asked(name: &[u8]) -> &[u8]
     }
 }
 
-/// What a setting asks, as `NAME=VALUE`.
+/// What a setting `NAME=VALUE` asks for.
 fn setting_asked(text: &[u8]) -> &[u8]
     ensures { result.now ≡ spec.setting_asked text.now }
 {
@@ -98,7 +98,7 @@ fn setting_asked(text: &[u8]) -> &[u8]
     }
 }
 
-/// What the first of some settings asks that asks something.
+/// What the first of a list of settings that asks for something asks for.
 fn settings_asked<'a>(texts: &[&'a [u8]]) -> &'a [u8]
     ensures { result.now ≡ spec.settings_asked (map (λ text. text.now) texts.now) }
 {
@@ -113,7 +113,7 @@ fn settings_asked<'a>(texts: &[&'a [u8]]) -> &'a [u8]
     b""
 }
 
-/// What the settings of an `MSet` ask.
+/// What the settings of an `MSet` ask for.
 fn list_asked(alloc: Global, arguments: &[u8]) -> Result<Vec<u8>, NoMemory>
     ensures { IfOk result (λ text. text.items ≡ spec.settings_asked (arguments_of arguments.now)) }
 {
@@ -121,7 +121,7 @@ fn list_asked(alloc: Global, arguments: &[u8]) -> Result<Vec<u8>, NoMemory>
     Vec::from_slice(alloc, settings_asked(&texts))
 }
 
-/// The name of the application, where it is given a time zone.
+/// The name of the application, if it is given a time zone.
 fn zone_asked(alloc: Global, arguments: &[u8]) -> Result<Vec<u8>, NoMemory>
     ensures { IfOk result (λ text. text.items ≡ spec.zone_asked (cut_once 63 arguments.now)) }
 {
@@ -135,7 +135,7 @@ fn zone_asked(alloc: Global, arguments: &[u8]) -> Result<Vec<u8>, NoMemory>
     Ok(Vec::new(alloc))
 }
 
-/// What `GotoIfTime` asks.
+/// What `GotoIfTime` asks for.
 fn time_asked<B, C: Counts>(
     alloc: Global,
     scope: &Scope<'_, B, C>,
@@ -149,10 +149,10 @@ fn time_asked<B, C: Counts>(
     Vec::from_slice(alloc, b"CLOCK")
 }
 
-/// The option of `Dial` by which the called side goes elsewhere too, once it has answered. This machine does not follow that side.
+/// The option of `Dial` by which the called side goes elsewhere too once it has answered. This machine does not follow that side.
 ///
-/// It is told before the `Dial` runs, so also where nobody answers. A `G` without a place behind it is told, too. Both are more careful
-/// than need be.
+/// It is reported before the `Dial` runs, so even if nobody answers. A `G` without a place after it is reported too. Both are more cautious
+/// than necessary.
 fn dial_asked(parts: &[&[u8]]) -> &'static [u8]
     ensures { result.now ≡ spec.dial_asked (map (λ part. part.now) parts.now) }
 {
@@ -163,7 +163,7 @@ fn dial_asked(parts: &[&[u8]]) -> &'static [u8]
     }
 }
 
-/// What `Dial` asks.
+/// What `Dial` asks for.
 fn dial_list_asked(alloc: Global, arguments: &[u8]) -> Result<Vec<u8>, NoMemory>
     ensures { IfOk result (λ text. text.items ≡ spec.dial_asked (arguments_of arguments.now)) }
 {
@@ -171,7 +171,7 @@ fn dial_list_asked(alloc: Global, arguments: &[u8]) -> Result<Vec<u8>, NoMemory>
     Vec::from_slice(alloc, dial_asked(&parts))
 }
 
-/// What an application asks with its arguments, which is no `ExecIf`.
+/// What an application other than `ExecIf` asks for with its arguments.
 pub(crate) fn inner_asked<B, C: Counts>(
     alloc: Global,
     scope: &Scope<'_, B, C>,

@@ -1,5 +1,5 @@
-//! The applications that set variables, after the Asterisk documentation's pages on `Set` and `MSet`, and what a name sets
-//! from outside.
+//! The applications that set variables, after the Asterisk documentation's pages on `Set` and `MSet`, and the effect of setting a name from
+//! outside.
 mod callers;
 mod effects;
 mod one;
@@ -21,7 +21,7 @@ pub(crate) use effects::{bare_name, does_more};
 pub use effects::{outside_sets_what_set_sets, setting_target};
 use std::alloc::Global;
 
-/// The first of some values, and those after it; the empty text where there is none.
+/// The first of a list of values, and the values after it; empty if there is none.
 fn first_value(values: Option<&[u8]>) -> (&[u8], Option<&[u8]>)
     ensures value { result.0.now ≡ spec.first_value (parts_left values.entry) }
     ensures later { parts_left result.1 ≡ spec.later_values (parts_left values.entry) }
@@ -32,7 +32,7 @@ fn first_value(values: Option<&[u8]>) -> (&[u8], Option<&[u8]>)
     }
 }
 
-/// Sets each of some names to its value. After a refused growth some of them are set.
+/// Sets each of a list of names to its value. If memory runs out some of them are set.
 fn set_names(alloc: Global, cell: &mut Cell, names: &[u8], values: &[u8]) -> Result<(), NoMemory>
     ensures ok { OnOk result (cell_now cell.new ≡ with_settable (cell_now cell.old)
         (spec.with_each (settable_of (cell_now cell.old)) (parts_of names.now) (parts_of values.now))) }
@@ -51,7 +51,7 @@ fn set_names(alloc: Global, cell: &mut Cell, names: &[u8], values: &[u8]) -> Res
     Ok(())
 }
 
-/// Names and their values, each between commas.
+/// Names and their values, both separated by commas.
 #[derive(Drop)]
 struct NamedValues<'a> {
     names: &'a [u8],
@@ -66,7 +66,7 @@ impl Assignments for NamedValues<'_> {
     }
 }
 
-/// Sets a name. After a refused growth the cell is as before.
+/// Sets a name. If memory runs out the cell is as before.
 fn set_name(alloc: Global, cell: &mut Cell, name: &[u8], value: &[u8]) -> Result<(), NoMemory>
     ensures ok { OnOk result (cell_now cell.new ≡ with_settable (cell_now cell.old)
         (spec.with_value (settable_of (cell_now cell.old)) name.now value.now)) }
@@ -87,7 +87,7 @@ fn set_name(alloc: Global, cell: &mut Cell, name: &[u8], value: &[u8]) -> Result
     }
 }
 
-/// Makes the setting of a text, `NAME=value`. After a refused growth the cell is as before.
+/// Makes the setting of a text, `NAME=value`. If memory runs out the cell is as before.
 fn set_text(alloc: Global, cell: &mut Cell, text: &[u8]) -> Result<(), NoMemory>
     ensures ok { OnOk result (cell_now cell.new ≡ with_settable (cell_now cell.old)
         (spec.with_text (settable_of (cell_now cell.old)) text.now)) }
@@ -100,7 +100,7 @@ fn set_text(alloc: Global, cell: &mut Cell, text: &[u8]) -> Result<(), NoMemory>
     }
 }
 
-/// Makes the settings of some texts. After a refused growth some of them are made.
+/// Makes the settings of a list of texts. If memory runs out some of them are made.
 fn set_texts(alloc: Global, cell: &mut Cell, texts: &[u8]) -> Result<(), NoMemory>
     ensures ok { OnOk result (cell_now cell.new ≡ with_settable (cell_now cell.old)
         (fold spec.with_text (settable_of (cell_now cell.old)) (arguments_of texts.now))) }
@@ -116,7 +116,7 @@ fn set_texts(alloc: Global, cell: &mut Cell, texts: &[u8]) -> Result<(), NoMemor
     Ok(())
 }
 
-/// The texts of settings between commas.
+/// The texts of settings, separated by commas.
 #[derive(Drop)]
 struct SettingTexts<'a> {
     texts: &'a [u8],
@@ -130,14 +130,14 @@ impl Assignments for SettingTexts<'_> {
     }
 }
 
-/// `Set(NAME=value)`: the name, without its blanks and without two marks `_` at most, has the value from now on, as it stands. A
-/// local of the innermost frame that has one of that name is written, else the channel's variable.
+/// `Set(NAME=value)`: the name, without its blanks and without up to two marks `_`, has the value from now on, unchanged. It is written to
+/// the local of the innermost frame that has one of that name, else to the channel's variable.
 ///
-/// `GLOBAL(name)`, `LOCAL(name)` and `CALLERID(num)`, which is `CALLERID(number)` too, write a global, a local of the innermost
-/// frame, and the caller's number. `CALLERID(all)` writes the number and the cell `CALLERID(name)` from `"NAME" <NUMBER>`,
-/// `DB_DELETE(key)` makes the cell `DB(key)` empty, and `ARRAY(A,B)` sets each of its names to its part of the value. `HASH`,
-/// `PUSH`, `UNSHIFT` and `CHANNEL(hangup_handler_push)` have no effect. Any other `NAME(argument)` is a cell: a global of the
-/// functions whose cells are of all channels, and of the others a variable (a choice of this program).
+/// `GLOBAL(name)`, `LOCAL(name)` and `CALLERID(num)`, which is also `CALLERID(number)`, write a global, a local of the innermost frame, and
+/// the caller's number. `CALLERID(all)` writes the number and the cell `CALLERID(name)` from `"NAME" <NUMBER>`, `DB_DELETE(key)` empties
+/// the cell `DB(key)`, and `ARRAY(A,B)` sets each of its names to its part of the value. `HASH`, `PUSH`, `UNSHIFT` and
+/// `CHANNEL(hangup_handler_push)` have no effect. Any other `NAME(argument)` is a cell: a global for functions whose cells belong to all
+/// channels, and a variable for the others (a choice of this program).
 pub struct SetWide;
 
 impl Application for SetWide {
@@ -172,7 +172,7 @@ impl Application for SetWide {
     }
 }
 
-/// `MSet(NAME=value[,NAME=value..])`: each part of the arguments as `Set` does it, in order.
+/// `MSet(NAME=value[,NAME=value..])`: does with each part of the arguments what `Set` does, in order.
 pub struct MSet;
 
 impl Application for MSet {

@@ -11,7 +11,7 @@ use dp_conf::NoMemory;
 use dp_vars::{Counts, FoundValue, FunctionValue, Scope};
 use std::alloc::Global;
 
-/// A function of a key of the database or of the name of a queue.
+/// A function of a key of the database or of a queue's name.
 #[derive(Clone, Copy)]
 pub(crate) enum SightFunction {
     /// Whether the value of a key is not empty.
@@ -20,11 +20,11 @@ pub(crate) enum SightFunction {
     DbDelete,
     /// Whether there is such a queue.
     QueueExists,
-    /// How many members a queue has; 0 where there is no such queue (a choice of this program).
+    /// The number of members of a queue; 0 if there is no such queue (a choice of this program).
     QueueMemberCount,
 }
 
-/// Yes as `1`, and no as `0`.
+/// `1` for yes, and `0` for no.
 pub(crate) fn flag<'a>(holds: bool) -> FoundValue<'a>
     ensures { value_bytes result ≡ spec.flag holds }
 {
@@ -64,7 +64,7 @@ fn key_exists<'a, B, C: Counts>(
     })
 }
 
-/// How many members a queue has.
+/// The number of members of a queue.
 fn member_count<'a, B, C: Counts>(scope: &Scope<'a, B, C>, queue: &[u8]) -> FoundValue<'a>
     ensures { value_bytes result
         ≡ spec.sight_value (sight_of C.count scope.now) SightFunction.QueueMemberCount queue.now }
@@ -75,7 +75,7 @@ fn member_count<'a, B, C: Counts>(scope: &Scope<'a, B, C>, queue: &[u8]) -> Foun
     }
 }
 
-/// The value of a function of a key or of the name of a queue.
+/// The value of a function of a key or of a queue's name.
 pub(crate) fn sight_value<'a, B, C: Counts>(
     alloc: Global,
     scope: &Scope<'a, B, C>,

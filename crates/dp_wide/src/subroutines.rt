@@ -1,4 +1,4 @@
-//! Subroutines that know how many arguments they have, after the Asterisk documentation's pages on `Gosub` and `GosubIf`.
+//! Subroutines that know the number of their arguments, after the Asterisk documentation's pages on `Gosub` and `GosubIf`.
 ghost use Rattle.std.specs.Prelude.{◌≡◌, ℕ, List, ◌++◌, ◌∷◌, ◌≤◌, [], Some, IfOk, OnErr, OnOk, map};
 ghost use Rattle.std.specs.Fmt.{decimal};
 ghost use Rattle.dp_app.specs.Cells.{CellOf, KeepsLoans, cell_now};
@@ -43,7 +43,7 @@ pub(crate) fn push_number(
     push_local(alloc, locals, name, buffer.format(number).as_bytes())
 }
 
-/// The locals of a subroutine by its arguments' text, with how many these are.
+/// The locals of a subroutine, given the text of its arguments, and their number.
 #[tactic(auto, using(crate::proofs::CallsLemmas::locals_count))]
 pub(crate) fn counted_locals(alloc: Global, arguments: &[u8]) -> Result<Vec<Local>, NoMemory>
     ensures { IfOk result (λ locals. locals.items ≡ spec.counted_locals (inner_arguments arguments.now)) }
@@ -54,7 +54,7 @@ pub(crate) fn counted_locals(alloc: Global, arguments: &[u8]) -> Result<Vec<Loca
     Ok(locals)
 }
 
-/// A subroutine is entered with these locals. After a refused growth the cell is as before.
+/// Enters a subroutine with these locals. If memory runs out the cell is as before.
 pub(crate) fn enter_with(
     alloc: Global,
     target: TargetParts,
@@ -72,8 +72,7 @@ pub(crate) fn enter_with(
     Ok(Move::Jump(Target::Existing(target)))
 }
 
-/// A subroutine is entered, by the parts of its target, of which the last one is apart. After a refused growth the cell is
-/// as before.
+/// Enters a subroutine, given the parts of its target, with the last part separate. If memory runs out the cell is as before.
 fn enter(
     alloc: Global,
     front: &[&[u8]],
@@ -92,7 +91,7 @@ fn enter(
     Ok(going)
 }
 
-/// A subroutine is entered by the parts of its target. After a refused growth the cell is as before.
+/// Enters a subroutine, given the parts of its target. If memory runs out the cell is as before.
 fn enter_by_parts(alloc: Global, parts: &[&[u8]], cell: &mut Cell) -> Result<Move, NoMemory>
     requires { cell.old.place.now.priority ≤ most_priority }
     ensures ok { IfOk result (λ going. spec.enter_parts (map (λ part. part.now) parts.now) (cell_now cell.old)
@@ -110,7 +109,7 @@ fn enter_by_parts(alloc: Global, parts: &[&[u8]], cell: &mut Cell) -> Result<Mov
     Ok(going)
 }
 
-/// A subroutine is entered by the text of its target. After a refused growth the cell is as before.
+/// Enters a subroutine, given the text of its target. If memory runs out the cell is as before.
 #[tactic(auto, unfolding(crate::specs::Subroutines::gosub_row))]
 fn enter_by_text(alloc: Global, target: &[u8], cell: &mut Cell) -> Result<Move, NoMemory>
     requires { cell.old.place.now.priority ≤ most_priority }
@@ -123,9 +122,8 @@ fn enter_by_text(alloc: Global, target: &[u8], cell: &mut Cell) -> Result<Move, 
     Ok(going)
 }
 
-/// `Gosub([[context,]extension,]priority[(arguments)])`: a frame is pushed that goes back to the place after this one, with
-/// the arguments as its locals `ARG1`, `ARG2` and so on and how many these are as `ARGC`, and the channel goes to the target
-/// if an entry is found there.
+/// `Gosub([[context,]extension,]priority[(arguments)])`: pushes a frame that returns to the place after this one, with the arguments as its
+/// locals `ARG1`, `ARG2` and so on, and their number as `ARGC`. The channel goes to the target if an entry is found there.
 pub struct GosubWide;
 
 impl Application for GosubWide {
@@ -157,8 +155,8 @@ impl Application for GosubWide {
     }
 }
 
-/// `GosubIf(condition?[target][:target])`: `Gosub` of the side that is taken. A side that is not there, or of blanks alone, is
-/// the next priority.
+/// `GosubIf(condition?[target][:target])`: does `Gosub` with the side that is taken. A side that is missing, or of blanks alone, means the
+/// next priority.
 pub struct GosubIfWide;
 
 impl Application for GosubIfWide {
@@ -196,8 +194,8 @@ impl Application for GosubIfWide {
     }
 }
 
-/// A call that enters a subroutine which knows how many arguments it has goes where `Gosub` of the same arguments goes. It does
-/// nothing.
+/// A channel that enters a subroutine which knows the number of its arguments goes where `Gosub` with the same arguments goes. This
+/// function does nothing.
 pub fn goes_where_gosub_goes()
     ensures { (arguments : List ℕ) (cell : CellOf) → (spec.gosub_row arguments cell).next ≡ (jumps.gosub_row arguments cell).next }
 {}

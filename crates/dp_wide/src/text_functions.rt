@@ -16,7 +16,7 @@ use std::alloc::Global;
 pub(crate) enum TextFunction {
     /// The side of `CONDITION?SIDE:SIDE` that is taken.
     If,
-    /// `SET,TEXT`: the bytes of a text that a set has.
+    /// `SET,TEXT`: the bytes of a text that are in a set.
     Filter,
     ToUpper,
     ToLower,
@@ -26,8 +26,7 @@ pub(crate) enum TextFunction {
     Exists,
 }
 
-/// The bytes that the set before the first comma has, of all that stands after that comma; none where there is no comma (a choice
-/// of this program).
+/// The bytes of the text after the first comma that are in the set before it; none if there is no comma (a choice of this program).
 fn filter_value(alloc: Global, argument: &[u8]) -> Result<Vec<u8>, NoMemory>
     ensures { IfOk result (λ kept. kept.items ≡ spec.filter_value argument.now) }
 {

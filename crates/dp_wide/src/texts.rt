@@ -1,4 +1,4 @@
-//! Texts that are cut into fields, kept in part, or written in one case, after the Asterisk documentation's pages on the
+//! Texts that are cut into fields, reduced to some of their bytes, or changed in case, after the Asterisk documentation's pages on the
 //! functions `CUT`, `FIELDQTY`, `FILTER`, `TOUPPER` and `TOLOWER`.
 ghost use Rattle.std.specs.Prelude.{◌≡◌, ◌+◌, ◌++◌, ◌<◌, ◌^◌, ◌==◌, ◌∷◌, [], IfOk, IfSome, MatchOption, None, OnOk, length, map};
 ghost use Rattle.std.specs.Char.{to_ascii_lowercase, to_ascii_uppercase};
@@ -10,7 +10,7 @@ ghost use Rattle.dp_wide.specs.steps.Far.{at_most, range_at_most};
 use dp_conf::{NoMemory, cut_once, read_number};
 use std::alloc::Global;
 
-/// Fields by their numbers: from the first to the last, or to the end.
+/// Fields, by number: from the first to the last, or to the end.
 #[derive(Clone, Copy)]
 struct FieldRange {
     first: u64,
@@ -24,10 +24,10 @@ struct ByteRange {
     last: u8,
 }
 
-/// The byte at which a value is cut: the first of the text, where `\,` is a comma. An empty text is a `-`, after the Asterisk
+/// The byte at which a value is cut: the first byte of the text, where `\,` is a comma. An empty text means `-`, after the Asterisk
 /// documentation's page on the function `CUT`.
 ///
-/// That a text that begins with `\,` is a comma, whatever follows, is a choice of this program.
+/// A text that begins with `\,` means a comma, whatever follows. This is a choice of this program.
 pub fn delimiter_of(text: &[u8]) -> u8
     ensures { result ≡ spec.delimiter_of text.now }
 {
@@ -38,8 +38,8 @@ pub fn delimiter_of(text: &[u8]) -> u8
     }
 }
 
-/// How many fields a value has that is cut at each such byte, after the Asterisk documentation's page on the function
-/// `FIELDQTY`: none where the value is empty.
+/// The number of fields of a value that is cut at each such byte, after the Asterisk documentation's page on the function `FIELDQTY`: 0 if
+/// the value is empty.
 pub fn field_count(value: &[u8], delimiter: u8) -> usize
     ensures { result ≡ spec.field_count delimiter value.now }
 {
@@ -49,7 +49,7 @@ pub fn field_count(value: &[u8], delimiter: u8) -> usize
     value.iter().filter(|byte| **byte == delimiter).count() + 1
 }
 
-/// The first field of a range, which is the first of all where the text is empty.
+/// The first field of a range; an empty text means the first of all.
 fn read_first(text: &[u8]) -> Option<u64>
     ensures { result ≡ option_map at_most (spec.first_of text.now) }
 {
@@ -59,7 +59,7 @@ fn read_first(text: &[u8]) -> Option<u64>
     read_number(text)
 }
 
-/// The last field of a range, which has none where the text is empty.
+/// The last field of a range; an empty text means that it has none.
 fn read_last(text: &[u8]) -> Option<Option<u64>>
     ensures { result ≡ option_map (option_map at_most) (spec.last_of text.now) }
 {
@@ -82,7 +82,7 @@ fn range_from(first: Option<u64>, last: Option<Option<u64>>) -> Option<FieldRang
     }
 }
 
-/// The fields between two ends, of which one may be empty.
+/// The fields between two ends, one of which may be empty.
 fn read_between(first: &[u8], last: &[u8]) -> Option<FieldRange>
     ensures { result ≡ option_map range_at_most (spec.range_between first.now last.now) }
 {
@@ -105,7 +105,7 @@ fn read_one(text: &[u8]) -> Option<FieldRange>
     }
 }
 
-/// The fields that a text writes as `3`, `2-4`, `-3` or `2-`.
+/// The fields that `3`, `2-4`, `-3` or `2-` names.
 fn read_range(text: &[u8]) -> Option<FieldRange>
     ensures { result ≡ option_map range_at_most (spec.range_of text.now) }
 {
@@ -115,7 +115,7 @@ fn read_range(text: &[u8]) -> Option<FieldRange>
     }
 }
 
-/// Whether the range has the field of this number.
+/// Whether the range has the field with this number.
 fn has_field(range: FieldRange, number: u64) -> bool
     ensures { result ≡ spec.has_field number range }
 {
@@ -125,8 +125,7 @@ fn has_field(range: FieldRange, number: u64) -> bool
     }
 }
 
-/// Whether the text writes a range that has the field of this number. No value has so many fields that the greatest
-/// number is one's.
+/// Whether the text names a range that has the field with this number. No value has so many fields that one has the greatest number.
 fn writes_field(text: &[u8], number: u64) -> bool
     ensures { number + 1 < 2 ^ 64 → result ≡ spec.writes_field number text.now }
 {
@@ -136,7 +135,7 @@ fn writes_field(text: &[u8], number: u64) -> bool
     }
 }
 
-/// Whether some of the ranges between `&` have the field of this number.
+/// Whether one of the ranges between `&` has the field with this number.
 fn is_chosen(fields: &[u8], number: u64) -> bool
     ensures { number + 1 < 2 ^ 64 → result ≡ spec.is_chosen fields.now number }
 {
@@ -154,7 +153,7 @@ fn are_ranges(fields: &[u8]) -> bool
         .all(|part| read_range(part).is_some())
 }
 
-/// What stands before the first such byte of a text, and what stands after it, where there is one.
+/// The text before the first such byte, and the text after it, if there is one.
 fn first_part(text: &[u8], delimiter: u8) -> (&[u8], Option<&[u8]>)
     ensures parts { MatchOption result.1 (spec.parts_of delimiter text.now ≡ result.0.now ∷ [])
         (λ rest. spec.parts_of delimiter text.now ≡ result.0.now ∷ spec.parts_of delimiter rest.now) }
@@ -166,8 +165,7 @@ fn first_part(text: &[u8], delimiter: u8) -> (&[u8], Option<&[u8]>)
     }
 }
 
-/// The fields of a value that are chosen, in their own order. What chooses is read again for each field, so that nothing
-/// of it has to be kept.
+/// The chosen fields of a value, in their own order. The choice is read again for each field, so that nothing of it has to be kept.
 fn chosen_fields<'a>(
     alloc: Global,
     value: &'a [u8],
@@ -203,7 +201,7 @@ fn push_each(joined: &mut Vec<u8>, parts: &[&[u8]], delimiter: u8) -> Result<(),
     Ok(())
 }
 
-/// The parts one after another, with the byte between them.
+/// The parts in order, with the byte between them.
 fn join(alloc: Global, parts: &[&[u8]], delimiter: u8) -> Result<Vec<u8>, NoMemory>
     ensures { IfOk result (λ joined. joined.items ≡ join_with_byte delimiter (map (λ part. part.now) parts.now)) }
 {
@@ -215,11 +213,11 @@ fn join(alloc: Global, parts: &[&[u8]], delimiter: u8) -> Result<Vec<u8>, NoMemo
     Ok(joined)
 }
 
-/// The fields of a value that are chosen, where it is cut at each such byte, with that byte between them, after the Asterisk
-/// documentation's page on the function `CUT`.
+/// The chosen fields of a value that is cut at each such byte, with that byte between them, after the Asterisk documentation's page on the
+/// function `CUT`.
 ///
-/// What chooses is one or more ranges, parted by `&`: `3`, `2-4`, `-3` or `2-`, counted from 1. A field is given once, in
-/// its own place, however often it is chosen. Where a part is no such range the answer is empty (a choice of this program).
+/// The choice is one or more ranges, separated by `&`: `3`, `2-4`, `-3` or `2-`, counted from 1. A field is given once, in its own place,
+/// however often it is chosen. If a part is no such range the result is empty (a choice of this program).
 #[tactic(auto, unfolding(crate::specs::Texts::cut))]
 pub fn cut(alloc: Global, value: &[u8], delimiter: u8, fields: &[u8]) -> Result<Vec<u8>, NoMemory>
     ensures { IfOk result (λ chosen. chosen.items ≡ spec.cut value.now delimiter fields.now) }
@@ -231,7 +229,7 @@ pub fn cut(alloc: Global, value: &[u8], delimiter: u8, fields: &[u8]) -> Result<
     join(alloc, &chosen, delimiter)
 }
 
-/// The first range of a set, and what stands after it.
+/// The first range of a set, and the rest.
 fn first_range(set: &[u8]) -> Option<(ByteRange, &[u8])>
     ensures ranges { MatchOption result (spec.byte_ranges set.now ≡ [])
         (λ found. spec.byte_ranges set.now ≡ found.0 ∷ spec.byte_ranges found.1.now) }
@@ -256,7 +254,7 @@ fn first_range(set: &[u8]) -> Option<(ByteRange, &[u8])>
     }
 }
 
-/// Whether a byte lies in a range.
+/// Whether a byte is in a range.
 fn has_byte(range: ByteRange, byte: u8) -> bool
     ensures { result ≡ spec.has_byte byte range }
 {
@@ -277,11 +275,10 @@ fn is_in_set(set: &[u8], byte: u8) -> bool
     false
 }
 
-/// The bytes of a text that a set has, after the Asterisk documentation's page on the function `FILTER`.
+/// The bytes of a text that are in a set, after the Asterisk documentation's page on the function `FILTER`.
 ///
-/// In a set `a-b` is a range of bytes, to which both ends belong and which is empty where they are the wrong way round. A
-/// `-` at either end of the set is itself. Ranges are read from the front, so `+--` is one range, which ends with the `-` (a
-/// choice of this program).
+/// In a set `a-b` is a range of bytes that includes both ends; it is empty if they are in the wrong order. A `-` at either end of the set
+/// means itself. Ranges are read from the start, so `+--` is one range, which ends with the `-` (a choice of this program).
 pub fn filter(alloc: Global, set: &[u8], text: &[u8]) -> Result<Vec<u8>, NoMemory>
     ensures { IfOk result (λ kept. kept.items ≡ spec.kept_of set.now text.now) }
 {
@@ -291,7 +288,7 @@ pub fn filter(alloc: Global, set: &[u8], text: &[u8]) -> Result<Vec<u8>, NoMemor
         .collect(alloc)
 }
 
-/// A text with its ASCII letters as capitals, and all else as it is, after the Asterisk documentation's page on the function
+/// A text with its ASCII letters in upper case, and everything else unchanged, after the Asterisk documentation's page on the function
 /// `TOUPPER`.
 pub fn to_upper(alloc: Global, text: &[u8]) -> Result<Vec<u8>, NoMemory>
     ensures { IfOk result (λ upper. upper.items ≡ map to_ascii_uppercase text.now) }
@@ -301,8 +298,8 @@ pub fn to_upper(alloc: Global, text: &[u8]) -> Result<Vec<u8>, NoMemory>
         .collect(alloc)
 }
 
-/// A text with its ASCII letters as small ones, and all else as it is, after the Asterisk documentation's page on the
-/// function `TOLOWER`.
+/// A text with its ASCII letters in lower case, and everything else unchanged, after the Asterisk documentation's page on the function
+/// `TOLOWER`.
 pub fn to_lower(alloc: Global, text: &[u8]) -> Result<Vec<u8>, NoMemory>
     ensures { IfOk result (λ lower. lower.items ≡ map to_ascii_lowercase text.now) }
 {

@@ -11,14 +11,14 @@ use dp_flow::{jump_if, taken_side};
 use dp_vars::Globals;
 use std::alloc::Global;
 
-/// The moment that the global `CLOCK` writes, where it writes one.
+/// The moment in the global `CLOCK`, if it has one.
 fn clock_in(globals: &Globals) -> Option<Moment>
     ensures { result ≡ spec.clock_in globals.now }
 {
     read_moment(globals.at(b"CLOCK"))
 }
 
-/// Whether a moment lies in the four that the parts write.
+/// Whether a moment is in the four ranges that the parts write.
 fn lies_in_parts(parts: &[&[u8]], moment: Moment) -> bool
     ensures { result ≡ spec.lies_in_parts (map (λ part. part.now) parts.now) moment }
 {
@@ -31,7 +31,7 @@ fn lies_in_parts(parts: &[&[u8]], moment: Moment) -> bool
     )
 }
 
-/// Whether the clock lies in the ranges. Where there is no moment it lies in none.
+/// Whether the clock is in the ranges. Without a moment it is in none.
 fn is_time(alloc: Global, clock: Option<Moment>, ranges: &[u8]) -> Result<bool, NoMemory>
     ensures { IfOk result (λ is. is ≡ spec.is_time clock ranges.now) }
 {
@@ -42,7 +42,7 @@ fn is_time(alloc: Global, clock: Option<Moment>, ranges: &[u8]) -> Result<bool, 
     Ok(lies_in_parts(&parts, moment))
 }
 
-/// The side that is taken, where it is there.
+/// The side that is taken, if there is one.
 fn timed_side<'a>(
     alloc: Global,
     clock: Option<Moment>,
@@ -57,12 +57,12 @@ fn timed_side<'a>(
     Ok(taken_side(is_first, sides))
 }
 
-/// `GotoIfTime(times,weekdays,days,months[,zone]?[target][:target])`: the channel goes to the first target if the clock lies in all
-/// four, else to the second. A side that is not there, or of blanks alone, is the next priority, and so is all where no `?` stands.
-/// A part that is missing is all, and the zone has no effect.
+/// `GotoIfTime(times,weekdays,days,months[,zone]?[target][:target])`: the channel goes to the first target if the clock is in all four
+/// ranges, else to the second. A side that is missing, or of blanks alone, means the next priority, and so does everything if there is no
+/// `?`. A missing part means all, and the zone has no effect.
 ///
-/// The clock is the global `CLOCK`, as `WEEKDAY YYYY-MM-DD HH:MM`. Where it is unset, or is no such text, it lies nowhere, and the
-/// second side is taken (choices of this program). A machine that stops at what is unknown does not come that far.
+/// The clock is the global `CLOCK`, as `WEEKDAY YYYY-MM-DD HH:MM`. If it is unset, or is no such text, it is in no range, and the second
+/// side is taken (choices of this program). A machine that stops at anything unknown does not get that far.
 pub struct GotoIfTime;
 
 impl Application for GotoIfTime {

@@ -1,4 +1,4 @@
-//! Moments, and the ranges of times in which they lie, after the Asterisk documentation's pages on time conditions.
+//! Moments, and ranges of times, after the Asterisk documentation's pages on time conditions.
 ghost use Rattle.std.specs.Prelude.{◌≡◌, ◌≤◌, ◌<◌, ◌==◌, IfSome, length, position};
 ghost use Rattle.std.specs.List.{list_any, slice_split};
 ghost use Rattle.dp_conf.specs.Blanks.{trim};
@@ -9,7 +9,7 @@ ghost use Rattle.dp_wide.specs.declared.times.Measure.TheVariants as measures;
 
 use dp_conf::{cut_once, read_number, same_word, trim};
 
-/// A minute of a day, with the weekday that is given for it. What a moment has is a choice of this program.
+/// A minute of a day, with the weekday that is given for it. The fields of a moment are a choice of this program.
 #[derive(Clone, Copy)]
 pub struct Moment {
     /// 0 to 6, where 0 is Sunday.
@@ -37,7 +37,7 @@ struct Date {
     day: u8,
 }
 
-/// What ranges are of.
+/// The measures of ranges.
 #[derive(Clone, Copy)]
 enum Measure {
     Time,
@@ -46,22 +46,22 @@ enum Measure {
     Month,
 }
 
-/// A range of values that goes round where the last comes before the first.
+/// A range of values, which wraps around if the last is before the first.
 #[derive(Clone, Copy)]
 struct RoundRange {
     first: u16,
     last: u16,
 }
 
-/// The names of the weekdays, from the first in a week.
+/// The names of the weekdays, in the order of a week.
 const WEEKDAYS: [&[u8]; 7] = [b"sun", b"mon", b"tue", b"wed", b"thu", b"fri", b"sat"];
 
-/// The names of the months, from the first in a year.
+/// The names of the months, in the order of a year.
 const MONTHS: [&[u8]; 12] = [
     b"jan", b"feb", b"mar", b"apr", b"may", b"jun", b"jul", b"aug", b"sep", b"oct", b"nov", b"dec",
 ];
 
-/// The place among names of the one that a text is, in any case.
+/// The place of a text in a list of names, in any case.
 fn place_of(names: &[&[u8]], text: &[u8]) -> Option<usize>
     ensures place { result ≡ position (λ name. same_word name.now text.now) names.now }
     ensures within { IfSome result (λ place. place < length names.now) }
@@ -80,7 +80,7 @@ fn weekday_named(text: &[u8]) -> Option<u8>
     }
 }
 
-/// The month that a text names, in any case, where the first is 1.
+/// The month that a text names, in any case; the first month is 1.
 #[tactic(auto, unfolding(crate::specs::Times::month_named))]
 fn month_named(text: &[u8]) -> Option<u8>
     ensures { result ≡ spec.month_named text.now }
@@ -91,7 +91,7 @@ fn month_named(text: &[u8]) -> Option<u8>
     }
 }
 
-/// The number that a text writes, where it lies between two.
+/// The number that a text writes, if it is between two others.
 fn number_between(least: u16, most: u16, text: &[u8]) -> Option<u16>
     ensures number { result ≡ spec.number_between least most text.now }
     ensures within { IfSome result (λ number. number ≤ most) }
@@ -103,7 +103,7 @@ fn number_between(least: u16, most: u16, text: &[u8]) -> Option<u16>
     Some(number as u16)
 }
 
-/// As `number_between`, of numbers below 256.
+/// Like `number_between`, for numbers below 256.
 fn small_number(least: u8, most: u8, text: &[u8]) -> Option<u8>
     ensures { result ≡ spec.number_between least most text.now }
 {
@@ -113,7 +113,7 @@ fn small_number(least: u8, most: u8, text: &[u8]) -> Option<u8>
     }
 }
 
-/// As `small_number`, of two digits.
+/// Like `small_number`, for two digits.
 fn two_digits(least: u8, most: u8, text: &[u8]) -> Option<u8>
     ensures { result ≡ spec.fixed_number 2 least most text.now }
 {
@@ -123,7 +123,7 @@ fn two_digits(least: u8, most: u8, text: &[u8]) -> Option<u8>
     small_number(least, most, text)
 }
 
-/// A year of four digits.
+/// The year that four digits write.
 fn read_year(text: &[u8]) -> Option<u16>
     ensures { result ≡ spec.fixed_number 4 0 9999 text.now }
 {
@@ -133,7 +133,7 @@ fn read_year(text: &[u8]) -> Option<u16>
     number_between(0, 9999, text)
 }
 
-/// An hour of one or two digits.
+/// The hour that one or two digits write.
 fn read_hour(text: &[u8]) -> Option<u8>
     ensures { result ≡ spec.hour_of text.now }
 {
@@ -143,7 +143,7 @@ fn read_hour(text: &[u8]) -> Option<u8>
     small_number(0, 23, text)
 }
 
-/// An hour and a minute, where both are what they should be.
+/// The time with an hour and a minute, if both are valid.
 fn clock_from(hour: Option<u8>, minute: Option<u8>) -> Option<Clock>
     ensures { result ≡ spec.clock_from hour minute }
 {
@@ -153,7 +153,7 @@ fn clock_from(hour: Option<u8>, minute: Option<u8>) -> Option<Clock>
     }
 }
 
-/// A time as `HH:MM` or `H:MM`.
+/// The time that `HH:MM` or `H:MM` writes.
 fn read_clock(text: &[u8]) -> Option<Clock>
     ensures { result ≡ spec.clock_of text.now }
 {
@@ -163,7 +163,7 @@ fn read_clock(text: &[u8]) -> Option<Clock>
     }
 }
 
-/// A time as `HH:MM` alone.
+/// The time that `HH:MM` writes; no other form counts.
 fn read_full_clock(text: &[u8]) -> Option<Clock>
     ensures { result ≡ spec.full_clock_of text.now }
 {
@@ -173,7 +173,7 @@ fn read_full_clock(text: &[u8]) -> Option<Clock>
     read_clock(text)
 }
 
-/// A year, a month and a day, where all are what they should be.
+/// The date with a year, a month and a day, if all are valid.
 fn date_from(year: Option<u16>, month: Option<u8>, day: Option<u8>) -> Option<Date>
     ensures { result ≡ spec.date_from year month day }
 {
@@ -183,7 +183,7 @@ fn date_from(year: Option<u16>, month: Option<u8>, day: Option<u8>) -> Option<Da
     }
 }
 
-/// A date by its year, and by its month and day.
+/// A date, given its year, and its month and day.
 fn read_date_of(year: &[u8], rest: &[u8]) -> Option<Date>
     ensures { result ≡ spec.date_of_year year.now (cut_once 45 rest.now) }
 {
@@ -197,7 +197,7 @@ fn read_date_of(year: &[u8], rest: &[u8]) -> Option<Date>
     }
 }
 
-/// A date as `YYYY-MM-DD`.
+/// The date that `YYYY-MM-DD` writes.
 fn read_date(text: &[u8]) -> Option<Date>
     ensures { result ≡ spec.date_of text.now }
 {
@@ -207,7 +207,7 @@ fn read_date(text: &[u8]) -> Option<Date>
     }
 }
 
-/// A weekday, a date and a time, where all are what they should be.
+/// The moment with a weekday, a date and a time, if all are valid.
 fn moment_from(weekday: Option<u8>, date: Option<Date>, clock: Option<Clock>) -> Option<Moment>
     ensures { result ≡ spec.moment_from weekday date clock }
 {
@@ -224,7 +224,7 @@ fn moment_from(weekday: Option<u8>, date: Option<Date>, clock: Option<Clock>) ->
     }
 }
 
-/// A moment by its weekday, and by its date and time.
+/// A moment, given its weekday, and its date and time.
 fn read_moment_of(weekday: &[u8], rest: &[u8]) -> Option<Moment>
     ensures { result ≡ spec.moment_of_weekday weekday.now (cut_once 32 rest.now) }
 {
@@ -240,10 +240,9 @@ fn read_moment_of(weekday: &[u8], rest: &[u8]) -> Option<Moment>
     }
 }
 
-/// The moment that a text writes as `WEEKDAY YYYY-MM-DD HH:MM`, where the weekday has three letters in any case.
+/// The moment that `WEEKDAY YYYY-MM-DD HH:MM` writes; the weekday has three letters in any case.
 ///
-/// That moments are written so is a choice of this program. So is that the weekday is as it is given and not computed, and
-/// that each month may have 31 days.
+/// This form is a choice of this program. So is that the weekday is used as given and not computed, and that each month may have 31 days.
 #[tactic(auto, unfolding(crate::specs::Times::moment_of))]
 pub fn read_moment(text: &[u8]) -> Option<Moment>
     ensures { result ≡ spec.moment_of text.now }
@@ -254,14 +253,14 @@ pub fn read_moment(text: &[u8]) -> Option<Moment>
     }
 }
 
-/// How many minutes of the day have gone by at a minute of an hour.
+/// The number of minutes from the start of the day to a minute of an hour.
 fn minutes_at(hour: u8, minute: u8) -> u16
     ensures { result ≡ spec.minutes_at hour minute }
 {
     u16::from(hour) * 60 + u16::from(minute)
 }
 
-/// A time of the day as the minutes that have gone by.
+/// The time of the day that a text writes, as the number of minutes from the start of the day.
 fn read_minutes(text: &[u8]) -> Option<u16>
     ensures { result ≡ spec.value_of measures.Time text.now }
 {
@@ -271,7 +270,7 @@ fn read_minutes(text: &[u8]) -> Option<u16>
     }
 }
 
-/// A weekday by its number, where Sunday is 0 and 7.
+/// The weekday with a number; Sunday is 0 and 7.
 fn weekday_numbered(text: &[u8]) -> Option<u8>
     ensures { result ≡ spec.weekday_numbered text.now }
 {
@@ -281,7 +280,7 @@ fn weekday_numbered(text: &[u8]) -> Option<u8>
     }
 }
 
-/// A weekday by its name or its number.
+/// The weekday with a name or a number.
 fn read_weekday(text: &[u8]) -> Option<u8>
     ensures { result ≡ spec.value_of measures.Weekday text.now }
 {
@@ -291,7 +290,7 @@ fn read_weekday(text: &[u8]) -> Option<u8>
     }
 }
 
-/// A month by its name or its number.
+/// The month with a name or a number.
 fn read_month(text: &[u8]) -> Option<u8>
     ensures { result ≡ spec.value_of measures.Month text.now }
 {
@@ -301,7 +300,7 @@ fn read_month(text: &[u8]) -> Option<u8>
     }
 }
 
-/// A number as one of 16 bits, where there is one.
+/// An optional number, as one of 16 bits.
 fn widen(number: Option<u8>) -> Option<u16>
     ensures { result ≡ number }
 {
@@ -311,7 +310,7 @@ fn widen(number: Option<u8>) -> Option<u16>
     }
 }
 
-/// What a text says of a time, a weekday, a day or a month, as a number.
+/// The number for a time, a weekday, a day or a month that a text writes.
 fn read_value(measure: Measure, text: &[u8]) -> Option<u16>
     ensures { result ≡ spec.value_of measure text.now }
 {
@@ -323,7 +322,7 @@ fn read_value(measure: Measure, text: &[u8]) -> Option<u16>
     }
 }
 
-/// A range from a first value to a last one, where both are what they should be.
+/// The range from a first value to a last one, if both are valid.
 fn range_from(first: Option<u16>, last: Option<u16>) -> Option<RoundRange>
     ensures { result ≡ spec.range_from first last }
 {
@@ -343,7 +342,7 @@ fn read_between(measure: Measure, first: &[u8], last: &[u8]) -> Option<RoundRang
     )
 }
 
-/// The range that a text writes, as one value or as two with `-` between.
+/// The range that a text writes: one value, or two with `-` between them.
 #[tactic(auto, unfolding(crate::specs::Times::range_of))]
 fn read_range(measure: Measure, text: &[u8]) -> Option<RoundRange>
     ensures { result ≡ spec.range_of measure text.now }
@@ -354,7 +353,7 @@ fn read_range(measure: Measure, text: &[u8]) -> Option<RoundRange>
     }
 }
 
-/// Whether a range has a value: both ends belong to it, and it goes round where the last comes before the first.
+/// Whether a range has a value: it includes both ends, and wraps around if the last is before the first.
 fn has_value(range: RoundRange, value: u16) -> bool
     ensures { result ≡ spec.has_value value range }
 {
@@ -365,7 +364,7 @@ fn has_value(range: RoundRange, value: u16) -> bool
     }
 }
 
-/// Whether a text writes a range that has the value.
+/// Whether a text names a range that has the value.
 fn writes_value(measure: Measure, value: u16, text: &[u8]) -> bool
     ensures { result ≡ spec.writes_value measure value text.now }
 {
@@ -375,7 +374,7 @@ fn writes_value(measure: Measure, value: u16, text: &[u8]) -> bool
     }
 }
 
-/// Whether some of the ranges between `&` have the value.
+/// Whether one of the ranges between `&` has the value.
 fn is_in_some(measure: Measure, text: &[u8], value: u16) -> bool
     ensures { result ≡ list_any (spec.writes_value measure value) (slice_split (λ byte. byte == 38) text.now) }
 {
@@ -383,27 +382,26 @@ fn is_in_some(measure: Measure, text: &[u8], value: u16) -> bool
         .any(|range| writes_value(measure, value, range))
 }
 
-/// Whether a text says all: it is empty or `*`.
+/// Whether a text means all values: it is empty or `*`.
 fn says_all(text: &[u8]) -> bool
     ensures { result ≡ spec.says_all text.now }
 {
     text.is_empty() || text == b"*".as_slice()
 }
 
-/// Whether a value lies in what a text says.
+/// Whether a value is in a text.
 fn lies_in_ranges(measure: Measure, text: &[u8], value: u16) -> bool
     ensures { result ≡ spec.lies_in_ranges measure text.now value }
 {
     says_all(trim(text)) || is_in_some(measure, text, value)
 }
 
-/// Whether a moment lies in four kinds of ranges at once, after the Asterisk documentation's page on the application
-/// `GotoIfTime`.
+/// Whether a moment is in four kinds of ranges at once, after the Asterisk documentation's page on the application `GotoIfTime`.
 ///
-/// Each is empty or `*`, which is all, or ranges parted by `&`. A range is one value, or two with `-` between. Both ends
-/// belong to it, and it goes round: `22:00-06:00`, `fri-mon`, `nov-feb`, `28-3`. Times are `HH:MM` or `H:MM`, weekdays and
-/// months are three letters in any case or numbers (0 and 7 are Sunday), and days are numbers. The minute at which a range
-/// of times ends belongs to it, and what is no range is passed over (choices of this program).
+/// Each text is empty or `*`, which means all, or ranges separated by `&`. A range is one value, or two with `-` between them. It includes
+/// both ends, and wraps around: `22:00-06:00`, `fri-mon`, `nov-feb`, `28-3`. Times are `HH:MM` or `H:MM`, weekdays and months are three
+/// letters in any case or numbers (0 and 7 are Sunday), and days are numbers. The minute at which a range of times ends belongs to it, and
+/// anything that is no range is skipped (choices of this program).
 pub fn lies_in(moment: Moment, times: &[u8], weekdays: &[u8], days: &[u8], months: &[u8]) -> bool
     ensures { result ≡ spec.lies_in moment times.now weekdays.now days.now months.now }
 {

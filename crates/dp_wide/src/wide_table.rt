@@ -33,22 +33,22 @@ use std::alloc::Global;
 /// The applications that only go on, those that run outside, and the twenty-one of this program.
 type Listed = WithGoing<WithOutside<StandardApps>>;
 
-/// Those and the ones that enter and leave subroutines and macros, or delete what is kept.
+/// Those, and the applications that enter and leave subroutines and macros, or delete what is kept.
 type Calling = With<
     GosubWide,
     With<GosubIfWide, With<Macro, With<MacroExit, With<DbDel, Listed>>>>,
 >;
 
-/// Those and the ones that set names, or jump by the clock.
+/// Those, and the applications that set names, or jump by the clock.
 type Own = With<SetWide, With<MSet, With<GotoIfTime, Calling>>>;
 
-/// Those and the ones that do not look at their arguments: all but `ExecIf`.
+/// Those, and the applications that do not look at their arguments: all but `ExecIf`.
 type Inner = With<
     NoOp,
     With<Verbose, With<Answer, With<Hangup, With<Busy, With<Congestion, Own>>>>>,
 >;
 
-/// The applications that do not look at their arguments, beside those that only go on or run outside.
+/// The applications that do not look at their arguments, besides those that only go on or run outside.
 const QUIET: [&[u8]; 6] = [
     b"NoOp",
     b"Verbose",
@@ -58,7 +58,7 @@ const QUIET: [&[u8]; 6] = [
     b"Congestion",
 ];
 
-/// The applications of the table's own that look at theirs.
+/// The table's own applications that look at their arguments.
 const OWN: [&[u8]; 8] = [
     b"Set",
     b"MSet",
@@ -70,7 +70,7 @@ const OWN: [&[u8]; 8] = [
     b"DBdel",
 ];
 
-/// Whether an application looks at its arguments, without `ExecIf`.
+/// Whether an application other than `ExecIf` looks at its arguments.
 #[tactic(auto, unfolding(crate::specs::Wide::inner_looks))]
 fn inner_looks(name: &[u8]) -> bool
     ensures { result ≡ spec.inner_looks name.now }
@@ -84,7 +84,7 @@ fn inner_looks(name: &[u8]) -> bool
     Listed::looks_at_arguments(name)
 }
 
-/// Applications of the table that look at their arguments, and ask nothing whatever these are.
+/// Applications of the table that look at their arguments, and never ask for anything.
 const PLAIN: [&[u8]; 18] = [
     b"Goto",
     b"GotoIf",
@@ -121,7 +121,7 @@ fn is_exec_if(name: &[u8]) -> bool
     same_word(name, b"ExecIf")
 }
 
-/// The application that runs in the end, with its arguments, where an `ExecIf` may run another.
+/// The application that finally runs, with its arguments, if an `ExecIf` may run another.
 fn call_in_the_end<'a>(name: &'a [u8], arguments: &'a [u8]) -> Option<(&'a [u8], &'a [u8])>
     ensures { option_map (λ call. (call.0.now, call.1.now)) result ≡ spec.call_in_the_end 8 name.now arguments.now }
 {
@@ -144,7 +144,7 @@ fn call_in_the_end<'a>(name: &'a [u8], arguments: &'a [u8]) -> Option<(&'a [u8],
     Some((name, arguments))
 }
 
-/// The number of an application that is not among the placed ones, and is no `ExecIf`. It is asked by name in lists.
+/// The number of an application that is not among the placed ones, and is no `ExecIf`. It is found by name in lists.
 #[tactic(auto, using(crate::proofs::PlacedLemmas::going_has, crate::proofs::PlacedLemmas::outside_has), unfolding(crate::specs::Wide::inner_table))]
 fn number_by_lists(name: &[u8]) -> Option<AppNumber>
     ensures { is_some result ≡ has_row spec.inner_table.rows name.now }
@@ -196,7 +196,7 @@ impl AppTable for InnerApps {
     }
 }
 
-/// What an application asks that runs in the end, which is no `ExecIf`: itself, where the table lacks it.
+/// What the application that finally runs, which is no `ExecIf`, asks for: itself if the table lacks it.
 fn call_asked<B, C: Counts>(
     alloc: Global,
     scope: &Scope<'_, B, C>,
@@ -214,11 +214,11 @@ fn call_asked<B, C: Counts>(
     inner_asked(alloc, scope, name, arguments)
 }
 
-/// The wide table: the applications that people use. Those of this program's twenty-one that it does not have otherwise are as they
-/// are there.
+/// The wide table: the applications that people use. Those of this program's twenty-one that it does not have in another form are
+/// unchanged.
 ///
-/// Of an application that it lacks nothing is known, and neither is what follows from a time zone of `GotoIfTime`, from the clock while
-/// the global `CLOCK` is unset, and from setting `HASH`, `PUSH`, `UNSHIFT` and `CHANNEL(hangup_handler_push)`.
+/// Nothing is known of an application that it lacks, and neither of the results of a time zone in `GotoIfTime`, of the clock while the
+/// global `CLOCK` is unset, and of setting `HASH`, `PUSH`, `UNSHIFT` and `CHANNEL(hangup_handler_push)`.
 pub struct WideApps;
 
 impl AppTable for WideApps {
@@ -270,7 +270,7 @@ impl AppTable for WideApps {
     }
 }
 
-/// Runs an application that runs outside, if it has this name, else as the table does.
+/// Runs an application that runs outside, if it has this name, else does as the table does.
 fn run_outside(
     alloc: Global,
     name: &[u8],

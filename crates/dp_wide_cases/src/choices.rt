@@ -105,7 +105,7 @@ fn check_sides(alloc: Global) -> Result<(), Fail> {
 
 /// A condition chooses between two sides, and a side is an application or a value.
 #[test]
-fn sides_are_taken(rt: HostRuntime) -> Result<(), Fail> {
+fn conditions_choose_between_two_sides(rt: HostRuntime) -> Result<(), Fail> {
     check_sides(rt.alloc())
 }
 
@@ -115,7 +115,7 @@ fn check_runs(alloc: Global) -> Result<(), Fail> {
 
 /// `ExecIf` runs what it chooses, and 8 of them may stand inside each other.
 #[test]
-fn chosen_applications_run(rt: HostRuntime) -> Result<(), Fail> {
+fn exec_if_runs_the_chosen_application(rt: HostRuntime) -> Result<(), Fail> {
     check_runs(rt.alloc())
 }
 
@@ -125,6 +125,6 @@ fn check_times(alloc: Global) -> Result<(), Fail> {
 
 /// `GotoIfTime` jumps by the global `CLOCK`.
 #[test]
-fn clocks_choose_targets(rt: HostRuntime) -> Result<(), Fail> {
+fn goto_if_time_jumps_by_the_clock(rt: HostRuntime) -> Result<(), Fail> {
     check_times(rt.alloc())
 }

@@ -165,7 +165,7 @@ const TABLES: &[&str] = &[
 
 /// The functions of the wide table have these values, and are known where they should be.
 #[test]
-fn functions_have_these_values(rt: HostRuntime) -> Result<(), Fail> {
+fn values_of_functions(rt: HostRuntime) -> Result<(), Fail> {
     check_all::<Expansion>(rt.alloc(), TABLES)
 }
 
@@ -216,7 +216,7 @@ const DEPTHS: &str = r"
 
 /// Calls that stand inside each other too deep are empty and unknown.
 #[test]
-fn calls_inside_each_other(rt: HostRuntime) -> Result<(), Fail> {
+fn function_calls_nest_up_to_a_limit(rt: HostRuntime) -> Result<(), Fail> {
     check::<Nested>(rt.alloc(), DEPTHS)
 }
 
@@ -237,6 +237,6 @@ impl Question for Computed {
 
 /// Names of functions are told from those of cells.
 #[test]
-fn names_of_functions(rt: HostRuntime) -> Result<(), Fail> {
+fn function_and_cell_names_are_told_apart(rt: HostRuntime) -> Result<(), Fail> {
     check::<Computed>(rt.alloc(), names::FUNCTIONS)
 }

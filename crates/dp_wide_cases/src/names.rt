@@ -25,24 +25,24 @@ fn machine_of<T: AppTable>(alloc: Global, lines: &str) -> Result<Machine<T>, Fai
 
 /// Each name of the lists does what its list says, in any case, and other names are those of the table behind them.
 #[test]
-fn names_go_on_or_wait(rt: HostRuntime) -> Result<(), Fail> {
+fn applications_of_the_lists_go_on_or_wait(rt: HostRuntime) -> Result<(), Fail> {
     check::<Kind>(rt.alloc(), KINDS)
 }
 
 /// What is known of an application that runs outside is told anew each time.
 #[test]
-fn statuses_are_taken_away(rt: HostRuntime) -> Result<(), Fail> {
+fn applications_outside_clear_their_status(rt: HostRuntime) -> Result<(), Fail> {
     check::<Story>(rt.alloc(), STORIES)
 }
 
 /// What the arguments ask does not stop those that do not look at them.
 #[test]
-fn arguments_are_looked_at(rt: HostRuntime) -> Result<(), Fail> {
+fn applications_that_look_at_their_arguments(rt: HostRuntime) -> Result<(), Fail> {
     check::<Ahead>(rt.alloc(), AHEAD)
 }
 
 /// Each name that an application or Asterisk gives a value is told apart from all others.
 #[test]
-fn names_of_variables(rt: HostRuntime) -> Result<(), Fail> {
+fn variables_that_applications_or_asterisk_set(rt: HostRuntime) -> Result<(), Fail> {
     check::<Variable>(rt.alloc(), VARIABLES)
 }

@@ -27,7 +27,7 @@ fn check_settings(alloc: Global) -> Result<(), Fail> {
 
 /// Names are set, one or several at a time, and keys are deleted.
 #[test]
-fn names_are_set(rt: HostRuntime) -> Result<(), Fail> {
+fn names_are_set_and_keys_are_deleted(rt: HostRuntime) -> Result<(), Fail> {
     check_settings(rt.alloc())
 }
 
@@ -37,7 +37,7 @@ fn check_calls(alloc: Global) -> Result<(), Fail> {
 
 /// Subroutines and macros are entered and left, and know their arguments.
 #[test]
-fn subroutines_and_macros(rt: HostRuntime) -> Result<(), Fail> {
+fn subroutines_and_macros_are_entered_and_left(rt: HostRuntime) -> Result<(), Fail> {
     check_calls(rt.alloc())
 }
 
@@ -47,6 +47,6 @@ fn check_targets(alloc: Global) -> Result<(), Fail> {
 
 /// What a name sets from outside.
 #[test]
-fn names_from_outside(rt: HostRuntime) -> Result<(), Fail> {
+fn targets_of_names_that_are_set_from_outside(rt: HostRuntime) -> Result<(), Fail> {
     check_targets(rt.alloc())
 }

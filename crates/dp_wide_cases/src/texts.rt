@@ -16,7 +16,7 @@ fn check_fields(alloc: Global) -> Result<(), Fail> {
 
 /// Values are cut into fields at a byte, and some of the fields are chosen.
 #[test]
-fn fields_of_values(rt: HostRuntime) -> Result<(), Fail> {
+fn values_are_cut_into_fields(rt: HostRuntime) -> Result<(), Fail> {
     check_fields(rt.alloc())
 }
 
@@ -27,6 +27,6 @@ fn check_letters(alloc: Global) -> Result<(), Fail> {
 
 /// Texts keep the bytes of a set, and are written in one case.
 #[test]
-fn bytes_of_texts(rt: HostRuntime) -> Result<(), Fail> {
+fn texts_are_filtered_and_change_case(rt: HostRuntime) -> Result<(), Fail> {
     check_letters(rt.alloc())
 }

@@ -154,11 +154,11 @@ impl Question for Wide {
 }
 
 #[test]
-fn the_unknown_is_told_so(rt: HostRuntime) -> Result<(), Fail> {
+fn what_is_unknown_ahead(rt: HostRuntime) -> Result<(), Fail> {
     check::<Wide>(rt.alloc(), AHEAD)
 }
 
 #[test]
-fn stories_go_so(rt: HostRuntime) -> Result<(), Fail> {
+fn calls_run_over_the_wide_table(rt: HostRuntime) -> Result<(), Fail> {
     check::<Wide>(rt.alloc(), STORIES)
 }

@@ -1,4 +1,4 @@
--- Runs of a script with facts that keep something beside where they have stopped, and write more above some of the lines.
+-- Runs of a script with facts that keep further state besides their stops, and write more above some of the lines.
 use Rattle.std.specs.Prelude.{◌≡◌, ℕ, ◌++◌, List, [], Option, Some, None, Result, Ok, Err}
 use Rattle.std.specs.Io.KnownBytes.{Appends}
 use Rattle.dp_machine.specs.World.{World}
@@ -15,51 +15,51 @@ use Rattle.dp_wide_runs.specs.Turns.{Stops, no_stops, pass_refusal, step_turn, w
 use Rattle.dp_wide_runs.specs.declared.wide_turn.WideTurn.{WideTurn}
 use Rattle.dp_wide_runs.specs.declared.wide_turn.WideTurn.TheVariants.{Plain, Further, Pass}
 
--- where a run has stopped, and the world, without what is beside
+-- the stops of a run and its world, without the further state
 abbrev pub without : {P : Type 0} → (Stops × P) × World → Stops × World
 without at = (at.0.0, at.1)
 
--- what is beside after a turn, by the turn of a plain script that it is given as: where it is given as none nothing changes
+-- the further state after a turn, given the plain script's turn that the turn is given as; without such a turn it stays
 abbrev pub beside_after : {P : Type 0} → (P → World → Turn → P) → P → World → Option Turn → P
 beside_after after beside w None = beside
 beside_after after beside w (Some given) = after beside w given
 
--- what stands above the lines of a turn that is given as one of a plain script, and nothing where it is given as none
+-- the text above the lines of a turn that is given as one of a plain script; empty if it is given as none
 abbrev pub above_given : {P : Type 0} → (P → World → Turn → List ℕ) → P → World → Option Turn → List ℕ
 above_given above beside w None = []
 above_given above beside w (Some given) = above beside w given
 
--- what stands above the lines of a pass: what stands above a refusal, where it is one
+-- the text above the lines of a pass: that of a refusal if the pass is refused
 abbrev pub above_pass : {P : Type 0} → (P → World → Turn → List ℕ) → (Refusal → List ℕ) → P → World → ℕ → Option Turn → List ℕ
 above_pass above above_refusal beside w number None = above_refusal (pass_refusal (phase_at w number))
 above_pass above above_refusal beside w number (Some given) = above beside w given
 
--- what stands above the lines of a turn
+-- the text above the lines of a turn
 abbrev pub above_by : {P : Type 0} → (P → World → Turn → List ℕ) → (Refusal → List ℕ) → P → World → WideTurn → Option Turn → List ℕ
 above_by above above_refusal beside w (Plain turn) given = above_given above beside w given
 above_by above above_refusal beside w (Further number) given = above_given above beside w given
 above_by above above_refusal beside w (Pass number) given = above_pass above above_refusal beside w number given
 
--- what a turn comes to with something beside and with more above its lines, by what it comes to without
+-- the result of a turn with further state and more text above its lines, given the result without them
 abbrev pub taken_with : {P : Type 0} → P → List ℕ → Taken (Stops × World) → Taken ((Stops × P) × World)
 taken_with beside above taken =
     record { state = ((taken.state.0, beside), taken.state.1); lines = above ++ taken.lines; refused = taken.refused }
 
--- what a step comes to, by what is unknown ahead of its channel
+-- the result of a step, given what is unknown ahead of its channel
 abbrev pub step_beside : {P : Type 0} → (P → World → Turn → P) → (P → World → Turn → List ℕ) → Stops × P → World → ℕ → Option Unknown
     → Taken ((Stops × P) × World)
 step_beside after above at w number unknown =
     taken_with (beside_after after at.1 w (step_given number unknown)) (above_given above at.1 w (step_given number unknown))
     (step_turn at.0 w number unknown)
 
--- what a turn comes to: what it comes to without, with more above its lines
+-- the result of a turn: as without further state, with more text above its lines
 abbrev pub turn_beside : {P : Type 0} → (P → World → Turn → P) → (P → World → Turn → List ℕ) → (Refusal → List ℕ)
     → (Stops × P) × World → WideTurn → Taken ((Stops × P) × World)
 turn_beside after above above_refusal at turn =
     taken_with (beside_after after at.0.1 at.1 (given_as (without at) turn))
     (above_by above above_refusal at.0.1 at.1 turn (given_as (without at) turn)) (wide_turn (without at) turn)
 
--- what a run writes and answers, by the run or the fault that its texts are, and by what is beside at first
+-- the output and result of a run, given the run or the fault of its texts, and the first further state
 abbrev pub WritesBeside : {P : Type 0} → (P → World → Turn → P) → (P → World → Turn → List ℕ) → (Refusal → List ℕ) → P
     → Option (List ℕ) → Option (List ℕ) → Result WideRun PbxFault → Result ℕ PbxFault → Type 0
 WritesBeside after above above_refusal beside old new (Ok run) result =

@@ -1,4 +1,4 @@
--- The kinds of the findings of an audit, by the words that are printed of them, and which of them are told.
+-- The kinds of an audit's findings, named by the words that are printed for them, and which of them are reported.
 use Rattle.std.specs.Prelude.{ℕ, Bool, true, false, not, ◌==◌, List, [], ◌∷◌, codes}
 use Rattle.std.specs.List.{list_all, list_any, slice_split}
 use Rattle.dp_conf.specs.Blanks.{trim}
@@ -7,23 +7,23 @@ use Rattle.dp_wide_runs.specs.declared.kinds.KindChoice.{KindChoice}
 use Rattle.dp_wide_runs.specs.declared.kinds.KindChoice.TheVariants as kinds
 use Rattle.dp_wide_runs.specs.declared.kinds.AuditChoice.{AuditChoice}
 
--- those of an audit over the applications of this program, in the order in which they are told of an entry
+-- the kinds of an audit over the applications of this program, in the order in which they are reported for an entry
 unfoldable pub plain_kinds : List (List ℕ)
 plain_kinds =
     codes "Cycle" ∷ codes "NoApplication" ∷ codes "NoTarget" ∷ codes "Gap" ∷ codes "NoFirst" ∷ codes "Hidden" ∷ codes "Unset"
     ∷ codes "Unused" ∷ []
 
--- those of an audit over the wide table, which does not tell of variables
+-- the kinds of an audit over the wide table, which reports no variables
 unfoldable pub wide_kinds : List (List ℕ)
 wide_kinds =
     codes "Cycle" ∷ codes "NoApplication" ∷ codes "NoTarget" ∷ codes "Gap" ∷ codes "NoFirst" ∷ codes "Hidden" ∷ codes "Unused"
     ∷ codes "FallsThrough" ∷ codes "Loop" ∷ codes "NoFunction" ∷ []
 
--- a word is one of some kinds, in any case
+-- whether a word is one of some kinds, in any case
 abbrev pub is_among : List (List ℕ) → List ℕ → Bool
 is_among kinds word = list_any (same_word word) kinds
 
--- a word is a kind of an audit, over the wide table or not
+-- whether a word is a kind of an audit, over the wide table or not
 abbrev pub is_kind : Bool → List ℕ → Bool
 is_kind false word = is_among plain_kinds word
 is_kind true word = is_among wide_kinds word
@@ -31,19 +31,19 @@ is_kind true word = is_among wide_kinds word
 abbrev pub is_comma : ℕ → Bool
 is_comma byte = byte == 44
 
--- the words of a text, which commas part
+-- the words of a text, which commas separate
 abbrev pub words_in : List ℕ → List (List ℕ)
 words_in text = slice_split is_comma text
 
--- each word of a text is a kind; the blanks at its ends have no effect
+-- whether each word of a text is a kind; blanks at the ends of a word have no effect
 abbrev pub are_kinds : Bool → List ℕ → Bool
 are_kinds is_wide text = list_all (λ word. is_kind is_wide (trim word)) (words_in text)
 
--- a kind is one of the words of a text, in any case
+-- whether a kind is one of the words of a text, in any case
 abbrev pub has_kind : List ℕ → List ℕ → Bool
 has_kind text kind = list_any (λ word. same_word kind (trim word)) (words_in text)
 
--- which kinds are told, with the texts that name them
+-- the kinds that are reported, with the texts that name them
 pub data KindsTold : Type 0 where
   all : KindsTold
   only : List ℕ → KindsTold
@@ -54,13 +54,13 @@ kinds_told kinds.All = all
 kinds_told (kinds.Only text) = only text.now
 kinds_told (kinds.Except text) = except text.now
 
--- a kind is told
+-- whether a kind is reported
 abbrev pub is_told : KindsTold → List ℕ → Bool
 is_told all kind = true
 is_told (only text) kind = has_kind text kind
 is_told (except text) kind = not (has_kind text kind)
 
--- what an audit is asked for: whether it goes by the wide table, and which kinds are told
+-- the choice of an audit: whether it uses the wide table, and which kinds it reports
 pub record ChoiceOf : Type 0 where
   pub is_wide : Bool
   pub kinds : KindsTold

@@ -1,4 +1,4 @@
--- A script with facts: what its lines stand for. Those of a plain script stand for what they stand for there.
+-- A script with facts: the meaning of its lines. The lines of a plain script mean what they mean there.
 use Rattle.std.specs.Prelude.{ℕ, ◌-◌, Bool, ◌||◌, nat_le, min, List, [], ◌∷◌, map, position, take, drop, Option, Some, None, is_some, Result, codes, if◌then◌else◌}
 use Rattle.std.specs.List.{flat_map}
 use Rattle.std.specs.Option.{option_and_then, option_map}
@@ -19,12 +19,12 @@ use Rattle.dp_commands.specs.declared.script.Turn.TheVariants.{Event, Show}
 use Rattle.dp_wide_runs.specs.declared.wide_turn.WideTurn.{WideTurn}
 use Rattle.dp_wide_runs.specs.declared.wide_turn.WideTurn.TheVariants.{Plain, Further, Pass}
 
--- a text that is cut at its first blank, and what comes behind that without blanks at its ends
+-- a text cut at its first blank; the part after it has no blanks at its ends
 abbrev pub cut_at : List ℕ → Option ℕ → List ℕ × List ℕ
 cut_at text None = (text, [])
 cut_at text (Some place) = (take place text, trim (drop place text))
 
--- the first word of a text that begins with one, and what comes behind it without blanks at its ends
+-- the first word of a text that begins with a word, and the rest without blanks at its ends
 abbrev pub cut_word : List ℕ → List ℕ × List ℕ
 cut_word text = cut_at text (position is_blank text)
 
@@ -37,7 +37,7 @@ setting_of (byte ∷ name) value = Some (byte ∷ name, value)
 abbrev pub setting_in : List ℕ → Option (List ℕ × List ℕ)
 setting_in text = option_and_then (λ cut. setting_of (trim cut.0) (trim cut.1)) (cut_once 61 text)
 
--- a line that gives the event once
+-- a line that gives an event once
 abbrev pub gives : MachineEvent → ScriptLine WideTurn
 gives event = once (Plain (Event event))
 
@@ -45,24 +45,24 @@ gives event = once (Plain (Event event))
 abbrev pub assigns : Option ℕ → List ℕ × List ℕ → ScriptLine WideTurn
 assigns channel setting = gives (Assign channel setting.0 setting.1)
 
--- `let CH NAME=VALUE`, by what comes behind `let`
+-- `let CH NAME=VALUE`, given the text after `let`
 abbrev pub let_line : List ℕ → Option (ScriptLine WideTurn)
 let_line text =
     option_and_then (λ channel. option_map (assigns (Some channel)) (setting_in (cut_word text).1)) (channel_in (cut_word text).0)
 
--- `global NAME=VALUE`, by what comes behind `global`
+-- `global NAME=VALUE`, given the text after `global`
 abbrev pub global_line : List ℕ → Option (ScriptLine WideTurn)
 global_line text = option_map (assigns None) (setting_in text)
 
--- `clock WEEKDAY YYYY-MM-DD HH:MM`, by the moment that comes behind `clock`: the global `CLOCK` is set to it
+-- `clock WEEKDAY YYYY-MM-DD HH:MM`, given the moment after `clock`: it becomes the value of the global `CLOCK`
 abbrev pub clock_line : List ℕ → Option (ScriptLine WideTurn)
 clock_line text = if is_some (moment_of text) then Some (assigns None (codes "CLOCK", text)) else None
 
--- `go CH`, by the words behind `go`: what the channel waits for comes to its end
+-- `go CH`, given the words after `go`: what the channel waits for comes to its end
 abbrev pub go_line : List (List ℕ) → Option (ScriptLine WideTurn)
 go_line words = option_map (λ channel. gives (Timeout channel)) (one_channel words)
 
--- `pass CH`, by the words behind `pass`
+-- `pass CH`, given the words after `pass`
 abbrev pub pass_line : List (List ℕ) → Option (ScriptLine WideTurn)
 pass_line words = option_map (λ channel. once (Pass channel)) (one_channel words)
 
@@ -70,16 +70,16 @@ pass_line words = option_map (λ channel. once (Pass channel)) (one_channel word
 unfoldable pub priority_in : List ℕ → Option ℕ
 priority_in word = option_and_then (λ number. if nat_le 1 number then Some number else None) (number_within most_priority word)
 
--- a place by its words
+-- a place, given its words
 abbrev pub place_by : List ℕ → List ℕ → ℕ → Place
 place_by context exten priority = record { context = context; exten = exten; priority = priority }
 
--- a channel is sent to a place
+-- a line that sends a channel to a place
 abbrev pub redirects : List ℕ → List ℕ → List ℕ → Option ℕ → Option (ScriptLine WideTurn)
 redirects channel context exten priority =
     option_and_then (λ number. option_map (λ at. gives (Redirect number (place_by context exten at))) priority) (channel_in channel)
 
--- `redirect CH CONTEXT EXTEN [PRIORITY]`, by the words behind `redirect`: the priority is 1 unless given
+-- `redirect CH CONTEXT EXTEN [PRIORITY]`, given the words after `redirect`; without a priority it is 1
 abbrev pub redirect_line : List (List ℕ) → Option (ScriptLine WideTurn)
 redirect_line [] = None
 redirect_line (channel ∷ []) = None
@@ -88,23 +88,23 @@ redirect_line (channel ∷ context ∷ exten ∷ []) = redirects channel context
 redirect_line (channel ∷ context ∷ exten ∷ priority ∷ []) = redirects channel context exten (priority_in priority)
 redirect_line (channel ∷ context ∷ exten ∷ priority ∷ more ∷ words) = None
 
--- it is said of a function that those of its cells are empty which nothing wrote
+-- a line that says of a function that its unwritten cells are empty
 abbrev pub assumes : List ℕ → ScriptLine WideTurn
 assumes function = assigns None (assumed_name function, codes "1")
 
--- `assume NAME..`, by the words behind `assume`: it is said of each of these functions
+-- `assume NAME..`, given the words after `assume`: a line for each function
 abbrev pub assume_lines : List (List ℕ) → Option (List (ScriptLine WideTurn))
 assume_lines [] = None
 assume_lines (name ∷ names) = Some (map assumes (name ∷ names))
 
--- whether a line with this first word is none of a plain script
+-- whether a line with this first word belongs to no plain script
 abbrev pub is_own : List ℕ → Bool
 is_own word =
     same_text word (codes "let") || (same_text word (codes "global") || (same_text word (codes "clock")
     || (same_text word (codes "go") || (same_text word (codes "redirect") || (same_text word (codes "pass")
     || same_text word (codes "assume"))))))
 
--- what such a line stands for but one that assumes, by what comes behind its first word; and None where it is faulty
+-- the meaning of such a line, unless it is an `assume` line, given the text after its first word; None if the line is faulty
 abbrev pub own_line : List ℕ → List ℕ → Option (ScriptLine WideTurn)
 own_line word text =
     if same_text word (codes "let") then let_line text
@@ -114,12 +114,12 @@ own_line word text =
     else if same_text word (codes "redirect") then redirect_line (words_of text)
     else pass_line (words_of text)
 
--- what such a line stands for, by what comes behind its first word; and None where it is faulty
+-- the meaning of such a line, given the text after its first word; None if the line is faulty
 abbrev pub own_lines : List ℕ → List ℕ → Option (List (ScriptLine WideTurn))
 own_lines word text =
     if same_text word (codes "assume") then assume_lines (words_of text) else option_map (λ line. line ∷ []) (own_line word text)
 
--- the channel of which an event is a step
+-- the channel that an event steps
 abbrev pub stepped : MachineEvent → Option ℕ
 stepped (Step channel) = Some channel
 stepped (Start context exten caller) = None
@@ -136,31 +136,31 @@ stepped (Reload text) = None
 stepped (Assign channel name value) = None
 stepped (Redirect channel place) = None
 
--- the channel of which a turn is a step
+-- the channel that a turn steps
 abbrev pub stepped_by : Turn → Option ℕ
 stepped_by (Event event) = stepped event
 stepped_by (Show channel name) = None
 
--- a line of a plain script, by the channel of which its turn is a step: the steps after the first are further ones
+-- a line of a plain script, given the channel that its turn steps: the steps after the first are further steps
 abbrev pub wide_lines : Option ℕ → ScriptLine Turn → List (ScriptLine WideTurn)
 wide_lines None line = (record { turn = Plain line.turn; count = line.count }) ∷ []
 wide_lines (Some channel) line =
     (record { turn = Plain line.turn; count = min 1 line.count }) ∷ (record { turn = Further channel; count = line.count - 1 }) ∷ []
 
--- the same by the line alone
+-- a line of a plain script in a script with facts
 abbrev pub wide_lines_of : ScriptLine Turn → List (ScriptLine WideTurn)
 wide_lines_of line = wide_lines (stepped_by line.turn) line
 
--- what a line stands for, by its first word and what comes behind it
+-- the meaning of a line, given its first word and the text after it
 abbrev pub line_by : Option (List ℕ) → List ℕ → List ℕ × List ℕ → Option (List (ScriptLine WideTurn))
 line_by second_plan part cut =
     if is_own cut.0 then own_lines cut.0 cut.1
     else option_map (λ lines. flat_map wide_lines_of lines) (line_in second_plan part)
 
--- what a line stands for beside a second dialplan, where there is one: nothing, where it is passed over; and None where it is faulty
+-- the meaning of a line, with an optional second dialplan: empty if it is skipped; None if the line is faulty
 unfoldable pub stands_for : Option (List ℕ) → List ℕ → Option (List (ScriptLine WideTurn))
 stands_for second_plan part = line_by second_plan part (cut_word (trim part))
 
--- the lines of a script beside a second dialplan, where there is one; or the fault of its first faulty line
+-- the lines of a script, with an optional second dialplan; or the fault of the first faulty line
 abbrev pub wide_script_of : Option (List ℕ) → List ℕ → Result (List (ScriptLine WideTurn)) PbxFault
 wide_script_of second_plan text = script_by (stands_for second_plan) text

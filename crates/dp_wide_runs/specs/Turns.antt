@@ -1,4 +1,4 @@
--- What the turns of a script with facts come to, one by one: no step is given to the machine while something is unknown ahead of its channel.
+-- The result of each turn of a script with facts: no step goes to the machine while something is unknown ahead of its channel.
 use Rattle.std.specs.Prelude.{ℕ, ◌+◌, ◌-◌, ◌^◌, min, Bool, true, false, List, [], ◌∷◌, ◌++◌, Option, Some, None, codes, decimal, if◌then◌else◌}
 use Rattle.std.specs.Option.{option_and_then, option_map}
 use Rattle.dp_app.specs.Rows.{Meanings, with_functions}
@@ -22,15 +22,15 @@ use Rattle.dp_wide_runs.specs.Lines.{stepped_by}
 use Rattle.dp_wide_runs.specs.declared.wide_turn.WideTurn.{WideTurn}
 use Rattle.dp_wide_runs.specs.declared.wide_turn.WideTurn.TheVariants.{Plain, Further, Pass}
 
--- what the names of a dialplan mean by the wide table
+-- what the names of a dialplan mean in the wide table
 abbrev pub wide_meanings : Meanings
 wide_meanings = with_functions wide_rows wide_functions
 
--- what is unknown ahead of the channel of a number
+-- what is unknown ahead of the channel with a number
 abbrev pub unknown_at : World → ℕ → Option Unknown
 unknown_at w number = unknown_ahead wide_meanings wide_knowledge w number
 
--- the name of what is unknown
+-- the name of something unknown
 abbrev pub unknown_name : Unknown → List ℕ
 unknown_name (Application name) = name
 unknown_name (Group name) = name
@@ -41,24 +41,24 @@ abbrev pub unknown_line : World → ℕ → Unknown → List ℕ
 unknown_line w number what =
     codes "unknown " ++ decimal number ++ codes " " ++ unknown_name what ++ (codes " -> " ++ state_text w number) ++ 10 ∷ []
 
--- where a run has stopped: whether the steps of the line that is taken are over, and whether a step was not taken at all
+-- where a run has stopped: whether the steps of the current line are over, and whether a step was ever not taken
 pub record Stops : Type 0 where
   pub line_is_over : Bool
   pub has_stopped : Bool
 
--- a run that has not begun
+-- the stops of a run that has not begun
 abbrev pub no_stops : Stops
 no_stops = record { line_is_over = false; has_stopped = false }
 
--- a step was taken
+-- the stops after a step was taken
 abbrev pub after_step : Stops → Stops
 after_step stops = record { line_is_over = false; has_stopped = stops.has_stopped }
 
--- a step was not taken
+-- the stops after a step was not taken
 abbrev pub at_stop : Stops
 at_stop = record { line_is_over = true; has_stopped = true }
 
--- what a turn of a plain script comes to over the wide table
+-- the result of a plain script's turn over the wide table
 abbrev pub plain_turn : Stops → World → Turn → Taken (Stops × World)
 plain_turn stops w turn =
     record {
@@ -67,22 +67,22 @@ plain_turn stops w turn =
       refused = (after_turn_by wide_meanings w turn).refused;
     }
 
--- what a step comes to, by what is unknown ahead of its channel: it is taken only where nothing is
+-- the result of a step, given what is unknown ahead of its channel: the step is taken only if nothing is
 abbrev pub step_turn : Stops → World → ℕ → Option Unknown → Taken (Stops × World)
 step_turn stops w number None = plain_turn (after_step stops) w (Event (Step number))
 step_turn stops w number (Some what) = record { state = (at_stop, w); lines = unknown_line w number what; refused = false }
 
--- what a turn comes to, by the channel of which it is a step
+-- the result of a turn, given the channel that it steps
 abbrev pub first_turn : Stops → World → Turn → Option ℕ → Taken (Stops × World)
 first_turn stops w turn None = plain_turn stops w turn
 first_turn stops w turn (Some number) = step_turn stops w number (unknown_at w number)
 
--- what a further step of a line comes to: it is left out where the line is over
+-- the result of a further step of a line: it is left out if the line is over
 abbrev pub further_turn : Stops → World → ℕ → Taken (Stops × World)
 further_turn stops w number =
     if stops.line_is_over then record { state = (stops, w); lines = []; refused = false } else step_turn stops w number (unknown_at w number)
 
--- the priority after another; the greatest number of 32 bits stays, which no entry has
+-- the priority after another; the greatest 32-bit number, which no entry has, stays
 abbrev pub priority_after : ℕ → ℕ
 priority_after priority = min (priority + 1) (2 ^ 32 - 1)
 
@@ -90,12 +90,12 @@ priority_after priority = min (priority + 1) (2 ^ 32 - 1)
 abbrev pub place_after : Place → Place
 place_after place = record place { priority = priority_after place.priority }
 
--- the place of a channel ahead of which something is unknown
+-- the place of a channel if something is unknown ahead of it
 abbrev pub place_of_unknown : World → ℕ → Option Place
 place_of_unknown w number =
     option_and_then (λ what. option_map (λ channel. channel.place) (channel_at w.channels number)) (unknown_at w number)
 
--- why a channel does not pass where nothing is unknown ahead of it, by its phase, where there is one
+-- why a channel does not pass if nothing is unknown ahead of it, given its phase, if there is a channel
 abbrev pub pass_refusal : Option Phase → Refusal
 pass_refusal None = NoChannel
 pass_refusal (Some phase_ended) = Ended
@@ -106,18 +106,18 @@ pass_refusal (Some (Queued queue goes_on has_timer)) = NotReady
 pass_refusal (Some (Talking queue agent goes_on)) = NotReady
 pass_refusal (Some (Dialling goes_on has_timer)) = NotReady
 
--- what a pass comes to, by the place of its channel where something is unknown ahead of that: a redirection to the next priority
+-- the result of a pass, given the channel's place if something is unknown ahead of it: a redirection to the next priority
 abbrev pub pass_turn : Stops → World → ℕ → Option Place → Taken (Stops × World)
 pass_turn stops w number None =
     record { state = (stops, w); lines = refusal_text (pass_refusal (phase_at w number)) ++ 10 ∷ []; refused = true }
 pass_turn stops w number (Some place) = plain_turn stops w (Event (Redirect number (place_after place)))
 
--- what a turn comes to
+-- the result of a turn
 abbrev pub wide_turn : Stops × World → WideTurn → Taken (Stops × World)
 wide_turn at (Plain turn) = first_turn at.0 at.1 turn (stepped_by turn)
 wide_turn at (Further number) = further_turn at.0 at.1 number
 wide_turn at (Pass number) = pass_turn at.0 at.1 number (place_of_unknown at.1 number)
 
--- the status of a run: 1 where a turn was refused, else 4 where a step was not taken
+-- the status of a run: 1 if a turn was refused, else 4 if a step was not taken
 abbrev pub wide_status : Stops → Bool → ℕ
 wide_status stops refused = if refused then 1 else (if stops.has_stopped then 4 else 0)

@@ -1,4 +1,4 @@
--- The report of an audit that is asked for some kinds of findings, over the applications of this program or over the wide table.
+-- The report of an audit for some kinds of findings, over this program's applications or over the wide table.
 use Rattle.std.specs.Prelude.{◌≡◌, ℕ, List, [], ◌∷◌, ◌++◌, length, Option, Result, Ok, Err, codes, decimal}
 use Rattle.std.specs.Io.KnownBytes.{Appends}
 use Rattle.std.specs.List.{flat_map}
@@ -15,51 +15,51 @@ use Rattle.dp_wide_runs.specs.declared.wide_audit.Outcome.{Outcome}
 use Rattle.dp_wide_runs.specs.declared.wide_finding.WideFinding.{WideFinding}
 use Rattle.dp_wide_runs.specs.declared.wide_finding.WideFinding.TheVariants.{Plain, FallsThrough, EndlessRun, NoFunction}
 
--- a finding, `KIND CONTEXT,NAME,PRIORITY` and what it is about
+-- a finding: `KIND CONTEXT,NAME,PRIORITY`, then the finding's subject
 abbrev pub wide_text : PlanOf → WideFinding → List ℕ
 wide_text plan (Plain finding) = finding_text plan finding
 wide_text plan (FallsThrough found) = codes "FallsThrough " ++ spot_text plan found.entry ++ codes " " ++ spot_text plan found.next
 wide_text plan (EndlessRun run) = codes "Loop " ++ spot_text plan run.first
 wide_text plan (NoFunction id name) = codes "NoFunction " ++ spot_text plan id ++ codes " " ++ name
 
--- its line
+-- the line of a finding
 abbrev pub wide_line : PlanOf → WideFinding → List ℕ
 wide_line plan finding = wide_text plan finding ++ 10 ∷ []
 
--- the lines of the findings, and then `ok N findings`
+-- the lines of the findings, then the line `ok N findings`
 abbrev pub findings_text : PlanOf → List WideFinding → List ℕ
 findings_text plan findings = flat_map (wide_line plan) findings ++ codes "ok " ++ decimal (length findings) ++ codes " findings\n"
 
--- the status of an audit with some findings: 1 where something is found
+-- the status of an audit with these findings: 1 if there are any
 abbrev pub status_of : List WideFinding → ℕ
 status_of [] = 0
 status_of (finding ∷ findings) = 1
 
--- what is reported of some findings
+-- the report of these findings
 abbrev pub report_of : PlanOf → List WideFinding → Audited
 report_of plan findings = record { text = findings_text plan findings; status = status_of findings }
 
--- the report that is held
+-- the report of an outcome
 abbrev pub reported : Outcome → Audited
 reported report = record { text = report.text.begun; status = report.status }
 
--- a report of an audit of the dialplan: it is of all that is told, and of nothing else
+-- a report of an audit of the dialplan: it lists all findings that are to be reported, and no others
 pub record IsAudit (choice : ChoiceOf) (plan : PlanOf) (report : Audited) : Type 0 where
   pub findings : List WideFinding
   pub told : AreTold choice plan findings
   pub whole : report ≡ report_of plan findings
 
--- what an audit of the dialplan writes and answers: such a report or, where a write fails, a front of one
+-- the output and result of an audit of the dialplan: such a report or, if a write fails, a prefix of one
 pub record WritesReport (choice : ChoiceOf) (plan : PlanOf) (old new : Option (List ℕ)) (result : Result ℕ PbxFault) : Type 0 where
   pub report : Audited
   pub audit : IsAudit choice plan report
   pub writes : WritesAudit old new (Ok report) result
 
--- the dialplan of a text, or its fault
+-- the dialplan that a text holds, or the text's fault
 unfoldable pub plan_of : List ℕ → Result PlanOf PbxFault
 plan_of text = plan_fault (plan_and_notes text) >>= λ read. Ok read.0
 
--- what an audit writes and answers, by the dialplan or the fault that its text is
+-- the output and result of an audit, given the dialplan or the fault of its text
 abbrev pub WritesChoice : ChoiceOf → Option (List ℕ) → Option (List ℕ) → Result PlanOf PbxFault → Result ℕ PbxFault → Type 0
 WritesChoice choice old new (Ok plan) (Ok status) = WritesReport choice plan old new (Ok status)
 WritesChoice choice old new (Ok plan) (Err (Coded code line)) = WritesReport choice plan old new (Err (Coded code line))

@@ -1,4 +1,4 @@
--- What an audit tells that is asked for some kinds of findings, over the applications of this program or over the wide table.
+-- The findings of an audit for some kinds, over this program's applications or over the wide table.
 use Rattle.std.specs.Prelude.{◌≡◌, ℕ, Bool, true, false, not, ◌&&◌, ◌||◌, List, [], ◌∷◌, ◌++◌, map, codes, if◌then◌else◌}
 use Rattle.std.specs.List.{flat_map, range_with_len}
 use Rattle.std.specs.Option.{option_map_or}
@@ -27,7 +27,7 @@ use Rattle.dp_wide_runs.specs.declared.wide_finding.WideFinding.TheVariants.{Pla
 
 -- ---- the findings that an audit has with the applications of this program
 
--- the word that is printed of a finding
+-- the word that is printed for a finding
 abbrev pub kind_of : Finding → List ℕ
 kind_of (Cycle number) = codes "Cycle"
 kind_of (NoApplication id) = codes "NoApplication"
@@ -38,11 +38,11 @@ kind_of (Hidden id from) = codes "Hidden"
 kind_of (Unset id name) = codes "Unset"
 kind_of (Unused id) = codes "Unused"
 
--- the wide table has the application of the entry of these numbers
+-- whether the wide table has the application of the entry with these numbers
 abbrev pub has_wide_application : PlanOf → EntryId → Bool
 has_wide_application plan id = passes plan (λ entry. has_row wide_rows entry.application) id
 
--- the finding is one over the wide table too: it is of no variable, and of no application that the wide table has
+-- whether a finding is one over the wide table too: it is about no variable, and about no application that the wide table has
 abbrev pub is_wide_finding : PlanOf → Finding → Bool
 is_wide_finding plan (Cycle number) = true
 is_wide_finding plan (NoApplication id) = not (has_wide_application plan id)
@@ -53,42 +53,42 @@ is_wide_finding plan (Hidden id from) = true
 is_wide_finding plan (Unset id name) = false
 is_wide_finding plan (Unused id) = true
 
--- the finding is one over the applications that are asked for
+-- whether a finding is one over the applications that are asked for
 abbrev pub stands : Bool → PlanOf → Finding → Bool
 stands false plan finding = true
 stands true plan finding = is_wide_finding plan finding
 
--- the finding, where it is one and its kind is told
+-- a finding if it is one over these applications and its kind is reported
 abbrev pub finding_if : ChoiceOf → PlanOf → Finding → List WideFinding
 finding_if choice plan finding =
     if is_told choice.kinds (kind_of finding) && stands choice.is_wide plan finding then Plain finding ∷ [] else []
 
--- those that are told, in the order of the file
+-- the findings that are reported, in the order of the file
 abbrev pub findings_told : ChoiceOf → PlanOf → List WideFinding
 findings_told choice plan = flat_map (finding_if choice plan) (findings_of (has_row standard_rows) plan)
 
--- ---- those that an audit has over the wide table alone
+-- ---- the findings that an audit has over the wide table alone
 
--- such a kind is told
+-- whether a kind over the wide table is reported
 abbrev pub tells_wide : ChoiceOf → List ℕ → Bool
 tells_wide choice kind = choice.is_wide && is_told choice.kinds kind
 
--- after an application of this name a call never goes on to the next priority
+-- whether a channel never goes on to the next priority after an application with this name
 abbrev pub ends_there : List ℕ → Bool
 ends_there name =
     same_word name (codes "Hangup") || (same_word name (codes "Goto") || (same_word name (codes "Return") || (same_word name (codes "Busy")
     || same_word name (codes "Congestion"))))
 
--- the entry with the one of another name that a call meets after it, unless no call goes on after its application
+-- the entry with the entry of another name that a channel meets after it, unless the channel never goes on after its application
 abbrev pub fall_through_if : PlanOf → FallThrough → List WideFinding
 fall_through_if plan found = if passes plan (λ entry. ends_there entry.application) found.entry then [] else FallsThrough found ∷ []
 
--- those that are told, in the order of the file
+-- the fall-throughs that are reported, in the order of the file
 abbrev pub fall_throughs_told : ChoiceOf → PlanOf → List WideFinding
 fall_throughs_told choice plan =
     if tells_wide choice (codes "FallsThrough") then flat_map (fall_through_if plan) (fall_throughs_of plan) else []
 
--- after an application of this name a call goes on at once to the next priority
+-- whether a channel goes on to the next priority at once after an application with this name
 abbrev pub goes_on_at_once : List ℕ → Bool
 goes_on_at_once name =
     same_word name (codes "NoOp") || (same_word name (codes "Verbose") || (same_word name (codes "Log") || (same_word name (codes "Set")
@@ -101,7 +101,7 @@ pub record AreEndlessRuns (plan : PlanOf) (findings : List WideFinding) : Type 0
   pub listed : ListsLoops goes_on_at_once plan loops
   pub told : findings ≡ map EndlessRun loops
 
--- these are told, by whether their kind is
+-- the endless runs are reported, if their kind is
 abbrev pub AreRunsTold : Bool → PlanOf → List WideFinding → Type 0
 AreRunsTold false plan findings = findings ≡ []
 AreRunsTold true plan findings = AreEndlessRuns plan findings
@@ -110,26 +110,26 @@ AreRunsTold true plan findings = AreEndlessRuns plan findings
 abbrev pub of_entry : EntryId → Entry → List WideFinding
 of_entry id entry = map (NoFunction id) (no_functions_in entry.arguments)
 
--- those of the entry of these numbers; where there is none, none
+-- the names of such functions in the entry with these numbers; none if there is no such entry
 abbrev pub of_id : PlanOf → EntryId → List WideFinding
 of_id plan id = option_map_or (of_entry id) (entry_at plan id) []
 
--- those of the entries of the context of a number, in the order of the file
+-- the names of such functions in the entries of the context with a number, in the order of the file
 abbrev pub of_context : PlanOf → ℕ → List WideFinding
 of_context plan number = flat_map (of_id plan) (ids_of number (entries_at plan number))
 
--- those of all contexts, in the order of the file
+-- the names of such functions in all contexts, in the order of the file
 unfoldable pub no_functions : PlanOf → List WideFinding
 no_functions plan = flat_map (of_context plan) (range_with_len 0 (context_count plan))
 
--- those that are told
+-- the names of such functions that are reported
 abbrev pub functions_told : ChoiceOf → PlanOf → List WideFinding
 functions_told choice plan = if tells_wide choice (codes "NoFunction") then no_functions plan else []
 
--- ---- all of them
+-- ---- all findings
 
--- the findings are all that are told of the dialplan, and no others: first those that an audit has without the wide table, then the
--- entries after which a call goes on in another extension, then the endless runs, then the functions that Asterisk does not have
+-- the findings are all that are reported on the dialplan, in this order: those of an audit without the wide table, the entries after which
+-- a channel goes on in another extension, the endless runs, and the functions that Asterisk does not have
 pub record AreTold (choice : ChoiceOf) (plan : PlanOf) (findings : List WideFinding) : Type 0 where
   pub runs : List WideFinding
   pub endless : AreRunsTold (tells_wide choice (codes "Loop")) plan runs

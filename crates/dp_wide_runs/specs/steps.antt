@@ -1,2 +1,2 @@
--- What functions of this crate do on the way to what the definitions say.
+-- The steps by which functions of this crate reach what the definitions say.
 pub mod Runs

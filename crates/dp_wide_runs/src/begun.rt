@@ -1,4 +1,4 @@
-//! What a run of a script with facts begins with.
+//! The start of a run of a script with facts.
 ghost use Rattle.std.specs.Prelude.{◌≡◌, IfOk, false};
 ghost use Rattle.std.specs.Option.{option_map};
 ghost use Rattle.dp_conf.specs.Answers.{Answers};
@@ -29,14 +29,14 @@ fn read_script(
     read_script_by(alloc, &reader, text)
 }
 
-/// What the texts of a run say.
+/// The contents of a run's texts.
 #[derive(Drop)]
 struct WideContents {
     files: Files,
     lines: Vec<ScriptLine<WideTurn>>,
 }
 
-/// What the texts of a run say: its files are read first, then the script.
+/// The contents of a run's texts: its files are read first, then the script.
 fn read_texts(alloc: Global, texts: RunTexts<'_>) -> Result<WideContents, PbxFault>
     ensures told { Answers (λ told. record { plan = told.files.plan; queues = told.files.queues; lines = told.lines.items }) reason_of result
         (spec.contents_of texts.entry.plan.now (option_map (λ text. text.now) texts.entry.queues)
@@ -51,7 +51,8 @@ fn read_texts(alloc: Global, texts: RunTexts<'_>) -> Result<WideContents, PbxFau
     }
 }
 
-/// What a run has before its first turn: its machine, and the lines of its script. Its drop is one function, so that it is proved once.
+/// The state of a run before its first turn: its machine, and the lines of its script. It is dropped in one function, so that the drop is
+/// proved once.
 pub(crate) struct WideBegun {
     machine: Machine<WideApps>,
     lines: Vec<ScriptLine<WideTurn>>,
@@ -79,7 +80,7 @@ impl WideBegun {
     }
 }
 
-/// What a run has before its first turn.
+/// The state of a run before its first turn.
 #[tactic(auto, unfolding(crate::specs::Runs::run_of))]
 pub(crate) fn begin(alloc: Global, texts: RunTexts<'_>) -> Result<WideBegun, PbxFault>
     ensures run { Answers (λ begun. spec.run_on begun.machine (turns_of begun.lines.items)) reason_of result

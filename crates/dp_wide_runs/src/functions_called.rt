@@ -1,4 +1,4 @@
-//! The functions that arguments call and that Asterisk does not have.
+//! The functions that arguments call and that Asterisk lacks.
 ghost use Rattle.std.specs.Prelude.{◌≡◌, ◌++◌, OnOk, filter, map, position};
 ghost use Rattle.std.specs.Option.{option_map, option_to_list};
 ghost use Rattle.dp_audit.specs.Unset.{stops_name};
@@ -11,21 +11,21 @@ use dp_plan::{Dialplan, Entry, EntryId, NoMemory, Text};
 use dp_wide::{is_asterisk_function, is_computed};
 use std::alloc::Global;
 
-/// Whether no name of a variable or of a function goes on with the byte.
+/// Whether the byte cannot be part of a variable's or a function's name.
 fn stops_name(byte: u8) -> bool
     ensures { result ≡ stops_name byte }
 {
     byte == b':' || byte == b'}' || byte == b'$' || byte == b'('
 }
 
-/// The place of the first byte with which no name goes on.
+/// The place of the first byte that cannot be part of a name.
 fn name_end(body: &[u8]) -> Option<usize>
     ensures { result ≡ position stops_name body.now }
 {
     body.iter().position(|byte| stops_name(*byte))
 }
 
-/// The name of the function at the front of a group in braces: what stands before its first `(`, unless a `:`, a `}` or a `$` comes first.
+/// The name of the function at the start of a group in braces: the bytes before its first `(`, unless a `:`, a `}` or a `$` comes first.
 fn function_at(body: &[u8]) -> Option<&[u8]>
     ensures { option_map (λ name. name.now) result ≡ spec.function_at body.now }
 {
@@ -36,7 +36,7 @@ fn function_at(body: &[u8]) -> Option<&[u8]>
     None
 }
 
-/// The name of the function of the group in braces that a byte opens, by the bytes after it.
+/// The name of the function in a group in braces, given the byte that opens the group and the bytes after it.
 fn function_after(byte: u8, after: &[u8]) -> Option<&[u8]>
     ensures { option_map (λ name. name.now) result ≡ spec.function_after byte after.now }
 {
@@ -47,7 +47,7 @@ fn function_after(byte: u8, after: &[u8]) -> Option<&[u8]>
     None
 }
 
-/// Whether the name is that of no function: neither the wide table computes it, nor does Asterisk have it.
+/// Whether the name is that of no function: the wide table does not compute it, and Asterisk lacks it.
 #[tactic(auto, unfolding(crate::specs::FunctionsCalled::is_no_function))]
 fn is_no_function(name: &[u8]) -> bool
     ensures { result ≡ spec.is_no_function name.now }
@@ -55,7 +55,7 @@ fn is_no_function(name: &[u8]) -> bool
     !(is_computed(name) || is_asterisk_function(name))
 }
 
-/// Adds the name, where there is one and it is that of no function.
+/// Adds the name if there is one and it is that of no function.
 fn push_name(
     list: &mut Vec<WideFinding>,
     alloc: Global,
@@ -75,7 +75,7 @@ fn push_name(
     Ok(())
 }
 
-/// Adds the names of functions that a text calls and that Asterisk does not have.
+/// Adds the names of the functions that a text calls and that Asterisk lacks.
 fn push_names(
     list: &mut Vec<WideFinding>,
     alloc: Global,
@@ -92,7 +92,7 @@ fn push_names(
     Ok(())
 }
 
-/// Adds those of the entry of these numbers.
+/// Adds the names of such functions in the entry with these numbers.
 fn push_of_id(
     list: &mut Vec<WideFinding>,
     alloc: Global,
@@ -107,7 +107,7 @@ fn push_of_id(
     }
 }
 
-/// The entries of the context of the number.
+/// The entries of the context with the number.
 fn entries_at(plan: &Dialplan, number: usize) -> &[Entry]
     ensures { result.now ≡ entries_at plan.now number }
 {
@@ -117,7 +117,7 @@ fn entries_at(plan: &Dialplan, number: usize) -> &[Entry]
     }
 }
 
-/// Adds those of the entries of the context of the number.
+/// Adds the names of such functions in the entries of the context with the number.
 #[tactic(auto, using(dp_audit::proofs::FindingsLemmas::entries_more))]
 fn push_of_context(
     list: &mut Vec<WideFinding>,
@@ -137,7 +137,7 @@ fn push_of_context(
     Ok(())
 }
 
-/// Adds the functions that the arguments of entries call and that Asterisk does not have, in the order of the file and of the arguments.
+/// Adds the functions that the arguments of entries call and that Asterisk lacks, in the order of the file and of the arguments.
 #[tactic(auto, unfolding(crate::specs::WideFindings::no_functions))]
 pub(crate) fn push_no_functions(
     list: &mut Vec<WideFinding>,

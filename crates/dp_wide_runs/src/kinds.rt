@@ -1,4 +1,4 @@
-//! The kinds of the findings of an audit, and which of them are told.
+//! The kinds of an audit's findings, and which of them are reported.
 ghost use Rattle.std.specs.Prelude.{◌≡◌, map};
 ghost use Rattle.std.specs.List.{list_all, list_any, slice_split};
 ghost use Rattle.dp_conf.specs.Words.{same_word};
@@ -6,23 +6,23 @@ ghost use Rattle.dp_wide_runs.specs.Kinds as spec;
 
 use dp_conf::{same_word, trim};
 
-/// Which kinds of findings are told. A kind is named by the word that is printed of it, in any case.
+/// Which kinds of findings are reported. A kind is named by the word that is printed for it, in any case.
 #[derive(Clone, Copy, Debug, PartialEq, Eq)]
 pub enum KindChoice<'a> {
     /// All of them.
     All,
-    /// Those that a text names, whose words commas part.
+    /// The kinds that a text names; commas separate its words.
     Only(&'a str),
-    /// All but those that a text names.
+    /// All kinds but those that a text names.
     Except(&'a str),
 }
 
-/// What an audit is asked for.
+/// The choice of an audit.
 #[derive(Clone, Copy, Debug, PartialEq, Eq)]
 pub struct AuditChoice<'a> {
-    /// Whether it goes by the wide table.
+    /// Whether the audit uses the wide table.
     pub is_wide: bool,
-    /// Which kinds of findings are told.
+    /// Which kinds of findings are reported.
     pub kinds: KindChoice<'a>,
 }
 
@@ -71,8 +71,8 @@ fn is_kind(is_wide: bool, word: &[u8]) -> bool
     }
 }
 
-/// Whether each word of a text is a kind of an audit, over the wide table or not: commas part the words, and the case of a letter and the
-/// blanks at the ends of a word have no effect.
+/// Whether each word of a text is a kind of an audit, over the wide table or not: commas separate the words, and neither the case of a
+/// letter nor blanks at the ends of a word matter.
 pub fn are_kinds(is_wide: bool, text: &[u8]) -> bool
     ensures { result ≡ spec.are_kinds is_wide text.now }
 {
@@ -92,7 +92,7 @@ impl<'a> KindChoice<'a> {
     ghost use Rattle.std.specs.Prelude.{◌≡◌};
     ghost use Rattle.dp_wide_runs.specs.Kinds as spec;
 
-    /// Whether findings of this kind are told.
+    /// Whether findings of this kind are reported.
     pub(crate) fn tells(&self, kind: &[u8]) -> bool
         ensures { result ≡ spec.is_told (spec.kinds_told self.now) kind.now }
     {

@@ -1,5 +1,5 @@
-//! The commands over the wide table: runs of a script that tells facts, which stop before what is unknown, and audits that are asked for
-//! some kinds of findings.
+//! The commands over the wide table: runs of a script that states facts, which stop before anything unknown, and audits for some kinds of
+//! findings.
 #![tactic(auto)]
 
 mod begun;

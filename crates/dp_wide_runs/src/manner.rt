@@ -1,4 +1,4 @@
-//! How the turns of a plain script are taken that a run with facts is given: plainly, or verbosely.
+//! How a run with facts takes the turns of a plain script that it is given: plainly, or verbosely.
 ghost use Rattle.std.specs.Prelude.{◌≡◌, ℕ, ◌++◌, List, [], IfOk, OnOk, OnErr};
 ghost use Rattle.dp_machine.specs.World.{World};
 ghost use Rattle.dp_machine.specs.declared.refusal.Refusal.{Refusal as refusals};
@@ -14,7 +14,7 @@ use dp_machine::{Machine, NoMemory, Refusal};
 use dp_wide::WideApps;
 use std::alloc::Global;
 
-/// How the turns of a plain script are taken that a run with facts is given.
+/// How a run with facts takes the turns of a plain script that it is given.
 pub(crate) trait Manner: Drop {
     // The manner after a turn that a world meets.
     ghost after: { Self → World → turns → Self };
@@ -25,8 +25,8 @@ pub(crate) trait Manner: Drop {
     // What stands above the line of a pass that is refused.
     ghost above_refusal: { refusals → List ℕ };
 
-    /// Gives the machine one turn, and adds its line to what waits, with what stands above it. It says whether the turn was refused. The error comes
-    /// only where a growth was refused; then no line was added.
+    /// Gives the machine one turn, and adds its line to the waiting lines, with the text above it. It says whether the turn was refused. It
+    /// fails only if memory runs out; then no line was added.
     fn give_turn(
         &mut self,
         alloc: Global,
@@ -41,13 +41,13 @@ pub(crate) trait Manner: Drop {
         ensures refused { IfOk result (λ refused. refused ≡ (after_turn_by wide_meanings machine.old turn.now).refused) }
         ensures err { OnErr result (block.new.whole ≡ block.old.whole) };
 
-    /// Adds what stands above the line of a pass that is refused.
+    /// Adds the text above the line of a pass that is refused.
     fn push_above(block: &mut Block, refusal: Refusal) -> Result<(), NoMemory>
         ensures kept { block.new.whole ≡ block.old.whole }
         ensures ok { OnOk result (block.new.begun ≡ block.old.begun ++ above_refusal refusal) };
 }
 
-/// Turns that are taken as they stand.
+/// Turns that are taken without further lines.
 #[derive(Drop)]
 pub(crate) struct Plain;
 

@@ -1,4 +1,4 @@
-//! The lines of a script that no plain script has: those that tell facts, and those that lead a channel on from outside.
+//! The lines that no plain script has: those that state facts, and those that lead a channel on from outside.
 ghost use Rattle.std.specs.Prelude.{◌≡◌, ◌++◌, IfOk, OnOk, map, position};
 ghost use Rattle.std.specs.Option.{option_map};
 ghost use Rattle.dp_conf.specs.Blanks as blanks;
@@ -20,7 +20,7 @@ fn blank_place(text: &[u8]) -> Option<usize>
     text.iter().position(|byte| is_blank(*byte))
 }
 
-/// The first word of a text that begins with one, and what comes behind it without the blanks at its ends.
+/// The first word of a text that begins with a word, and the rest without blanks at its ends.
 pub(crate) fn cut_word(text: &[u8]) -> (&[u8], &[u8])
     ensures word { result.0.now ≡ (spec.cut_word text.now).0 }
     ensures rest { result.1.now ≡ (spec.cut_word text.now).1 }
@@ -31,7 +31,7 @@ pub(crate) fn cut_word(text: &[u8]) -> (&[u8], &[u8])
     }
 }
 
-/// The name and the value of `NAME=VALUE`, without the blanks at the ends of each, or None where they are none.
+/// The name and the value in `NAME=VALUE`, each without blanks at its ends, or None if the text has no such form.
 fn setting_in(text: &[u8]) -> Option<(&[u8], &[u8])>
     ensures { option_map (λ setting. (setting.0.now, setting.1.now)) result ≡ spec.setting_in text.now }
 {
@@ -45,7 +45,7 @@ fn setting_in(text: &[u8]) -> Option<(&[u8], &[u8])>
     Some((name, value))
 }
 
-/// A line that gives the event once.
+/// A line that gives an event once.
 fn gives(event: Event) -> ScriptLine<WideTurn>
     ensures { result ≡ spec.gives event }
 {
@@ -73,7 +73,7 @@ fn assigns(
     }))
 }
 
-/// A line that sets the name of `NAME=VALUE`, of a channel or the global, or None where the text is none of these.
+/// A line that sets the name in `NAME=VALUE`, for a channel or as the global, or None if the text has no such form.
 fn read_setting(
     alloc: Global,
     channel: Option<u32>,
@@ -88,7 +88,7 @@ fn read_setting(
     Ok(Some(line))
 }
 
-/// `let CH NAME=VALUE`, by what comes behind `let`.
+/// `let CH NAME=VALUE`, given the text after `let`.
 fn read_let(alloc: Global, text: &[u8]) -> Result<Option<ScriptLine<WideTurn>>, NoMemory>
     ensures { IfOk result (λ line. line ≡ spec.let_line text.now) }
 {
@@ -99,7 +99,7 @@ fn read_let(alloc: Global, text: &[u8]) -> Result<Option<ScriptLine<WideTurn>>, 
     read_setting(alloc, Some(channel), rest)
 }
 
-/// `clock WEEKDAY YYYY-MM-DD HH:MM`, by what comes behind `clock`: the global `CLOCK` is set to that moment.
+/// `clock WEEKDAY YYYY-MM-DD HH:MM`, given the text after `clock`: it becomes the value of the global `CLOCK`.
 fn read_clock(alloc: Global, text: &[u8]) -> Result<Option<ScriptLine<WideTurn>>, NoMemory>
     ensures { IfOk result (λ line. line ≡ spec.clock_line text.now) }
 {
@@ -110,7 +110,7 @@ fn read_clock(alloc: Global, text: &[u8]) -> Result<Option<ScriptLine<WideTurn>>
     Ok(Some(line))
 }
 
-/// The channel that is the one word of these.
+/// The channel that the words name, if there is just one word.
 fn one_channel(words: &[&[u8]]) -> Option<u32>
     ensures { result ≡ script.one_channel (map (λ word. word.now) words.now) }
 {
@@ -120,7 +120,7 @@ fn one_channel(words: &[&[u8]]) -> Option<u32>
     }
 }
 
-/// `go CH`, by the words behind `go`: what the channel waits for comes to its end.
+/// `go CH`, given the words after `go`: what the channel waits for comes to its end.
 fn read_go(words: &[&[u8]]) -> Option<ScriptLine<WideTurn>>
     ensures { result ≡ spec.go_line (map (λ word. word.now) words.now) }
 {
@@ -128,7 +128,7 @@ fn read_go(words: &[&[u8]]) -> Option<ScriptLine<WideTurn>>
     Some(gives(Event::Timeout { channel }))
 }
 
-/// `pass CH`, by the words behind `pass`.
+/// `pass CH`, given the words after `pass`.
 fn read_pass(words: &[&[u8]]) -> Option<ScriptLine<WideTurn>>
     ensures { result ≡ spec.pass_line (map (λ word. word.now) words.now) }
 {
@@ -151,7 +151,7 @@ fn read_priority(word: &[u8]) -> Option<u32>
     Some(number)
 }
 
-/// A line that sends a channel to a place, or None where the channel or the priority is none.
+/// A line that sends a channel to a place, or None if the channel or the priority is invalid.
 fn redirects(
     alloc: Global,
     channel: &[u8],
@@ -177,7 +177,7 @@ fn redirects(
     Ok(Some(gives(Event::Redirect { channel, place })))
 }
 
-/// `redirect CH CONTEXT EXTEN [PRIORITY]`, by the words behind `redirect`: the priority is 1 unless given.
+/// `redirect CH CONTEXT EXTEN [PRIORITY]`, given the words after `redirect`; without a priority it is 1.
 fn read_redirect(alloc: Global, words: &[&[u8]]) -> Result<Option<ScriptLine<WideTurn>>, NoMemory>
     ensures { IfOk result (λ line. line ≡ spec.redirect_line (map (λ word. word.now) words.now)) }
 {
@@ -190,7 +190,7 @@ fn read_redirect(alloc: Global, words: &[&[u8]]) -> Result<Option<ScriptLine<Wid
     }
 }
 
-/// Whether a line with this first word is none of a plain script.
+/// Whether a line with this first word belongs to no plain script.
 pub(crate) fn is_own(word: &[u8]) -> bool
     ensures { result ≡ spec.is_own word.now }
 {
@@ -203,7 +203,7 @@ pub(crate) fn is_own(word: &[u8]) -> bool
         || word == b"assume".as_slice()
 }
 
-/// A line that says of a function that those of its cells are empty which nothing wrote.
+/// A line that says of a function that its unwritten cells are empty.
 fn assumes(alloc: Global, function: &[u8]) -> Result<ScriptLine<WideTurn>, NoMemory>
     ensures { IfOk result (λ line. line ≡ spec.assumes function.now) }
 {
@@ -225,7 +225,8 @@ pub(crate) fn push_assumes(
     Ok(())
 }
 
-/// What a line with one of these first words but `assume` stands for, by what comes behind that; or None where it is faulty.
+/// The meaning of a line with one of these first words, unless it is `assume`, given the text after the word; or None if the line is
+/// faulty.
 pub(crate) fn read_own(
     alloc: Global,
     word: &[u8],

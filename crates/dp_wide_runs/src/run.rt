@@ -1,4 +1,4 @@
-//! Runs of a script that tells facts, over the wide table.
+//! Runs of a script that states facts, over the wide table.
 ghost use Rattle.std.specs.Prelude.{◌≡◌, ◌||◌, IfOk, Ok};
 ghost use Rattle.dp_commands.specs.Faults.{is_write_failed};
 ghost use Rattle.dp_commands.specs.Script.{turns_of};
@@ -12,7 +12,7 @@ use dp_commands::{PbxFault, RunTexts, run_lines};
 use dp_conf::WriteTold;
 use std::alloc::Global;
 
-/// Takes the turns of a run that has begun, and writes all of their lines.
+/// Takes the turns of a run that has begun, and writes all their lines.
 fn run_begun<M: Manner, W: WriteTold>(
     alloc: Global,
     begun: WideBegun,
@@ -27,7 +27,7 @@ fn run_begun<M: Manner, W: WriteTold>(
     run_lines(alloc, WideRunner::new(manner), machine, &lines, writer)
 }
 
-/// Begins the run of the texts, takes its turns, and writes all of their lines.
+/// Begins the run of the texts, takes its turns, and writes all their lines.
 pub(crate) fn run_texts<M: Manner, W: WriteTold>(
     alloc: Global,
     texts: RunTexts<'_>,
@@ -42,13 +42,12 @@ pub(crate) fn run_texts<M: Manner, W: WriteTold>(
     run_begun(alloc, begun, manner, writer)
 }
 
-/// Runs a script that may tell facts on a dialplan with its queues over the wide table, and writes the trace as it goes, a block of lines
-/// at a time. A step is taken only where nothing is unknown ahead of its channel; else its line is `unknown CH WHAT -> STATE`, and the
-/// further steps of the same line of the script are left out. The status is 1 where a turn was refused, else 4 where a step was not
-/// taken, else 0.
+/// Runs a script that may state facts on a dialplan with its queues over the wide table, and writes the trace as it goes, a block of lines
+/// at a time. A step is taken only if nothing is unknown ahead of its channel; else its line is `unknown CH WHAT -> STATE`, and the further
+/// steps of the same line of the script are left out. The status is 1 if a turn was refused, else 4 if a step was not taken, else 0.
 ///
-/// The texts are read first, and their faults come as in [`dp_commands::run_script`]. Where memory is refused the lines of the turns
-/// before are written. Where memory is refused or a write fails, what was written stays written.
+/// The texts are read first, with the same faults as in [`dp_commands::run_script`]. If memory runs out the lines of the earlier turns are
+/// written. If memory runs out or a write fails, what was written stays written.
 pub fn run_wide<W: WriteTold>(
     alloc: Global,
     texts: RunTexts<'_>,

@@ -13,7 +13,7 @@ use dp_wide::WideApps;
 use std::alloc::Global;
 use std::marker::Model;
 
-/// The name of what is unknown.
+/// The name of something unknown.
 fn unknown_name(unknown: &Unknown) -> &Text
     ensures { result.now ≡ spec.unknown_name unknown.now }
 {
@@ -22,7 +22,7 @@ fn unknown_name(unknown: &Unknown) -> &Text
     }
 }
 
-/// Adds the line of a step that is not taken to what waits.
+/// Adds the line of a step that is not taken to the waiting lines.
 fn push_unknown(
     block: &mut Block,
     machine: &Machine<WideApps>,
@@ -41,7 +41,7 @@ fn push_unknown(
     block.end_line()
 }
 
-/// Why a channel does not pass where nothing is unknown ahead of it, by its phase, where there is one.
+/// Why a channel does not pass if nothing is unknown ahead of it, given its phase, if there is a channel.
 fn pass_refusal(phase: Option<&Phase>) -> Refusal
     ensures { result ≡ spec.pass_refusal (option_map (λ phase. phase.now) phase.entry) }
 {
@@ -52,7 +52,7 @@ fn pass_refusal(phase: Option<&Phase>) -> Refusal
     }
 }
 
-/// Adds the line of a pass that is refused to what waits, with what stands above it.
+/// Adds the line of a pass that is refused to the waiting lines, with the text above it.
 fn push_refusal<M: Manner>(block: &mut Block, refusal: Refusal) -> Result<(), NoMemory>
     ensures line { OnOk result (block.new.whole ≡ block.old.whole ++ (M.above_refusal refusal ++ (refusal_text refusal ++ 10 ∷ []))) }
     ensures err { OnErr result (block.new.whole ≡ block.old.whole) }
@@ -63,7 +63,7 @@ fn push_refusal<M: Manner>(block: &mut Block, refusal: Refusal) -> Result<(), No
     block.end_line()
 }
 
-/// A priority after another; the greatest number of 32 bits stays, which no entry has.
+/// The priority after another; the greatest 32-bit number, which no entry has, stays.
 fn priority_after(priority: u32) -> u32
     ensures { result ≡ spec.priority_after priority }
 {
@@ -79,7 +79,7 @@ fn place_after(place: &Place) -> Result<Place, NoMemory>
     Ok(after)
 }
 
-/// The place after that of a channel ahead of which something is unknown.
+/// The place after that of a channel if something is unknown ahead of it.
 fn place_past(
     alloc: Global,
     machine: &mut Machine<WideApps>,
@@ -101,7 +101,7 @@ fn place_past(
     }
 }
 
-/// A run over the wide table, which stops before what is unknown. Contracts see it as where it has stopped, and how turns are taken.
+/// A run over the wide table, which stops before anything unknown. Contracts see it as where it has stopped, and how turns are taken.
 pub(crate) struct WideRunner<M> {
     line_is_over: bool,
     has_stopped: bool,
@@ -131,7 +131,7 @@ impl<M: Manner> WideRunner<M> {
     ghost use Rattle.dp_wide_runs.specs.Beside as beside;
     ghost use Rattle.dp_wide_runs.specs.Turns as spec;
 
-    /// Before the first turn.
+    /// The state before the first turn.
     pub(crate) fn new(manner: M) -> Self
         ensures { result ≡ (spec.no_stops, manner) }
     {
@@ -142,8 +142,7 @@ impl<M: Manner> WideRunner<M> {
         }
     }
 
-    /// Takes a step, where nothing is unknown ahead of its channel; else adds the line that says what is. It says whether the step was
-    /// refused.
+    /// Takes a step if nothing is unknown ahead of its channel; else adds the line that says what is. It says whether the step was refused.
     fn take_step(
         &mut self,
         alloc: Global,
@@ -193,7 +192,7 @@ impl<M: Manner> WideRunner<M> {
         }
     }
 
-    /// Takes a further step of a line, where the line is not over.
+    /// Takes a further step of a line, if the line is not over.
     fn take_further(
         &mut self,
         alloc: Global,
@@ -215,7 +214,7 @@ impl<M: Manner> WideRunner<M> {
         self.take_step(alloc, machine, channel, block)
     }
 
-    /// Takes a pass, by the place to which the channel goes, where something is unknown ahead of it.
+    /// Takes a pass, given the place to which the channel goes if something is unknown ahead of it.
     fn take_pass(
         &mut self,
         alloc: Global,

@@ -1,4 +1,4 @@
-//! What an audit tells, by the kinds that it is asked for.
+//! The findings that an audit reports, given the kinds that it is asked for.
 ghost use Rattle.std.specs.Prelude.{◌≡◌, ◌++◌, ◌&&◌, IfOk, OnOk, map, true};
 ghost use Rattle.std.specs.List.{flat_map};
 ghost use Rattle.dp_app.specs.Rows.{has_row};
@@ -34,7 +34,7 @@ impl Names for StandardNames {
     }
 }
 
-/// The names of applications after which a call goes on at once.
+/// The names of applications after which a channel goes on at once.
 struct GoesOnAtOnce;
 
 impl OnwardNames for GoesOnAtOnce {
@@ -56,7 +56,7 @@ impl OnwardNames for GoesOnAtOnce {
     }
 }
 
-/// Whether the wide table has the application of the entry of these numbers.
+/// Whether the wide table has the application of the entry with these numbers.
 fn has_wide_application(plan: &Dialplan, id: EntryId) -> bool
     ensures { result ≡ spec.has_wide_application plan.now id }
 {
@@ -92,7 +92,7 @@ fn stands(is_wide: bool, plan: &Dialplan, finding: &Finding) -> bool
     true
 }
 
-/// Whether a finding is one, and its kind is told.
+/// Whether a finding is one over these applications and its kind is reported.
 fn is_finding(plan: &Dialplan, choice: AuditChoice<'_>, finding: &Finding) -> bool
     ensures { result ≡ (is_told (kinds_told choice.entry.kinds) (spec.kind_of finding.now)
         && spec.stands choice.entry.is_wide plan.now finding.now) }
@@ -100,7 +100,7 @@ fn is_finding(plan: &Dialplan, choice: AuditChoice<'_>, finding: &Finding) -> bo
     choice.kinds.tells(kind_of(finding)) && stands(choice.is_wide, plan, finding)
 }
 
-/// Adds the finding, where it is one and its kind is told.
+/// Adds the finding if it is one over these applications and its kind is reported.
 fn push_finding(
     list: &mut Vec<WideFinding>,
     plan: &Dialplan,
@@ -115,7 +115,7 @@ fn push_finding(
     Ok(())
 }
 
-/// Adds those of the findings that are told.
+/// Adds those of the findings that are reported.
 fn push_findings(
     list: &mut Vec<WideFinding>,
     plan: &Dialplan,
@@ -131,7 +131,7 @@ fn push_findings(
     Ok(())
 }
 
-/// Adds what is told of the findings that an audit has with the applications of this program.
+/// Adds the reported findings of an audit with the applications of this program.
 fn push_plain(
     list: &mut Vec<WideFinding>,
     alloc: Global,
@@ -144,14 +144,14 @@ fn push_plain(
     push_findings(list, plan, choice, findings)
 }
 
-/// Whether a kind is told that an audit has over the wide table alone.
+/// Whether a kind that only an audit over the wide table has is reported.
 fn tells_wide(choice: AuditChoice<'_>, kind: &[u8]) -> bool
     ensures { result ≡ spec.tells_wide (choice_of choice.entry) kind.now }
 {
     choice.is_wide && choice.kinds.tells(kind)
 }
 
-/// Whether a call never goes on to the next priority after an application of this name.
+/// Whether a channel never goes on to the next priority after an application with this name.
 fn ends_there(name: &[u8]) -> bool
     ensures { result ≡ spec.ends_there name.now }
 {
@@ -162,7 +162,7 @@ fn ends_there(name: &[u8]) -> bool
         || same_word(name, b"Congestion")
 }
 
-/// Whether no call goes on after the entry of these numbers.
+/// Whether a channel never goes on after the entry with these numbers.
 fn is_end(plan: &Dialplan, id: EntryId) -> bool
     ensures { result ≡ passes plan.now (λ entry. spec.ends_there entry.application) id }
 {
@@ -172,7 +172,7 @@ fn is_end(plan: &Dialplan, id: EntryId) -> bool
     }
 }
 
-/// Adds an entry with the one of another name that a call meets after it, unless no call goes on after it.
+/// Adds an entry with the entry of another name that a channel meets after it, unless the channel never goes on after it.
 fn push_fall_through(
     list: &mut Vec<WideFinding>,
     plan: &Dialplan,
@@ -187,7 +187,7 @@ fn push_fall_through(
     Ok(())
 }
 
-/// Adds those of these entries after which a call goes on.
+/// Adds those of these entries after which a channel goes on.
 fn push_each_fall_through(
     list: &mut Vec<WideFinding>,
     plan: &Dialplan,
@@ -201,7 +201,7 @@ fn push_each_fall_through(
     Ok(())
 }
 
-/// Adds the entries after which a call goes on in another extension, where they are told.
+/// Adds the entries after which a channel goes on in another extension, if they are reported.
 fn push_fall_throughs(
     list: &mut Vec<WideFinding>,
     alloc: Global,
@@ -236,7 +236,7 @@ fn push_endless(list: &mut Vec<WideFinding>, alloc: Global, plan: &Dialplan) -> 
     Ok(())
 }
 
-/// Adds the endless runs, where they are told.
+/// Adds the endless runs, if they are reported.
 fn push_runs(
     list: &mut Vec<WideFinding>,
     alloc: Global,
@@ -251,7 +251,7 @@ fn push_runs(
     Ok(())
 }
 
-/// Adds the functions that Asterisk does not have, where they are told.
+/// Adds the functions that Asterisk lacks, if they are reported.
 fn push_functions(
     list: &mut Vec<WideFinding>,
     alloc: Global,
@@ -266,7 +266,7 @@ fn push_functions(
     push_no_functions(list, alloc, plan)
 }
 
-/// All that is told of a dialplan.
+/// All reported findings on a dialplan.
 pub(crate) fn find_told(
     alloc: Global,
     plan: &Dialplan,

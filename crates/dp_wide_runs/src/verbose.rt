@@ -1,4 +1,4 @@
-//! Verbose runs of a script that tells facts, over the wide table.
+//! Verbose runs of a script that states facts, over the wide table.
 ghost use Rattle.std.specs.Prelude.{◌≡◌, ◌||◌, IfOk};
 ghost use Rattle.std.specs.Option.{option_map};
 ghost use Rattle.dp_commands.specs.Faults.{is_write_failed};
@@ -11,7 +11,7 @@ use dp_commands::{Explanations, PbxFault, PlanNames, RunTexts, VerboseTaker};
 use dp_conf::WriteTold;
 use std::alloc::Global;
 
-/// Runs the script of the texts, whose dialplan is in force at first, and writes more above the lines.
+/// Runs the script of the texts, whose dialplan is first in force, and writes more above the lines.
 fn run_in_force<E: Explanations, W: WriteTold>(
     alloc: Global,
     texts: RunTexts<'_>,
@@ -26,10 +26,9 @@ fn run_in_force<E: Explanations, W: WriteTold>(
     run_texts(alloc, texts, taker, writer)
 }
 
-/// Runs a script that may tell facts as [`crate::run_wide`] does, and writes more above some of the lines: above that of a step that runs
-/// an entry `FILE:LINE APP(ARGS)`, with its arguments as they were expanded, and above that of a refusal its explanation, each indented by
-/// two blanks. Above the line of a step that is not taken stands nothing more. After a reload FILE and LINE are those of the second
-/// dialplan.
+/// Runs a script that may state facts as [`crate::run_wide`] does, and writes more above some of the lines: above the line of a step that
+/// runs an entry `FILE:LINE APP(ARGS)`, with its expanded arguments, and above the line of a refusal its explanation. Each is indented by
+/// two blanks. Nothing is added above the line of a step that is not taken. After a reload FILE and LINE are those of the second dialplan.
 pub fn run_wide_verbose<E: Explanations, W: WriteTold>(
     alloc: Global,
     texts: RunTexts<'_>,

@@ -1,4 +1,4 @@
-//! Audits of a dialplan that are asked for some kinds of findings, over the applications of this program or over the wide table.
+//! Audits of a dialplan for some kinds of findings, over this program's applications or over the wide table.
 ghost use Rattle.std.specs.Prelude.{◌≡◌, ◌++◌, ◌||◌, IfOk, OnOk, Ok};
 ghost use Rattle.std.specs.List.{flat_map};
 ghost use Rattle.dp_commands.specs.Faults.{is_write_failed};
@@ -14,7 +14,7 @@ use dp_conf::WriteTold;
 use dp_plan::{Dialplan, EntryId, NoMemory};
 use std::alloc::Global;
 
-/// Adds that a call goes on in another extension after an entry, with the entry that it meets there.
+/// Adds that a channel goes on in another extension after an entry, with the entry that it meets there.
 fn push_fall_through(out: &mut Block, plan: &Dialplan, found: &FallThrough) -> Result<(), NoMemory>
     ensures { OnOk result (out.new.begun ≡ out.old.begun ++ spec.wide_text plan.now (WideFinding.FallsThrough found.now)) }
 {
@@ -33,7 +33,7 @@ fn push_endless_run(out: &mut Block, plan: &Dialplan, run: &Loop) -> Result<(), 
     push_spot(out, plan, run.first)
 }
 
-/// Adds that an entry names a function that Asterisk does not have.
+/// Adds that an entry names a function that Asterisk lacks.
 fn push_no_function(
     out: &mut Block,
     plan: &Dialplan,
@@ -80,7 +80,7 @@ fn push_lines(out: &mut Block, plan: &Dialplan, findings: &[WideFinding]) -> Res
     Ok(())
 }
 
-/// Adds the lines of the findings, and how many there are.
+/// Adds the lines of the findings, then their number.
 fn push_text(out: &mut Block, plan: &Dialplan, findings: &[WideFinding]) -> Result<(), NoMemory>
     ensures { OnOk result (out.new.begun ≡ out.old.begun ++ spec.findings_text plan.now findings.now) }
 {
@@ -90,14 +90,14 @@ fn push_text(out: &mut Block, plan: &Dialplan, findings: &[WideFinding]) -> Resu
     out.push(b" findings\n")
 }
 
-/// What an audit reports: its text, and its status.
+/// The result of an audit: its text, and its status.
 #[derive(Drop)]
 struct Outcome {
     text: Block,
     status: u8,
 }
 
-/// What is reported of the findings in a dialplan.
+/// The report of the findings in a dialplan.
 fn report_of(alloc: Global, plan: &Dialplan, findings: &[WideFinding]) -> Result<Outcome, NoMemory>
     ensures { IfOk result (λ report. spec.reported report ≡ spec.report_of plan.now findings.now) }
 {
@@ -109,7 +109,7 @@ fn report_of(alloc: Global, plan: &Dialplan, findings: &[WideFinding]) -> Result
     })
 }
 
-/// What is reported of an audit of a dialplan.
+/// The report of an audit of a dialplan.
 fn report(alloc: Global, plan: &Dialplan, choice: AuditChoice<'_>) -> Result<Outcome, NoMemory>
     ensures { IfOk result (λ report. spec.IsAudit (choice_of choice.entry) plan.now (spec.reported report)) }
 {
@@ -117,7 +117,7 @@ fn report(alloc: Global, plan: &Dialplan, choice: AuditChoice<'_>) -> Result<Out
     report_of(alloc, plan, &findings)
 }
 
-/// Writes what an audit of a dialplan reports.
+/// Writes the report of an audit of a dialplan.
 fn write_audit<W: WriteTold>(
     alloc: Global,
     plan: &Dialplan,
@@ -132,16 +132,15 @@ fn write_audit<W: WriteTold>(
     Ok(report.status)
 }
 
-/// Loads a dialplan and writes what an audit tells of it that is asked for some kinds of findings, over the applications of this program
-/// or over the wide table: a line for each finding, as [`dp_commands::audit`] does, and then `ok N findings`. The status is 0 where
-/// nothing is told, else 1.
+/// Loads a dialplan and writes the findings of an audit for some kinds, over this program's applications or over the wide table: a line for
+/// each finding, as [`dp_commands::audit`] does, and then `ok N findings`. The status is 0 if nothing is reported, else 1.
 ///
-/// Over the wide table an application that this table has is no finding, and neither is a variable that nothing sets. Behind the other
-/// findings come the entries after which a call goes on in another extension, the endless runs, and the names of functions that Asterisk
-/// does not have.
+/// Over the wide table an application that this table has is no finding, and neither is a variable that nothing sets. After the other
+/// findings come the entries after which a channel goes on in another extension, the endless runs, and the names of functions that Asterisk
+/// lacks.
 ///
-/// A faulty dialplan has its first fault, and nothing is written. All is written at once; where that write fails, what was written stays
-/// written. Which findings there are is this program's own choice.
+/// A faulty dialplan has its first fault, and nothing is written. Everything is written at once; if that write fails, what was written
+/// stays written. Which findings there are is this program's own choice.
 #[tactic(auto, unfolding(crate::specs::WideAudits::plan_of))]
 pub fn audit_by<W: WriteTold>(
     alloc: Global,

@@ -1,24 +1,24 @@
-//! What an audit tells that may go by the wide table.
+//! The findings of an audit that may use the wide table.
 ghost use Rattle.std.specs.Prelude.{◌≡◌};
 ghost use Rattle.dp_wide_runs.specs.WideFindings as spec;
 
 use dp_audit::{FallThrough, Finding, Loop};
 use dp_plan::{EntryId, Text};
 
-/// What an audit tells. Which findings there are is this program's own choice.
+/// A finding of an audit. Which findings there are is this program's own choice.
 #[derive(Debug, Drop)]
 pub enum WideFinding {
-    /// A finding that an audit has without the wide table too.
+    /// A finding that an audit without the wide table has too.
     Plain(Finding),
     /// A call that dialled the name of the entry goes on after it in another extension.
     FallsThrough(FallThrough),
-    /// An endless run, by its first entry.
+    /// An endless run, with its first entry.
     EndlessRun(Loop),
-    /// The arguments of the entry call a function that Asterisk does not have.
+    /// The arguments of the entry call a function that Asterisk lacks.
     NoFunction { entry: EntryId, name: Text },
 }
 
-/// The word that is printed of a finding.
+/// The word that is printed for a finding.
 pub(crate) fn kind_of(finding: &Finding) -> &'static [u8]
     ensures { result.now ≡ spec.kind_of finding.now }
 {

@@ -14,7 +14,7 @@ use dp_plan::NoMemory;
 use std::alloc::Global;
 use std::marker::Model;
 
-/// The channel of which a turn is a step.
+/// The channel that a turn steps.
 pub(crate) fn stepped_by(turn: &Turn) -> Option<u32>
     ensures { result ≡ spec.stepped_by turn.now }
 {
@@ -24,7 +24,7 @@ pub(crate) fn stepped_by(turn: &Turn) -> Option<u32>
     }
 }
 
-/// Adds a line of a plain script at the end. Its steps after the first are further ones.
+/// Adds a line of a plain script at the end. Its steps after the first are further steps.
 fn push_wide(lines: &mut Vec<ScriptLine<WideTurn>>, line: ScriptLine) -> Result<(), NoMemory>
     ensures { OnOk result (lines.new.items ≡ lines.old.items ++ spec.wide_lines_of line) }
 {
@@ -60,7 +60,7 @@ fn push_all_wide(
     Ok(())
 }
 
-/// Adds what a line of a plain script stands for at the end, and says whether it is sound.
+/// Adds the meaning of a line of a plain script at the end, and says whether the line is valid.
 fn push_plain(
     alloc: Global,
     reader: &PlainLines,
@@ -77,7 +77,7 @@ fn push_plain(
     Ok(is_sound)
 }
 
-/// Adds the line at the end, where it is sound, and says whether it is.
+/// Adds the line at the end if it is valid, and says whether it is.
 fn push_sound(
     lines: &mut Vec<ScriptLine<WideTurn>>,
     line: Option<ScriptLine<WideTurn>>,
@@ -94,7 +94,7 @@ fn push_sound(
     }
 }
 
-/// Adds what `assume` stands for at the end, by what comes behind it, and says whether it is sound.
+/// Adds the meaning of an `assume` line at the end, given the text after `assume`, and says whether the line is valid.
 #[tactic(auto, using(crate::proofs::LinesLemmas::all_assumed))]
 fn push_assumed(
     alloc: Global,
@@ -109,7 +109,7 @@ fn push_assumed(
     Ok(!functions.is_empty())
 }
 
-/// Adds what a line that no plain script has stands for at the end, and says whether it is sound.
+/// Adds the meaning of a line that no plain script has at the end, and says whether the line is valid.
 fn push_own(
     alloc: Global,
     word: &[u8],
@@ -126,7 +126,7 @@ fn push_own(
     push_sound(lines, line)
 }
 
-/// How the lines of a script with facts are read, beside a second dialplan, where there is one. Contracts see it as the text of that.
+/// How the lines of a script with facts are read, with an optional second dialplan. Contracts see it as the text of that dialplan.
 #[derive(Drop)]
 pub struct WideLines {
     plain: PlainLines,
@@ -141,7 +141,7 @@ impl Model for WideLines {
 }
 
 impl WideLines {
-    /// How lines are read beside the second dialplan of this text. The error comes only where a growth was refused.
+    /// How lines are read with the second dialplan of this text. It fails only if memory runs out.
     pub fn beside(alloc: Global, second_plan: Option<&[u8]>) -> Result<Self, NoMemory>
         ensures { IfOk result (λ lines. lines ≡ option_map (λ text. text.now) second_plan.entry) }
     {

@@ -1,5 +1,5 @@
--- A step of the code: from which contexts each entry is hidden, noted for one context after another. What the notes come to
--- is `hidden_from` of Hidden.
+-- A step of the code: the contexts from which each entry is hidden, recorded for one context after another. The result is `hidden_from` of
+-- Hidden.
 use Rattle.std.specs.Prelude.{◌≡◌, ℕ, Bool, ◌&&◌, ◌||◌, ◌==◌, List, [], ◌∷◌, ◌++◌, length, map, replicate, slice_get, nat_eq, Option, Some, if◌then◌else◌}
 use Rattle.std.specs.Cmp.Lexicographic.{pointwise}
 use Rattle.std.specs.List.{filter, list_any, range_with_len}
@@ -24,45 +24,45 @@ place_of entry = record { name = spelling entry.name; priority = entry.priority 
 abbrev pub same_place : EntryPlace → EntryPlace → Bool
 same_place a b = pointwise nat_eq a.name b.name && a.priority == b.priority
 
--- the entry has the place
+-- whether the entry has the place
 abbrev pub is_at : EntryPlace → Entry → Bool
 is_at place entry = same_place place (place_of entry)
 
--- an entry of the contexts has the place
+-- whether an entry of the contexts has the place
 abbrev pub some_at : PlanOf → List ℕ → EntryPlace → Bool
 some_at plan contexts place = list_any (λ number. list_any (is_at place) (entries_at plan number)) contexts
 
--- a place is among the new ones where it is among the old ones, or passes the test
+-- a place is among the new ones if it is among the old ones or passes the test
 abbrev pub Adds : (EntryPlace → Bool) → List EntryPlace → List EntryPlace → Type 0
 Adds test old new = (place : EntryPlace) → list_any (same_place place) new ≡ (list_any (same_place place) old || test place)
 
 -- ---- notes
 
--- of each context, for each of its entries, numbers of contexts
+-- for each entry of each context, the numbers of contexts
 abbrev pub Notes : Type 0
 Notes = List (List (List ℕ))
 
--- a number more
+-- the list with one more number
 abbrev pub with_number : ℕ → List ℕ → List ℕ
 with_number number numbers = numbers ++ number ∷ []
 
--- nothing is noted of the entries of these contexts
+-- the records with nothing for any entry of these contexts
 abbrev pub no_notes : List PlanContext → Notes
 no_notes contexts = map (λ context. replicate (length context.entries) []) contexts
 
--- what is noted of the entry of these numbers
+-- the record of the entry with these numbers
 abbrev pub noted_at : Notes → EntryId → Option (List ℕ)
 noted_at notes id = option_and_then (λ numbers. slice_get numbers id.entry) (slice_get notes id.context)
 
--- after what was noted of each entry more is noted
+-- more numbers were added to the record of each entry
 abbrev pub Grows : Notes → Notes → (EntryId → List ℕ) → Type 0
 Grows old new more = (id : EntryId) → noted_at new id ≡ option_map (λ noted. noted ++ more id) (noted_at old id)
 
--- the place of the entry is among these
+-- whether the place of the entry is among these
 abbrev pub is_among : List EntryPlace → Entry → Bool
 is_among places entry = list_any (same_place (place_of entry)) places
 
--- a number for the entry of these numbers, where its place is among these
+-- a number for the entry with these numbers, if its place is among these
 abbrev pub for_one : List EntryPlace → EntryId → Entry → ℕ → EntryId → List ℕ
 for_one places id entry from other = if same_id other id && is_among places entry then from ∷ [] else []
 
@@ -70,7 +70,7 @@ for_one places id entry from other = if same_id other id && is_among places entr
 abbrev pub for_each : PlanOf → (Entry → Bool) → ℕ → ℕ → EntryId → List ℕ
 for_each plan test number from id = if id.context == number && passes plan test id then from ∷ [] else []
 
--- a number for each entry of an order's contexts that shares its place with one of a context before its own
+-- a number for each entry in the contexts of an order that shares its place with an entry in an earlier context
 abbrev pub numbers_asked : PlanOf → ℕ → List ℕ → List ℕ → EntryId → List ℕ
 numbers_asked plan from earlier [] id = []
 numbers_asked plan from earlier (number ∷ order) id =
@@ -80,6 +80,6 @@ numbers_asked plan from earlier (number ∷ order) id =
 abbrev pub all_hidden : PlanOf → ℕ → EntryId → List ℕ
 all_hidden plan count id = filter (λ from. passes plan (λ entry. is_hidden plan id entry from) id) (range_with_len 0 count)
 
--- of each entry the contexts are noted from which it is hidden
+-- the record of each entry has the contexts from which it is hidden
 abbrev pub AreHidden : PlanOf → Notes → Type 0
 AreHidden plan notes = (id : EntryId) (entry : Entry) → entry_at plan id ≡ Some entry → noted_at notes id ≡ Some (hidden_from plan id entry)

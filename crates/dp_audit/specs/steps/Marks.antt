@@ -10,36 +10,36 @@ use Rattle.dp_plan.specs.declared.entry.EntryId.{EntryId}
 use Rattle.dp_audit.specs.Loops.{is_before, successor}
 use Rattle.dp_audit.specs.steps.Walks.{IsFrom, IsSearched}
 
--- of each context, a mark for each of its entries
+-- a mark for each entry of each context
 abbrev pub Marks : Type 0
 Marks = List (List Bool)
 
--- no entry of these contexts is marked
+-- the marks with no entry of these contexts marked
 abbrev pub no_marks : List PlanContext → Marks
 no_marks contexts = map (λ context. replicate (length context.entries) false) contexts
 
--- the mark of the entry of these numbers
+-- the mark of the entry with these numbers
 abbrev pub mark_at : Marks → EntryId → Option Bool
 mark_at marks id = option_and_then (λ entries. slice_get entries id.entry) (slice_get marks id.context)
 
--- it is marked; what has no mark is not
+-- whether an entry is marked; an entry without a mark is not
 abbrev pub is_marked : Marks → EntryId → Bool
 is_marked marks id = option_map_or (λ mark. mark) (mark_at marks id) false
 
--- it has a mark, and is not marked
+-- whether an entry has a mark that is not set
 abbrev pub is_unmarked : Marks → EntryId → Bool
 is_unmarked marks id = option_map_or not (mark_at marks id) false
 
--- the entry, where there is one that is not marked
+-- the entry, if there is one that is not marked
 abbrev pub if_unmarked : Marks → Option EntryId → Option EntryId
 if_unmarked marks None = None
 if_unmarked marks (Some id) = if is_unmarked marks id then Some id else None
 
--- with the mark of one more
+-- the marks with one more entry marked
 abbrev pub with_mark : EntryId → Marks → Marks
 with_mark id marks = changed_at (changed_at (λ mark. true) id.entry) id.context marks
 
--- how many are not marked
+-- the number of entries that are not marked
 abbrev pub unmarked_count : Marks → ℕ
 unmarked_count marks = sum_by (count_by not) marks
 
@@ -47,7 +47,7 @@ unmarked_count marks = sum_by (count_by not) marks
 abbrev pub HasRoom : PlanOf → Marks → Type 0
 HasRoom plan marks = (id : EntryId) → mark_at marks id ≡ None → entry_at plan id ≡ None
 
--- after some marks those of a path were added
+-- the entries of a path were marked too
 pub record Adds (old : Marks) (path : List EntryId) (new : Marks) : Type 0 where
   pub kept : (id : EntryId) → is_marked old id ≡ true → is_marked new id ≡ true
   pub taken : (id : EntryId) → IsFrom path 0 id → is_marked new id ≡ true
@@ -60,7 +60,7 @@ pub record AreSearched (onward : List ℕ → Bool) (plan : PlanOf) (seen firsts
   pub firsts_room : HasRoom plan firsts
   pub searched : IsSearched (successor onward plan) is_before (is_marked seen) (is_marked firsts)
 
--- after the search of some entries those are seen, and what was seen before
+-- the search has seen these entries, and those that it had seen before
 pub record Sees (plan : PlanOf) (old new : Marks) (These : EntryId → Type 0) : Type 0 where
   pub kept : (id : EntryId) → is_marked old id ≡ true → is_marked new id ≡ true
   pub these : (id : EntryId) (entry : Entry) → entry_at plan id ≡ Some entry → These id → is_marked new id ≡ true

@@ -1,4 +1,4 @@
--- What the entries of a context are asked by.
+-- The data with which the entries of a context are examined.
 use Rattle.std.specs.Prelude.{◌≡◌, ℕ, Bool, List, []}
 use Rattle.dp_lookup.specs.FoundEntry.{entries_at}
 use Rattle.dp_lookup.specs.SearchOrder.{search_order}
@@ -13,7 +13,7 @@ use Rattle.dp_audit.specs.Unset.{AreSet}
 use Rattle.dp_audit.specs.declared.findings.Known.{Known}
 use Rattle.dp_audit.specs.declared.scene.Scene.{Scene}
 
--- it is of the context of the number
+-- the scene belongs to the context with the number
 pub record IsScene (plan : PlanOf) (number : ℕ) (scene : Scene) : Type 0 where
   pub order : search_order plan scene.context.now ≡ order_at plan number
   pub greater : AreMarks (has_greater (entries_at plan number)) (entries_at plan number) scene.greater.now
@@ -23,7 +23,7 @@ pub record IsScene (plan : PlanOf) (number : ℕ) (scene : Scene) : Type 0 where
   pub set : AreSet plan scene.set.now
   pub hidden : AreHidden plan scene.hidden.now
 
--- what is noted is what may name the labels of the dialplan, what it sets and what it hides
+-- the records are what may name the labels of the dialplan, what it sets and what it hides
 pub record IsKnown (names : List ℕ → Bool) (plan : PlanOf) (known : Known) : Type 0 where
   pub naming : IsNaming names plan known.naming.now
   pub set : AreSet plan known.set.now

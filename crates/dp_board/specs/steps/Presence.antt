@@ -20,7 +20,7 @@ MarksSeats old seats new = (number : ℕ) → number < length old → is_marked 
 abbrev pub AllMarked : List Bool → Type 0
 AllMarked present = (number : ℕ) → number < length present → is_marked present number ≡ true
 
--- the least number without a mark
+-- the least number that has no mark
 pub record IsLeastUnmarked (present : List Bool) (number : ℕ) : Type 0 where
   pub within : number < length present
   pub unmarked : is_marked present number ≡ false

@@ -1,4 +1,4 @@
--- What becomes of the seats that give the events of a run, and of the run before its board opens.
+-- The seats that give the events of a run, and the run before its board opens.
 use Rattle.std.specs.Prelude.{◌≡◌, ℕ, ◌<◌, Bool, List, length, take, slice_index_or, Result, Ok, Err}
 use Rattle.dp_board.specs.Sittings.{Sitting}
 use Rattle.dp_machine.specs.World.{World}
@@ -11,13 +11,12 @@ use Rattle.dp_commands.specs.declared.fault.PbxFault.{PbxFault}
 abbrev pub GaveFront : ℕ → List Event → Sitting → Type 0
 GaveFront count events seat = events_told seat.told ≡ take (length seat.told) (items_of_seat count seat.number events)
 
--- seats that keep their numbers
+-- the seats keep their numbers
 abbrev pub KeepNumbers : List Sitting → List Sitting → Type 0
 KeepNumbers old new =
     (place : ℕ) (other : Sitting) → place < length old → (slice_index_or new place other).number ≡ (slice_index_or old place other).number
 
--- what a run is before its board opens: the world after the calls that come in first, the events after them, and whether a call was
--- refused
+-- the state of a run before its board opens: the world after the leading phone calls, the events after them, and whether a call was refused
 abbrev pub begun_of : Result Run PbxFault → Result (World × List Event × Bool) PbxFault
 begun_of (Ok run) = Ok (opened_world run, shared_in run, is_call_refused run)
 begun_of (Err fault) = Err fault

@@ -1,4 +1,4 @@
--- How the turns of a run are taken, one after another, with lines that wait between the writes.
+-- How the turns of a run are taken one after another, with lines that wait between the writes.
 use Rattle.std.specs.Prelude.{◌≡◌, ℕ, ◌≤◌, ◌++◌, Bool, false, List, length, take, Option, Some, None, ⊤, Result, Ok, Err}
 use Rattle.std.specs.Io.KnownBytes.{Appends, Keeps}
 use Rattle.dp_conf.specs.Fronts.{AppendsFront, IsFront}
@@ -11,12 +11,11 @@ use Rattle.dp_commands.specs.declared.fault.PbxFault.{PbxFault}
 use Rattle.dp_commands.specs.declared.fault.PbxFault.TheVariants.{Coded, NoMemory}
 use Rattle.dp_commands.specs.declared.script.Turn.{Turn}
 
--- what a turn makes of a world, beside which nothing changes
+-- how a turn changes a world, without a change to anything beside the world
 abbrev pub plainly : {P : Type 0} → P × World → Turn → Taken (P × World)
 plainly at turn = record { state = (at.0, (after_turn at.1 turn).world); lines = (after_turn at.1 turn).line; refused = (after_turn at.1 turn).refused }
 
--- known bytes stay at the front, and with the lines that wait they are what they were with the lines that waited before,
--- and these bytes after
+-- the bytes that were written stay as a prefix, and together with the waiting lines they are the same as before, followed by these bytes
 abbrev pub Flows : Option (List ℕ) → List ℕ → Option (List ℕ) → List ℕ → List ℕ → Type 0
 Flows None waited new waits bytes = ⊤
 Flows (Some xs) waited None waits bytes = ⊥
@@ -28,9 +27,9 @@ pub record FlowsFirst {S U : Type 0} (step : S → U → Taken S) (s : S) (turns
   pub within : count ≤ length turns
   pub flowed : Flows old waited new waits (lines_of step s (take count turns))
 
--- what some turns come to where a state meets them, by what was written and what waited before, and what is written and
--- waits after them: their lines flow, with whether one was refused; where a write failed, a front was written of what
--- waited and the lines; and the lines of the first so many of them flow where memory was refused
+-- the result of taking turns from a state, given what was written and waiting before and after: the lines flow, with whether a turn was
+-- refused; if a write failed, a prefix of the waiting bytes and the lines was written; if memory ran out, the lines of the first so many
+-- turns flowed
 abbrev pub Streams : {S U : Type 0} → (S → U → Taken S) → S → List U → Option (List ℕ) → List ℕ → Option (List ℕ) → List ℕ → S → Result Bool PbxFault → Type 0
 Streams step s turns old waited new waits after (Ok refused) =
     Flows old waited new waits (lines_of step s turns) × (after ≡ state_past step s turns) × (refused ≡ refused_in step s turns)
@@ -38,7 +37,7 @@ Streams step s turns old waited new waits after (Err (Coded code line)) =
     AppendsFront old new (waited ++ lines_of step s turns) × (code ≡ WriteFailed) × (line ≡ None)
 Streams step s turns old waited new waits after (Err NoMemory) = FlowsFirst step s turns old waited new waits
 
--- the same of the turns and of the lines after the last of them, with the status
+-- the same for the turns and the lines after the last of them, with the status
 abbrev pub StreamsAll : {S U : Type 0} → (S → U → Taken S) → (S → List ℕ) → (S → Bool → ℕ) → S → List U → Option (List ℕ) → List ℕ → Option (List ℕ) → List ℕ → Result ℕ PbxFault → Type 0
 StreamsAll step last status s turns old waited new waits (Ok answer) =
     Flows old waited new waits (text_of step last s turns) × (answer ≡ status (state_past step s turns) (refused_in step s turns))
@@ -46,7 +45,7 @@ StreamsAll step last status s turns old waited new waits (Err (Coded code line))
     AppendsFront old new (waited ++ text_of step last s turns) × (code ≡ WriteFailed) × (line ≡ None)
 StreamsAll step last status s turns old waited new waits (Err NoMemory) = FlowsFirst step s turns old waited new waits
 
--- what the end of a run writes and answers, by what waits and what the run came to
+-- the output and result of the end of a run, given the waiting bytes and the result so far
 abbrev pub Ends : Option (List ℕ) → List ℕ → Option (List ℕ) → Result ℕ PbxFault → Result ℕ PbxFault → Type 0
 Ends old waits new (Ok came_to) (Ok status) = Appends old new waits × (status ≡ came_to)
 Ends old waits new (Ok came_to) (Err (Coded code line)) = AppendsFront old new waits × (code ≡ WriteFailed) × (line ≡ None)
@@ -58,7 +57,7 @@ Ends old waits new (Err NoMemory) (Ok status) = ⊥
 Ends old waits new (Err NoMemory) (Err (Coded code line)) = AppendsFront old new waits × (code ≡ WriteFailed) × (line ≡ None)
 Ends old waits new (Err NoMemory) (Err NoMemory) = Appends old new waits
 
--- whether the write at the end of a run failed, by what the run came to: after a failed write there is none
+-- whether the write at the end of a run failed, given the result so far: after a failed write there is no further one
 abbrev pub fails_at_the_end : Result ℕ PbxFault → Result ℕ PbxFault → Bool
 fails_at_the_end (Ok came_to) result = is_write_failed result
 fails_at_the_end (Err (Coded code line)) result = false

@@ -138,7 +138,7 @@ impl Question for InPlan {
 }
 
 #[test]
-fn findings_are_reported_so(rt: HostRuntime) -> Result<(), Fail> {
+fn findings_are_reported(rt: HostRuntime) -> Result<(), Fail> {
     check::<InContext>(rt.alloc(), IN_CONTEXT)?;
     check::<InPlan>(rt.alloc(), ROWS)
 }

@@ -89,7 +89,7 @@ impl Question for InPlan {
 }
 
 #[test]
-fn candidates_are_reported_so(rt: HostRuntime) -> Result<(), Fail> {
+fn candidates_are_reported(rt: HostRuntime) -> Result<(), Fail> {
     check::<InHouse>(rt.alloc(), IN_HOUSE)?;
     check::<InPlan>(rt.alloc(), ROWS)
 }

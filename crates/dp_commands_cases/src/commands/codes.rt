@@ -118,7 +118,7 @@ fn push_faults(out: &mut String) -> Result<(), NoMemory> {
 }
 
 #[test]
-fn faults_have_these_codes(rt: HostRuntime) -> Result<(), Fail> {
+fn numbers_and_names_of_faults(rt: HostRuntime) -> Result<(), Fail> {
     let mut got = String::new(rt.alloc());
     push_faults(&mut got)?;
     check_same("the faults", &got, PRINTED)

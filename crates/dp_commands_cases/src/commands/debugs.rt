@@ -126,6 +126,6 @@ impl Question for Debugged {
 
 /// Debugged runs of scripts, from their breaks to their ends.
 #[test]
-fn scripts_are_debugged_so(rt: HostRuntime) -> Result<(), Fail> {
+fn scripts_are_debugged(rt: HostRuntime) -> Result<(), Fail> {
     check_all::<Debugged>(rt.alloc(), &[ROWS, ELSEWHERE, FAULTS])
 }

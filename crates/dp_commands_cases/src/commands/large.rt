@@ -211,7 +211,7 @@ fn check_notes(alloc: Global) -> Result<(), Fail> {
 }
 
 #[test]
-fn large_texts_are_served(rt: HostRuntime) -> Result<(), Fail> {
+fn large_scripts_and_dialplans_are_handled(rt: HostRuntime) -> Result<(), Fail> {
     check_numbers(rt.alloc())?;
     check_steps(rt.alloc())?;
     check_wide(rt.alloc())?;

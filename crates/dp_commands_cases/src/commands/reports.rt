@@ -30,7 +30,7 @@ a=1\n→fault 2 NoSection line 1
 ";
 
 #[test]
-fn dialplans_are_reported_so(rt: HostRuntime) -> Result<(), Fail> {
+fn faults_of_lines_are_reported(rt: HostRuntime) -> Result<(), Fail> {
     check_table::<Check>(rt.alloc(), FAULT_LINES)
 }
 
@@ -54,6 +54,6 @@ const EXPLAINED: &str = r"
 ";
 
 #[test]
-fn notes_are_explained_so(rt: HostRuntime) -> Result<(), Fail> {
+fn notes_are_explained(rt: HostRuntime) -> Result<(), Fail> {
     check_table::<CheckExplained>(rt.alloc(), EXPLAINED)
 }

@@ -238,7 +238,7 @@ impl Question for BesideSecond {
 }
 
 #[test]
-fn scripts_are_read_so(rt: HostRuntime) -> Result<(), Fail> {
+fn scripts_are_read(rt: HostRuntime) -> Result<(), Fail> {
     check::<Scripts>(rt.alloc(), LINES)?;
     check::<Scripts>(rt.alloc(), FAULTY)?;
     check::<BesideSecond>(rt.alloc(), BESIDE_SECOND)

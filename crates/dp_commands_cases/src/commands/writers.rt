@@ -100,7 +100,7 @@ fn check_each<C: Command>(
 }
 
 #[test]
-fn a_writer_that_fails_at_write_k(rt: HostRuntime) -> Result<(), Fail> {
+fn commands_stop_at_the_first_failed_write(rt: HostRuntime) -> Result<(), Fail> {
     check_each::<Run>(rt.alloc(), RUN, TRACE, b"status 0")?;
     check_each::<RingAll>(rt.alloc(), RING_ALL_SCRIPT, RING_ALL_TRACE, b"status 1")?;
     check_each::<Check>(rt.alloc(), NOTED, CHECKED, b"status 0")?;
@@ -115,7 +115,7 @@ fn check_unasked<C: Command>(alloc: Global, text: &[u8], want: &[u8]) -> Result<
 
 /// Nothing is written of a faulty text, nor where nothing happens.
 #[test]
-fn a_faulty_text_asks_for_no_write(rt: HostRuntime) -> Result<(), Fail> {
+fn faulty_texts_and_empty_runs_write_nothing(rt: HostRuntime) -> Result<(), Fail> {
     check_unasked::<Run>(rt.alloc(), b"[main]\nabc\n", b"fault 4 NoEquals line 2")?;
     check_unasked::<Run>(
         rt.alloc(),

@@ -26,7 +26,7 @@ use Rattle.dp_app.specs.laws.StoreKept.{dropped_kept, pushed_kept, set_kept, set
 use Rattle.dp_flow.specs.Touches.{nothing, settable, the_frames, the_variables, variables_and_frames}
 use Rattle.dp_flow.specs.Waiting as waits
 
--- a row that leaves the cell as it is and parks the channel nowhere
+-- a row that does not change the cell and does not park the channel
 staying : (move_of : List ℕ → CellOf → Move) → ((arguments : List ℕ) (cell : CellOf) → ParksNowhere (move_of arguments cell))
     → IsLawfulRow nothing (λ arguments cell. jumps.stays cell (move_of arguments cell))
 staying move_of goes =
@@ -56,7 +56,7 @@ hangup_lawful = staying (λ arguments cell. Hang) (λ arguments cell. tt)
 abbrev front_of : List (List ℕ) → List (List ℕ)
 front_of parts = take (length parts - 1) parts
 
--- a subroutine that is entered pushes a frame at most
+-- the entry into a subroutine pushes at most one frame
 entered_kept : (cell : CellOf) (parts : List (List ℕ)) (o : Option SubroutineCall) → KeepsUntouched the_frames cell (jumps.enter_subroutine cell parts o).cell
 entered_kept cell parts None = cell_kept the_frames cell
 entered_kept cell parts (Some c) =
@@ -101,7 +101,7 @@ gosub_if_lawful = going_lawful the_frames jumps.gosub_if_row
     (λ arguments cell. gosub_if_same cell (chosen_side arguments))
     (λ arguments cell. gosub_if_going cell (chosen_side arguments))
 
--- the end of a subroutine, by the frame that goes
+-- the end of a subroutine, given the frame that is removed
 module _ (cell : CellOf) (value : List ℕ) where
   return_kept : (o : Option (Frame Place))
       → KeepsUntouched variables_and_frames cell (jumps.return_outcome cell (popped_setting cell.store (codes "GOSUB_RETVAL") value o)).cell
@@ -133,7 +133,7 @@ stack_pop_lawful = going_lawful the_frames jumps.stack_pop_row
     (λ arguments cell. with_store_kept the_frames cell (without_frame cell.store) (dropped_kept the_frames cell.store refl))
     (λ arguments cell. refl) (λ arguments cell. tt)
 
--- what a name that is set leaves of a cell
+-- the parts of a cell that setting a name does not change
 record SetsOnly (before after : CellOf) : Type 0 where
   keeps : KeepsUntouched settable before after
   same : after.queues ≡ before.queues
@@ -187,7 +187,7 @@ set_lawful = going_lawful settable settings.set_row
 false_is_true : false ≡ true → ⊥
 false_is_true e = cc
 
--- a wait in a phase in which a channel may be parked, and which leaves the waiting lists
+-- a wait in a phase in which a channel may be parked, and which does not change the waiting lists
 module _ (phase : Phase) (may : (count : ℕ) → MayPark count phase)
     (leaves : (lists : List (List ℕ)) (number : ℕ) → lists ≡ waiting_parked lists number phase) where
   parked_parks : (count : ℕ) (b : Bool) → MayGo count (waits.park_move phase b)
@@ -223,7 +223,7 @@ wait_exten_lawful = parked_lawful (Digits [] false) (λ count. refl) (λ lists n
 pub background_lawful : IsLawfulRow nothing waits.background_row
 background_lawful = parked_lawful (Digits [] true) (λ count. refl) (λ lists number. refl)
 
--- a call to devices, where there are any
+-- a call to devices, if there are any
 module _ (cell : CellOf) (goes_on has_timer : Bool) where
   dialled_kept : (given : Bool) → KeepsUntouched the_variables cell (dialling.dial_outcome given cell goes_on has_timer).cell
   dialled_kept false =
@@ -245,14 +245,14 @@ module _ (cell : CellOf) (goes_on has_timer : Bool) where
   dialled_closes false closing = tt
   dialled_closes true closing = parked_closes (Dialling goes_on has_timer) (λ count. tt) (λ lists number. refl) cell.is_closing closing
 
-  -- where it would wait without the mark, the call ends with nothing changed
+  -- if it would wait without the mark, the call ends and nothing changes
   dialled_hangs : (given : Bool) (phase : Phase) → cell.is_closing ≡ true
       → (dialling.dial_outcome given (record cell { is_closing = false }) goes_on has_timer).next ≡ Park phase
       → dialling.dial_outcome given cell goes_on has_timer ≡ record { cell = cell; next = Hang }
   dialled_hangs false phase closing parks = not_parked Next phase tt parks
   dialled_hangs true phase closing parks = ap (λ b. jumps.stays cell (waits.park_move (Dialling goes_on has_timer) b)) closing
 
--- what `Dial` reads of its arguments
+-- the parts of its arguments that `Dial` reads
 abbrev has_devices : List ℕ → Bool
 has_devices arguments = is_given (part 0 (arguments_of arguments))
 

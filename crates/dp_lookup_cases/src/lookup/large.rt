@@ -69,7 +69,7 @@ fn check_ring(rt: &impl Abort, alloc: Global) -> Result<(), Fail> {
 
 /// A chain of 10,000 includes is followed to its end, and a ring of them once.
 #[test]
-fn chains_and_rings_of_includes_are_followed(rt: HostRuntime) -> Result<(), Fail> {
+fn include_chains_and_rings_are_followed(rt: HostRuntime) -> Result<(), Fail> {
     check_chain(&rt, rt.alloc())?;
     check_ring(&rt, rt.alloc())
 }

@@ -92,7 +92,7 @@ fn check_orders(rt: &impl Abort, alloc: Global, plan: &Dialplan) -> Result<(), F
 
 /// Orders are depth first, and an order that is filled again holds nothing of what stood in it before.
 #[test]
-fn orders_are_depth_first(rt: HostRuntime) -> Result<(), Fail> {
+fn search_orders_are_depth_first(rt: HostRuntime) -> Result<(), Fail> {
     visit_is_the_visit();
     let plan = load_plan(rt.alloc(), PLAN)?;
     check_orders(&rt, rt.alloc(), &plan)

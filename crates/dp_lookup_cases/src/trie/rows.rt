@@ -7,7 +7,7 @@ use std::process::Abort;
 use std::test::Fail;
 
 #[test]
-fn rows_of_one_context(rt: HostRuntime) -> Result<(), Fail> {
+fn look_ups_in_one_context(rt: HostRuntime) -> Result<(), Fail> {
     let text = b"[main]\nexten => _X.,1,any\nexten => _1XX,1,three\nexten => 123,1,exact\n";
     let asked = "\
 find 123,1→main exact
@@ -62,7 +62,7 @@ fn check_nodes(rt: &impl Abort, alloc: Global, text: &[u8]) -> Result<(), Fail> 
 
 /// The count is at most the number of the tree's nodes, and at least that of the classes of a pattern that is found.
 #[test]
-fn counted_trie(rt: HostRuntime) -> Result<(), Fail> {
+fn nodes_entered_by_a_look_up(rt: HostRuntime) -> Result<(), Fail> {
     let text = b"[main]\nexten => _1X,1,two\nexten => _1.,2,more\n";
     let asked = "\
 find 15,1→main two
@@ -79,7 +79,7 @@ count ,1→0";
 /// The entries of one name have one end, also where one of them has a label: the class and the end are entered, whichever
 /// priority is asked for.
 #[test]
-fn counted_name_of_two_priorities(rt: HostRuntime) -> Result<(), Fail> {
+fn priorities_of_one_name_share_an_end_node(rt: HostRuntime) -> Result<(), Fail> {
     let text = b"[main]\ninclude => far\nexten => _X,1,one\nexten => _X,2(here),two\n\
 [far]\nexten => _X,3,three\nexten => _X,4(there),four\nexten => _X.,5,five\n";
     let asked = "\
@@ -104,7 +104,7 @@ count 5,2→3";
 
 /// The nodes that are entered count in each context that is asked, up to the one that answers.
 #[test]
-fn rows_of_several_contexts(rt: HostRuntime) -> Result<(), Fail> {
+fn look_ups_in_several_contexts(rt: HostRuntime) -> Result<(), Fail> {
     let text = b"[a]\ninclude => b\nexten => 5,1,own\nexten => _X,4(out),any\n[b]\ninclude => a\n\
 exten => 5,1,first\nexten => _X,2(out),second\nexten => 678,1,far\n";
     let asked = "\
@@ -134,7 +134,7 @@ label 5,out→2";
 
 /// Names that go on from one another, priorities with gaps between them, and dashes in the text.
 #[test]
-fn rows_of_gaps_and_dashes(rt: HostRuntime) -> Result<(), Fail> {
+fn look_ups_with_priority_gaps_and_dashes(rt: HostRuntime) -> Result<(), Fail> {
     let text =
         b"[main]\nexten => 2,1,two\nexten => 12,1,one\nexten => 12,5,five\nexten => 12,9(far),nine\n\
 exten => 1,2,short\nexten => 123,2,late\nexten => 1234,1,long\n\
@@ -171,7 +171,7 @@ more 3-1-4-→no more";
 
 /// A label of several names that match, of a name that does not, and of two contexts, each by the order of names.
 #[test]
-fn rows_of_labels(rt: HostRuntime) -> Result<(), Fail> {
+fn look_ups_of_labels(rt: HostRuntime) -> Result<(), Fail> {
     let text =
         b"[main]\ninclude => far\nexten => _1X,2(both),any\nexten => 12,4(both),exact\nexten => _1.,3(tail),dot\n\
 exten => 99,5(none),other\nexten => _X5,6(none),five\nexten => 12,7(single),single\n\

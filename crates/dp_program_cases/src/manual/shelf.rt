@@ -139,7 +139,7 @@ fn check_commands<R: Threads + Wait + Sync + Abort + AllocGlobal>(
 
 /// Each example prints what the documents say.
 #[test]
-fn examples_print_so(rt: HostRuntime) -> Result<(), Fail> {
+fn examples_print_what_the_documents_say(rt: HostRuntime) -> Result<(), Fail> {
     check_commands(&rt, EXAMPLES)?;
     check_commands(&rt, REACHES)?;
     check_commands(&rt, DIALPLANS)?;
@@ -191,7 +191,7 @@ fn check_fault<R: Threads + Wait + Sync + Abort + AllocGlobal>(
 
 /// Each line has the fault that the documents say.
 #[test]
-fn lines_have_these_faults(rt: HostRuntime) -> Result<(), Fail> {
+fn lines_have_the_faults_that_the_documents_say(rt: HostRuntime) -> Result<(), Fail> {
     for row in FAULTS.lines() {
         match row.split_once('→') {
             Some((line, want)) => check_fault(&rt, line, want)?,
@@ -203,7 +203,7 @@ fn lines_have_these_faults(rt: HostRuntime) -> Result<(), Fail> {
 
 /// Each text has the value that the documents say.
 #[test]
-fn texts_have_these_values(rt: HostRuntime) -> Result<(), Fail> {
+fn texts_have_the_values_that_the_documents_say(rt: HostRuntime) -> Result<(), Fail> {
     for line in VALUES.lines() {
         match line.split_once('→') {
             Some((asked, want)) => check_value(&rt, asked, want)?,

@@ -517,7 +517,7 @@ fn check_all<R: Files + Threads + Wait + Sync + AllocGlobal + Clone + Drop>(
 }
 
 #[test]
-fn command_lines_print_so(rt: HostRuntime) -> Result<(), Fail> {
+fn output_and_status_of_command_lines(rt: HostRuntime) -> Result<(), Fail> {
     let folder = make_folder(&rt, "small", process::id(rt.process()))?;
     check_all(&rt, &folder)?;
     fs::remove_dir_all(&rt, folder.as_str())?;

@@ -106,7 +106,7 @@ fn check_all<R: Files + Threads + Wait + Sync + AllocGlobal + Clone + Drop>(
 }
 
 #[test]
-fn large_texts_are_served(rt: HostRuntime) -> Result<(), Fail> {
+fn files_of_many_lines_and_long_names_are_read(rt: HostRuntime) -> Result<(), Fail> {
     let folder = make_folder(&rt, "large", process::id(rt.process()))?;
     check_all(&rt, &folder)?;
     fs::remove_dir_all(&rt, folder.as_str())?;

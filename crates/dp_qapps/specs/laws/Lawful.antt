@@ -25,7 +25,7 @@ use Rattle.dp_qapps.specs.Touches.{variables_and_members, variables_and_waiting}
 false_is_true : false ≡ true → ⊥
 false_is_true e = cc
 
--- a report leaves what the change of the queues leaves
+-- a report keeps whatever the change of the queues keeps
 reported_kept : (touch : Touch) (cell : CellOf) (queues : QueuesOf) (name status : List ℕ) → touch.variables ≡ true
     → KeepsQueues touch cell.queues queues → KeepsUntouched touch cell (with_report cell queues name status).cell
 reported_kept touch cell queues name status touches kept = record {
@@ -68,7 +68,7 @@ remove_member_lawful = members_lawful
     (λ arguments cell. membership.removed_status (remove_row cell.queues (part 0 (arguments_of arguments)) (interface_of cell.number (part 1 (arguments_of arguments)))).1)
     (λ arguments cell. remove_kept cell.queues (part 0 (arguments_of arguments)) (interface_of cell.number (part 1 (arguments_of arguments))))
 
--- a row that pauses a member, or ends a pause
+-- a row that pauses a member or ends its pause
 pub pausing_lawful : (is_paused : Bool) → IsLawfulRow variables_and_members (pausing.pausing_row is_paused)
 unfolding pausing.pausing_row
 pausing_lawful is_paused = members_lawful
@@ -85,13 +85,13 @@ pause_member_lawful = pausing_lawful true
 pub unpause_member_lawful : IsLawfulRow variables_and_members pausing.unpause_member_row
 unpause_member_lawful = pausing_lawful false
 
--- a call that asks to join, by what it is told
+-- a call that asks to join, given the reply
 module _ (cell : CellOf) (goes_on has_timer : Bool) where
-  -- a call that does not wait changes the variables alone
+  -- a call that does not wait changes only the variables
   refused_kept : (status : List ℕ) → KeepsUntouched variables_and_waiting cell (queueing.stays_out cell status).cell
   refused_kept status = reported_kept variables_and_waiting cell cell.queues (codes "QUEUESTATUS") status refl (queues_kept variables_and_waiting cell.queues)
 
-  -- one that waits changes the waiting lists alone
+  -- a call that waits changes only the waiting lists
   queued_kept : (number : ℕ) (b : Bool)
       → KeepsUntouched variables_and_waiting cell (queueing.wait_in_queue b cell (after_join cell.queues cell.number (Joined number)) number goes_on has_timer).cell
   queued_kept number true = cell_kept variables_and_waiting cell
@@ -111,7 +111,7 @@ module _ (cell : CellOf) (goes_on has_timer : Bool) where
   asked_kept Full = refused_kept (codes "FULL")
   asked_kept (Joined number) = queued_kept number cell.is_closing
 
-  -- it waits in one of the queues
+  -- the queue in which it waits exists
   queued_parks : (count number : ℕ) (b : Bool) (queues : QueuesOf) → number < count
       → MayGo count (queueing.wait_in_queue b cell queues number goes_on has_timer).next
   queued_parks count number true queues within = tt
@@ -123,7 +123,7 @@ module _ (cell : CellOf) (goes_on has_timer : Bool) where
   asked_parks count queues Full within = tt
   asked_parks count queues (Joined number) within = queued_parks count number cell.is_closing queues within
 
-  -- it stands last in the waiting list of that queue
+  -- it is the last in the waiting list of that queue
   queued_waits : (number : ℕ) (b : Bool)
       → waiting_lists (queueing.wait_in_queue b cell (after_join cell.queues cell.number (Joined number)) number goes_on has_timer).cell.queues
       ≡ waiting_after (waiting_lists cell.queues) cell.number (queueing.wait_in_queue b cell (after_join cell.queues cell.number (Joined number)) number goes_on has_timer).next
@@ -138,7 +138,7 @@ module _ (cell : CellOf) (goes_on has_timer : Bool) where
   asked_waits Full = refl
   asked_waits (Joined number) = queued_waits number cell.is_closing
 
-  -- one that is closing does not wait
+  -- a call that is closing does not wait
   queued_closes : (number : ℕ) (b : Bool) (queues : QueuesOf) → b ≡ true → ParksNowhere (queueing.wait_in_queue b cell queues number goes_on has_timer).next
   queued_closes number true queues closing = tt
   queued_closes number false queues closing = absurd (false_is_true closing)
@@ -149,7 +149,7 @@ module _ (cell : CellOf) (goes_on has_timer : Bool) where
   asked_closes queues Full closing = tt
   asked_closes queues (Joined number) closing = queued_closes number cell.is_closing queues closing
 
-  -- where it would wait without the mark, its call ends with nothing changed
+  -- if it would wait without the mark, the call ends and nothing changes
   asked_hangs : (queues : QueuesOf) (j : Join) (phase : Phase) → cell.is_closing ≡ true
       → (queueing.join_outcome (record cell { is_closing = false }) goes_on has_timer queues j).next ≡ Park phase
       → queueing.join_outcome cell goes_on has_timer queues j ≡ record { cell = cell; next = Hang }
@@ -158,14 +158,14 @@ module _ (cell : CellOf) (goes_on has_timer : Bool) where
   asked_hangs queues Full phase closing parks = not_parked Next phase tt parks
   asked_hangs queues (Joined number) phase closing parks = ap (λ b. queueing.wait_in_queue b cell queues number goes_on has_timer) closing
 
--- what the options of `Queue` ask for, by its parts
+-- what the options of `Queue` ask for, given its parts
 abbrev goes_on_of : List ℕ → Bool
 goes_on_of arguments = has_option 99 (part 1 (arguments_of arguments))
 
 abbrev has_timer_of : List ℕ → Bool
 has_timer_of arguments = is_given (part 4 (arguments_of arguments))
 
--- what a call that asks to join is told
+-- the reply to a call that asks to join
 abbrev join_told : List ℕ → CellOf → Join
 join_told arguments cell = would_join cell.queues.queues (part 0 (arguments_of arguments))
 

@@ -1,4 +1,4 @@
--- What is kept of the queues by a call that waits, and by members that are added, removed and paused.
+-- What a call that waits keeps of the queues, and what adding, removing and pausing members keeps.
 use Rattle.std.specs.Prelude.{◌≡◌, ℕ, zero, suc, ◌<◌, nat_lt, Bool, true, false, List, [], ◌∷◌, ◌++◌, Option, Some, None, length, map, take, slice_get, refl, if◌then◌else◌}
 use Rattle.std.specs.Option.{option_map, unwrap_or}
 use Rattle.std.proofs.Common.{ap, arith}
@@ -25,27 +25,27 @@ use Rattle.dp_qapps.specs.Touches.{variables_and_members, variables_and_waiting}
 true_is_false : true ≡ false → ⊥
 true_is_false e = cc
 
--- what a change leaves of one queue is left of all by a change at a place
+-- what a change keeps of one queue, a change at a place keeps of all
 same-changed : {X : Type 0} (f : QueueOf → X) (change : QueueOf → QueueOf) → ((queue : QueueOf) → f (change queue) ≡ f queue)
     → (place : ℕ) (queues : List QueueOf) → map f (changed_at change place queues) ≡ map f queues
 same-changed f change same place [] = refl
 same-changed f change same zero (queue ∷ queues) = ap (λ x. x ∷ map f queues) (same queue)
 same-changed f change same (suc place) (queue ∷ queues) = ap (λ rest. f queue ∷ rest) (same-changed f change same place queues)
 
--- and by a change of each of them
+-- what a change keeps of one queue, a change of each queue keeps of all
 same-map : {X : Type 0} (f : QueueOf → X) (change : QueueOf → QueueOf) → ((queue : QueueOf) → f (change queue) ≡ f queue)
     → (queues : List QueueOf) → map f (map change queues) ≡ map f queues
 same-map f change same [] = refl
 same-map f change same (queue ∷ queues) = λ i. same queue i ∷ same-map f change same queues i
 
--- one more call waits in the queue of the number
+-- one more call waits in the queue with the number
 pub lists-joined : (c number : ℕ) (queues : List QueueOf)
     → map (λ queue. queue.waiting) (changed_at (with_caller c) number queues) ≡ changed_at (λ waiting. waiting ++ c ∷ []) number (map (λ queue. queue.waiting) queues)
 lists-joined c number [] = refl
 lists-joined c zero (queue ∷ queues) = refl
 lists-joined c (suc number) (queue ∷ queues) = ap (λ rest. queue.waiting ∷ rest) (lists-joined c number queues)
 
--- a call that joins leaves all but the waiting lists
+-- a call that joins changes nothing but the waiting lists
 pub joined_kept : (q : QueuesOf) (c number : ℕ)
     → KeepsQueues variables_and_waiting q (record q { queues = changed_at (with_caller c) number q.queues })
 joined_kept q c number = record {
@@ -60,13 +60,13 @@ joined_kept q c number = record {
   waiting = λ h. absurd (true_is_false h);
 }
 
--- a place at which something stands is one of the places
+-- a place that has an element is one of the places
 place_within : {X : Type 0} (xs : List X) (place : ℕ) (x : X) → slice_get xs place ≡ Some x → place < length xs
 place_within [] place x found = absurd (none-some x found)
 place_within (y ∷ ys) zero x found = omega arith
 place_within (y ∷ ys) (suc place) x found = omega (arith, place_within ys place x found)
 
--- what a call is told by a queue of the number, if that is one of so many
+-- the reply of the queue with the number to a call, if it is one of so many
 answer_within : (count number : ℕ) (queue : QueueOf) → number < count → IsWithin count (join_answer number queue)
 answer_within count number queue within = by (refuses_join queue.settings.joinempty queue.members) (is_full queue.settings.maxlen queue.waiting)
   where
@@ -75,7 +75,7 @@ answer_within count number queue within = by (refuses_join queue.settings.joinem
     by false true = tt
     by false false = within
 
--- a queue that a call is told to have joined is one of the queues
+-- a queue that a call has joined, as its reply says, is one of the queues
 pub joins_within : (queues : List QueueOf) (name : List ℕ) → IsWithin (length queues) (would_join queues name)
 joins_within queues name = by (queue_number queues name)
   where
@@ -87,7 +87,7 @@ joins_within queues name = by (queue_number queues name)
     by None = tt
     by (Some number) = found number (slice_get queues number) refl
 
--- queues of which the members alone change, and agents after the known ones that are idle
+-- queues of which only the members change, and agents that are idle after the known ones
 members_kept : (q : QueuesOf) (queues : List QueueOf) (agents : List Agent)
     → map (λ queue. queue.name) queues ≡ map (λ queue. queue.name) q.queues
     → map (λ queue. queue.settings) queues ≡ map (λ queue. queue.settings) q.queues
@@ -115,7 +115,7 @@ state-push [] name (suc number) = refl
 state-push (agent ∷ agents) name zero = refl
 state-push (agent ∷ agents) name (suc number) = state-push agents name number
 
--- the agents with that of a name among them
+-- the known agents stay as they are when that of a name joins them
 known_kept : (agents : List Agent) (name : List ℕ) (b : Bool)
     → take (length agents) (if b then agents else agents ++ (record { name = name; state = Idle }) ∷ []) ≡ agents
 known_kept agents name true = take-length agents
@@ -143,14 +143,14 @@ added_kept q name penalty (Some number) = by (is_member_at q.queues number (agen
         (known_kept q.agents name (nat_lt (agent_number q.agents name) (length q.agents)))
         (states_kept q.agents name (nat_lt (agent_number q.agents name) (length q.agents)))
 
--- an addition is kept
+-- adding a member keeps the rest
 pub add_kept : (q : QueuesOf) (queue name : List ℕ) (penalty : ℕ) → KeepsQueues variables_and_members q (add_row q queue name penalty).0
 add_kept q queue name penalty = added_kept q name penalty (queue_number q.queues queue)
 
--- queues of which the members alone change
+-- queues of which only the members change
 module _ (q : QueuesOf) (change : QueueOf → QueueOf) (names : (queue : QueueOf) → (change queue).name ≡ queue.name)
     (settings : (queue : QueueOf) → (change queue).settings ≡ queue.settings) (waiting : (queue : QueueOf) → (change queue).waiting ≡ queue.waiting) where
-  -- in the queue of a number
+  -- in the queue with a number
   one_kept : (number : ℕ) → KeepsQueues variables_and_members q (record q { queues = changed_at change number q.queues })
   one_kept number = members_kept q (changed_at change number q.queues) q.agents
       (same-changed (λ queue. queue.name) change names number q.queues)
@@ -179,16 +179,16 @@ removed_kept q a (Some number) = found (member_of a (slice_get q.queues number))
     found None = queues_kept variables_and_members q
     found (Some member) = by member.is_dynamic
 
--- a removal is kept
+-- removing a member keeps the rest
 pub remove_kept : (q : QueuesOf) (queue name : List ℕ) → KeepsQueues variables_and_members q (remove_row q queue name).0
 remove_kept q queue name = removed_kept q (agent_number q.agents name) (queue_number q.queues queue)
 
--- a member is paused in the queue of a number, if there is one
+-- a member is paused in the queue with a number, if there is one
 paused_kept : (q : QueuesOf) (a : ℕ) (is_paused : Bool) (o : Option ℕ) → KeepsQueues variables_and_members q (pause_row_at q o a is_paused).0
 paused_kept q a is_paused None = queues_kept variables_and_members q
 paused_kept q a is_paused (Some number) = one_kept q (paused_queue a is_paused) (λ queue. refl) (λ queue. refl) (λ queue. refl) number
 
--- a pause is kept
+-- pausing a member keeps the rest
 pub pause_kept : (q : QueuesOf) (queue : Option (List ℕ)) (interface : List ℕ) (is_paused : Bool)
     → KeepsQueues variables_and_members q (after_pausing q queue interface is_paused).0
 pause_kept q queue [] is_paused = queues_kept variables_and_members q

@@ -143,7 +143,7 @@ const LIMIT: &str = r"
 
 /// How deep groups stand inside each other, and the limit of that.
 #[test]
-fn groups_nest_so_deep(rt: HostRuntime) -> Result<(), Fail> {
+fn groups_nest_up_to_a_limit(rt: HostRuntime) -> Result<(), Fail> {
     check::<Nesting>(rt.alloc(), NESTING)?;
     check::<Deep>(rt.alloc(), LIMIT)
 }

@@ -80,6 +80,6 @@ impl Question for Numbered {
 }
 
 #[test]
-fn names_have_these_numbers(rt: HostRuntime) -> Result<(), Fail> {
+fn numbers_of_names_in_a_store(rt: HostRuntime) -> Result<(), Fail> {
     check_all::<Numbered>(rt.alloc(), &[NUMBERS])
 }

@@ -142,6 +142,6 @@ fn check_stores(rt: &impl Abort, alloc: Global) -> Result<(), Fail> {
 /// Frames go back where they were pushed, the later of two locals of one name stands, a local needs a frame, a name
 /// whose change is refused gets no number, and globals are read as they were put.
 #[test]
-fn stores_keep_what_is_put(rt: HostRuntime) -> Result<(), Fail> {
+fn stores_keep_variables_frames_and_globals(rt: HostRuntime) -> Result<(), Fail> {
     check_stores(&rt, rt.alloc())
 }

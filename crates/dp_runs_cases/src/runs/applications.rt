@@ -495,7 +495,7 @@ fn check_table(alloc: Global, table: &str) -> Result<(), Fail> {
 
 /// Each application with its arguments of all forms.
 #[test]
-fn applications_run_so(rt: HostRuntime) -> Result<(), Fail> {
+fn applications_run_with_arguments_of_all_forms(rt: HostRuntime) -> Result<(), Fail> {
     for table in TABLES {
         check_table(rt.alloc(), table)?;
     }

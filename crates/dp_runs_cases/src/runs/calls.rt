@@ -222,6 +222,6 @@ impl Question for Call {
 
 /// Calls with digits, queues and agents, from their starts to their ends.
 #[test]
-fn calls_run_so(rt: HostRuntime) -> Result<(), Fail> {
+fn calls_run_from_start_to_end(rt: HostRuntime) -> Result<(), Fail> {
     check_all::<Call>(rt.alloc(), TABLES)
 }

@@ -305,7 +305,7 @@ fn check_apart<'a>(alloc: Global, plan: &'a [u8], script: &'a str, want: &str) -
 }
 
 #[test]
-fn joined_texts_run_so(rt: HostRuntime) -> Result<(), Fail> {
+fn joined_texts_run(rt: HostRuntime) -> Result<(), Fail> {
     for table in TABLES {
         check_table::<Run>(rt.alloc(), table)?;
     }

@@ -1,4 +1,4 @@
--- The labels of a context: a table that leads from each label to the names that have it.
+-- The labels of a context: a table from each label to the names that have it.
 use Rattle.std.specs.Prelude.{◌≡◌, ℕ, List, [], ◌∷◌, ◌++◌, map, filter, Some, unwrap_or, Bool, nat_eq}
 use Rattle.std.specs.List.Sorted.{IsStrictlySortedBy}
 use Rattle.std.specs.Ordering.{nat_cmp, ordering_then}
@@ -28,15 +28,15 @@ holders_named label entries = map holder_of (filter (λ known. shares_label know
 abbrev pub held_of : Labels → List ℕ → List Holder
 held_of labels label = unwrap_or (get (pointwise nat_eq) labels.rows label) []
 
--- the table has one entry more, after the others
+-- the table has one more entry, after the others
 abbrev pub Adds : Labels → Labels → Known → Type 0
 Adds old new known = (label : List ℕ) → held_of new label ≡ held_of old label ++ holders_named label (known ∷ [])
 
--- by the names, and for one name by the priorities
+-- the order of holders by name, and by priority for the same name
 abbrev pub holder_cmp : Holder → Holder → Ordering
 holder_cmp a b = ordering_then (name_cmp a.name b.name) (nat_cmp a.priority b.priority)
 
--- holders stand in the order of their names
+-- holders are in the order of their names
 abbrev pub AreRising : List Holder → Type 0
 AreRising holders = IsStrictlySortedBy holder_cmp holders
 
@@ -49,7 +49,7 @@ pub record AreLabels (entries : List Known) (labels : Labels) : Type 0 where
 abbrev pub is_matched : List ℕ → Meaning → Bool
 is_matched digits name = is_match (tail_of name) (walk_after (classes_of name) digits)
 
--- how far up a name stands among those of a label: a plain name by its side, and patterns after all of them
+-- the rank of a name among those with a label: a plain name ranks by its side, and patterns come after all of them
 abbrev pub name_rank : List ℕ → Meaning → ℕ
 name_rank digits (Plain text) = names.rank (side_of text digits)
 name_rank digits (Pattern classes tail) = 4

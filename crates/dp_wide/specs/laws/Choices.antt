@@ -21,7 +21,7 @@ true_is_false e = cc
 untouched : {X : Type 0} → true ≡ false → X
 untouched e = absurd (true_is_false e)
 
--- what is kept with some touch is kept with the touch of everything
+-- what keeps to some touch keeps to the touch of everything
 all_kept : (touch : Touch) (before after : CellOf) → KeepsUntouched touch before after → KeepsUntouched everything before after
 all_kept touch before after kept = record {
   number = kept.number;
@@ -53,7 +53,7 @@ all_lawful touch row lawful = record {
   hangs = lawful.hangs;
 }
 
--- the laws of a row, of its outcome on each cell alone: its arguments are given
+-- the laws of a row with given arguments: they are only about its outcome on each cell
 record IsLawfulOn (of_cell : CellOf → Outcome) : Type 0 where
   keeps : (cell : CellOf) → KeepsUntouched everything cell (of_cell cell).cell
   parks : (cell : CellOf) → MayGo (length cell.queues.queues) (of_cell cell).next
@@ -63,7 +63,7 @@ record IsLawfulOn (of_cell : CellOf → Outcome) : Type 0 where
   hangs : (cell : CellOf) (phase : Phase) → cell.is_closing ≡ true
       → (of_cell (record cell { is_closing = false })).next ≡ Park phase → of_cell cell ≡ record { cell = cell; next = Hang }
 
--- a lawful row is, with each of its arguments
+-- a lawful row is lawful with each of its arguments
 lawful_on : (touch : Touch) (row : Row) → IsLawfulRow touch row → (arguments : List ℕ) → IsLawfulOn (row arguments)
 lawful_on touch row lawful arguments = record {
   keeps = (all_lawful touch row lawful).keeps arguments;
@@ -96,7 +96,7 @@ exec_if_lawful touches rows lawful = record {
     on : (arguments : List ℕ) → IsLawfulOn (run_in rows (exec_if_application arguments))
     on arguments = run_lawful touches rows lawful (exec_if_application arguments)
 
--- the row of an `ExecIf` over a lawful table, where so many may run inside each other
+-- the row of an `ExecIf` over a lawful table, when so many may run inside each other
 pub exec_if_within_lawful : (more : ℕ) (touches : List ℕ → Touch) (rows : Rows) → IsLawful touches rows
     → IsLawfulRow everything (exec_if_within more rows)
 exec_if_within_lawful zero touches rows lawful = all_lawful nothing hangup_row hangup_lawful

@@ -1,4 +1,4 @@
--- The row of an application that runs outside keeps the laws of rows, and a table in which they come first those of tables.
+-- The row of an application that runs outside keeps the laws of rows, and a table with these applications first keeps those of tables.
 use Rattle.std.specs.Prelude.{◌≡◌, ℕ, ◌||◌, Bool, true, false, List, [], Option, map, nat_eq, codes, length, is_some, refl}
 use Rattle.std.specs.Char.{to_ascii_lowercase}
 use Rattle.std.specs.Cmp.Lexicographic.{pointwise}
@@ -21,7 +21,7 @@ use Rattle.dp_wide.specs.laws.UnsetKept.{after_arguments_kept, without_values_ke
 false_is_true : false ≡ true → ⊥
 false_is_true e = cc
 
--- the row by whether the channel is closing
+-- the row, given whether the channel is closing
 module _ (statuses : List (List ℕ)) (reads : Bool) (arguments : List ℕ) (cell : CellOf) where
   outside_kept : (closing : Bool) → KeepsUntouched the_variables cell (outside_outcome statuses reads arguments cell closing).cell
   outside_kept true = cell_kept the_variables cell
@@ -54,7 +54,7 @@ outside_lawful statuses reads = record {
   hangs = λ arguments cell phase closing parks. ap (λ b. outside_outcome statuses reads arguments cell b) closing;
 }
 
--- an application that runs outside is the same in each spelling of its name, and so is what is known of it
+-- an application that runs outside is the same in each spelling of its name, and so is the knowledge of it
 outside_statuses-spelled : (name spelling : List ℕ) → same_word name spelling ≡ true → outside_statuses spelling ≡ outside_statuses name
 outside_statuses-spelled name spelling same =
     lowered (λ lower. option_map (λ a. a.1) (find (λ a. pointwise nat_eq lower (map to_ascii_lowercase a.0)) outside_applications)) name spelling same
@@ -74,13 +74,13 @@ row_outside-spelled name spelling same =
     ap (λ statuses. outside_row (unwrap_or statuses []) (is_read spelling)) (outside_statuses-spelled name spelling same)
     ∙ ap (λ reads. outside_row (unwrap_or (outside_statuses name) []) reads) (is_read-spelled name spelling same)
 
--- a lawful table with those that run outside before it is lawful
+-- a lawful table is lawful with the applications that run outside before it
 pub with_outside_lawful : (touches : List ℕ → Touch) (rows : Rows) → IsLawful touches rows → IsLawful (with_outside_touch touches) (with_outside rows)
 with_outside_lawful touches rows lawful =
     with_named_lawful is_outside the_variables row_outside touches rows
     (λ name. outside_lawful (unwrap_or (outside_statuses name) []) (is_read name)) lawful
 
--- and a blind one is blind
+-- a blind table is blind with the applications that run outside before it
 pub with_outside_blind : (touches : List ℕ → Touch) (rows : Rows) → IsBlind touches rows → IsBlind (with_outside_touch touches) (with_outside rows)
 with_outside_blind touches rows blind =
     with_named_blind is_outside the_variables row_outside touches rows is_outside-spelled row_outside-spelled blind
@@ -96,7 +96,7 @@ unfolding outside_row
 overlooked_row statuses true looks first second cell = absurd (false_is_true (sym looks))
 overlooked_row statuses false looks first second cell = overlooked_outcome statuses first second cell cell.is_closing
 
--- those that run outside, all but `Read`, do the same whatever their arguments are
+-- the applications that run outside, all but `Read`, do the same with any arguments
 pub with_outside_overlooks : (knowledge : Knowledge) (rows : Rows) → Overlooks knowledge.looks rows
     → Overlooks (with_outside_knowledge knowledge).looks (with_outside rows)
 with_outside_overlooks knowledge rows overlooks =

@@ -1,4 +1,4 @@
--- The rows of `Set` and `MSet` keep the laws of rows with their touch: what is set leaves the places to which frames go back.
+-- The rows of `Set` and `MSet` keep the laws of rows with their touch: settings do not change the places to which frames return.
 use Rattle.std.specs.Prelude.{◌≡◌, ℕ, true, false, List, [], ◌∷◌, fold, Option, Some, None, codes, refl}
 use Rattle.std.proofs.Common.{◌∙◌}
 use Rattle.dp_conf.specs.Cut.{cut_once}
@@ -15,7 +15,7 @@ use Rattle.dp_wide.specs.Cells.{cell_name}
 use Rattle.dp_wide.specs.Settings as spec
 use Rattle.dp_wide.specs.Settings.{Effect, OneTarget, NameAndNumber, EmptyKey, EachName, Settable, bare_name, effect_of, settable_of, with_settable}
 
--- frames go back to the same places
+-- frames return to the same places
 abbrev SamePlaces : Settable → Settable → Type 0
 SamePlaces before after = places_of after.store ≡ places_of before.store
 
@@ -64,7 +64,7 @@ texts_same s (text ∷ texts) = texts_same (spec.with_text s text) texts ∙ pai
 true_is_false : true ≡ false → ⊥
 true_is_false e = cc
 
--- a cell of which what can be set is as it is after settings
+-- a cell with its settable parts after settings
 settled : (cell : CellOf) (s : Settable) → SamePlaces (settable_of cell) s → KeepsUntouched settable cell (with_settable cell s)
 settled cell s same = record {
   number = refl;

@@ -16,7 +16,7 @@ use Rattle.dp_wide.specs.Subroutines as spec
 abbrev front_of : List (List ℕ) → List (List ℕ)
 front_of parts = take (length parts - 1) parts
 
--- a subroutine that is entered pushes a frame
+-- the entry into a subroutine pushes a frame
 pub entered_kept : (cell : CellOf) (locals : List Local) (target : List (List ℕ)) → KeepsUntouched the_frames cell (spec.entered_with cell locals target).cell
 entered_kept cell locals target =
     with_store_kept the_frames cell (with_frame cell.store (place_after cell.place) locals)

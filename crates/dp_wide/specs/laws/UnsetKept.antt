@@ -1,4 +1,4 @@
--- What is kept of a store in which names have no value any more.
+-- What is kept of a store in which names have lost their values.
 use Rattle.std.specs.Prelude.{◌≡◌, ℕ, Bool, true, false, List, [], ◌∷◌, map, refl}
 use Rattle.std.proofs.Common.{ap, sym, ◌∙◌}
 use Rattle.dp_vars.specs.Stores.{Frame, StoreOf, set, unset, value_in, without_local}
@@ -12,17 +12,17 @@ use Rattle.dp_wide.specs.ReadNames.{read_names, with_listed}
 true_is_false : true ≡ false → ⊥
 true_is_false e = cc
 
--- what a touch leaves, where it does not
+-- no touch both changes a part and leaves it
 no_false : {X : Type 0} (b : Bool) → b ≡ true → b ≡ false → X
 no_false true is h = absurd (true_is_false h)
 no_false false is h = absurd (true_is_false (sym is))
 
--- frames without a local go back to the same places
+-- frames without a local return to the same places
 places-without_local : (name : List ℕ) (frames : List (Frame Place)) → map (λ f. f.back) (map (without_local name) frames) ≡ map (λ f. f.back) frames
 places-without_local name [] = refl
 places-without_local name (f ∷ fs) = ap (λ rest. f.back ∷ rest) (places-without_local name fs)
 
--- a name that has no value any more leaves the places of the frames, and changes the variables and the locals
+-- a name that loses its value changes the variables and the locals, but not the places of the frames
 pub unset_kept : (touch : Touch) (before after : StoreOf Place) (name : List ℕ) → touch.variables ≡ true → KeepsStore touch before after
     → KeepsStore touch before (unset after name)
 unfolding unset
@@ -33,14 +33,14 @@ unset_kept touch before after name touches kept = record {
   names = λ h. no_false touch.variables touches;
 }
 
--- so do several names
+-- the same for several names that lose their values
 pub without_values_kept : (touch : Touch) (before after : StoreOf Place) (names : List (List ℕ)) → touch.variables ≡ true → KeepsStore touch before after
     → KeepsStore touch before (without_values names after)
 without_values_kept touch before after [] touches kept = kept
 without_values_kept touch before after (name ∷ names) touches kept =
     without_values_kept touch before (unset after name) names touches (unset_kept touch before after name touches kept)
 
--- and a name that is to be read, where the first argument is one
+-- the same for a name for input, if the first argument is one
 pub after_arguments_kept : (touch : Touch) (before after : StoreOf Place) (reads : Bool) (arguments : List ℕ) → touch.variables ≡ true
     → KeepsStore touch before after → KeepsStore touch before (after_arguments reads arguments after)
 after_arguments_kept touch before after false arguments touches kept = kept

@@ -1,4 +1,4 @@
--- The applications of the wide table that do not look at their arguments do the same whatever these are.
+-- The applications of the wide table that do not look at their arguments do the same with any of them.
 use Rattle.std.specs.Prelude.{◌≡◌, ℕ, Bool, true, false, ◌||◌, List, Option, Some, if◌then◌else◌, refl, codes}
 use Rattle.std.proofs.Common.{subst}
 use Rattle.std.proofs.lemmas.Option.{same_Some}
@@ -24,7 +24,7 @@ use Rattle.dp_wide.specs.laws.OutsideLawful.{with_outside_overlooks}
 true_is_false : true ≡ false → ⊥
 true_is_false e = cc
 
--- a row that is the same whatever the arguments are
+-- a row is the same with any arguments
 abbrev IsQuiet : Row → Type 0
 IsQuiet row = (first second : List ℕ) (cell : CellOf) → row first cell ≡ row second cell
 
@@ -34,7 +34,7 @@ next_quiet first second cell = refl
 hangup_quiet : IsQuiet hangup_row
 hangup_quiet first second cell = refl
 
--- the rows that come first, by the tests of their names
+-- the rows that come first, given the tests of their names
 quiet_rows : (a b c d e f : Bool) (rest : Option Row) (row : Row)
     → (if a then Some next_row else (if b then Some next_row else (if c then Some next_row
     else (if d then Some hangup_row else (if e then Some hangup_row else (if f then Some hangup_row else rest)))))) ≡ Some row
@@ -47,7 +47,7 @@ quiet_rows false false false false true f rest row there one = subst IsQuiet (sa
 quiet_rows false false false false false true rest row there one = subst IsQuiet (same_Some hangup_row row there) hangup_quiet
 quiet_rows false false false false false false rest row there one = absurd (cc)
 
--- a name that is none of them has the row of the table behind them
+-- a name that is none of theirs has the row of the table behind them
 behind_quiet : (a b c d e f : Bool) (rest : Option Row) (row : Row)
     → (if a then Some next_row else (if b then Some next_row else (if c then Some next_row
     else (if d then Some hangup_row else (if e then Some hangup_row else (if f then Some hangup_row else rest)))))) ≡ Some row
@@ -113,7 +113,7 @@ wide_case : (name : List ℕ) (row : Row) (b : Bool) → (if b then Some (exec_i
 wide_case name row true there looks = absurd (true_is_false looks)
 wide_case name row false there looks = inner_overlooks name row there looks
 
--- the applications that do not look at their arguments do the same whatever these are
+-- the applications that do not look at their arguments do the same with any of them
 pub wide_overlooks : Overlooks wide_looks wide_rows
 unfolding wide_table
 wide_overlooks name row there looks = wide_case name row (same_word name exec_if_title) there looks

@@ -1,4 +1,4 @@
--- The applications of the wide table that are found by their numbers, each by its place.
+-- The applications of the wide table that are found by number, each at its place.
 use Rattle.std.specs.Prelude.{List, [], ◌∷◌, codes}
 use Rattle.dp_app.specs.Listed.{Listed, with_listed}
 use Rattle.dp_app.specs.Rows.{Rows}

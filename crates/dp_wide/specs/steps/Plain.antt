@@ -1,8 +1,8 @@
--- Applications of the wide table that look at their arguments, and ask nothing whatever these are.
+-- Applications of the wide table that look at their arguments, and never ask for anything.
 use Rattle.std.specs.Prelude.{ℕ, Bool, List, [], ◌∷◌, codes}
 use Rattle.dp_wide.specs.Names.{is_word_of}
 
--- their names
+-- the names of these applications
 unfoldable pub plain_names : List (List ℕ)
 plain_names =
     codes "Goto" ∷ codes "GotoIf" ∷ codes "Gosub" ∷ codes "GosubIf" ∷ codes "Return" ∷ codes "Playback" ∷ codes "Background"

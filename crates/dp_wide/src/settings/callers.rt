@@ -13,7 +13,7 @@ pub(super) struct CallerText<'a> {
     pub(super) number: &'a [u8],
 }
 
-/// What stands before a quote, if that is the last byte.
+/// The text before a quote that is the last byte.
 fn before_quote(after: &[u8]) -> Option<&[u8]>
     ensures { option_map (λ front. front.now) result ≡ spec.before_quote after.now }
 {
@@ -25,7 +25,7 @@ fn before_quote(after: &[u8]) -> Option<&[u8]>
     }
 }
 
-/// A text without the quotes at both of its ends.
+/// A text without the quotes at its two ends.
 fn without_quotes(text: &[u8]) -> &[u8]
     ensures { result.now ≡ spec.without_quotes text.now }
 {
@@ -38,7 +38,7 @@ fn without_quotes(text: &[u8]) -> &[u8]
     }
 }
 
-/// A number with no name.
+/// A number without a name.
 fn number_alone(text: &[u8]) -> CallerText<'_>
     ensures { caller_seen result ≡ spec.number_alone text.now }
 {
@@ -48,8 +48,8 @@ fn number_alone(text: &[u8]) -> CallerText<'_>
     }
 }
 
-/// The name and the number that a text has of a caller: the number stands between the first `<` and the last `>` after it. A
-/// text with no such brackets is the number alone (a choice of this program).
+/// The name and the number of the caller that a text names: the number is between the first `<` and the last `>` after it. A text without
+/// such brackets is only the number (a choice of this program).
 #[tactic(auto, unfolding(crate::specs::Settings::caller_of))]
 pub(super) fn caller_of(text: &[u8]) -> CallerText<'_>
     ensures { caller_seen result ≡ spec.caller_of text.now }

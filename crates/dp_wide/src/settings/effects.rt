@@ -1,4 +1,4 @@
-//! What names set.
+//! The effects of setting names.
 ghost use Rattle.std.specs.Prelude.{◌≡◌, ◌≢◌, ℕ, List};
 ghost use Rattle.dp_vars.specs.Functions.{Nothing, target_seen};
 ghost use Rattle.dp_wide.specs.Settings as spec;
@@ -10,20 +10,20 @@ use dp_conf::{cut_once, trim};
 use dp_flow::argument_of;
 use dp_vars::Target;
 
-/// What a name sets.
+/// The effect of setting a name.
 #[derive(Clone, Copy)]
 pub(super) enum Effect<'a> {
     /// One thing.
     OneTarget(Target<'a>),
     /// The name and the number of the caller.
     NameAndNumber,
-    /// The cell of a key of the database, which gets empty.
+    /// The cell of a key of the database, which becomes empty.
     EmptyKey(&'a [u8]),
     /// Each of the names between commas.
     EachName(&'a [u8]),
 }
 
-/// A name without one mark of inheritance at its front.
+/// A name without a leading mark of inheritance.
 fn without_mark(name: &[u8]) -> &[u8]
     ensures { result.now ≡ spec.without_mark name.now }
 {
@@ -33,7 +33,7 @@ fn without_mark(name: &[u8]) -> &[u8]
     }
 }
 
-/// A name that is set, without the blanks at its ends and without two marks of inheritance at most.
+/// A name that is set, without blanks at its ends and without up to two marks of inheritance.
 pub(crate) fn bare_name(name: &[u8]) -> &[u8]
     ensures { result.now ≡ spec.bare_name name.now }
 {
@@ -55,7 +55,7 @@ pub(crate) fn does_more(function: &[u8], argument: &[u8]) -> bool
         || (function == b"CHANNEL".as_slice() && argument == b"hangup_handler_push".as_slice())
 }
 
-/// The cell of a function, by its whole name.
+/// The cell of a function, given its whole name.
 fn cell_target<'a>(name: &'a [u8], function: &[u8]) -> Target<'a>
     ensures { target_seen result ≡ spec.cell_target name.now function.now }
 {
@@ -66,7 +66,7 @@ fn cell_target<'a>(name: &'a [u8], function: &[u8]) -> Target<'a>
     }
 }
 
-/// What `CALLERID` of an argument sets, by the whole name.
+/// What `CALLERID` with an argument sets, given the whole name.
 fn caller_effect<'a>(name: &'a [u8], argument: &[u8]) -> Effect<'a>
     ensures { effect_seen result ≡ spec.caller_effect name.now argument.now }
 {
@@ -79,7 +79,7 @@ fn caller_effect<'a>(name: &'a [u8], argument: &[u8]) -> Effect<'a>
     }
 }
 
-/// What a function of an argument sets, by the whole name.
+/// What a function with an argument sets, given the whole name.
 fn function_effect<'a>(name: &'a [u8], function: &[u8], argument: &'a [u8]) -> Effect<'a>
     ensures { effect_seen result ≡ spec.function_effect name.now function.now argument.now }
 {
@@ -100,7 +100,7 @@ fn function_effect<'a>(name: &'a [u8], function: &[u8], argument: &'a [u8]) -> E
     }
 }
 
-/// The variable of a name; the empty name sets nothing.
+/// The variable with a name; the empty name sets nothing.
 fn variable_target(name: &[u8]) -> Target<'_>
     ensures { target_seen result ≡ spec.variable_target name.now }
 {
@@ -125,11 +125,11 @@ pub(super) fn effect_of(name: &[u8]) -> Effect<'_>
     }
 }
 
-/// What setting this name from outside sets: what `Set` sets by it, where that is one thing, and else nothing.
+/// What setting this name from outside sets: what `Set` sets with it if that is one thing, else nothing.
 ///
-/// Two marks of inheritance in front of the name, each a `_`, have no effect. `GLOBAL(name)` is a global, `LOCAL(name)` a local
-/// of the innermost frame, and `CALLERID(num)` or `CALLERID(number)` the caller's number. Any other `NAME(argument)` is a cell: a
-/// global of the functions whose cells are of all channels, and of the others a variable.
+/// Up to two leading marks of inheritance, each a `_`, have no effect. `GLOBAL(name)` is a global, `LOCAL(name)` a local of the innermost
+/// frame, and `CALLERID(num)` or `CALLERID(number)` the caller's number. Any other `NAME(argument)` is a cell: a global for functions whose
+/// cells belong to all channels, and a variable for the others.
 pub fn setting_target(name: &[u8]) -> Target<'_>
     ensures { target_seen result ≡ spec.wide_target name.now }
 {
@@ -139,7 +139,7 @@ pub fn setting_target(name: &[u8]) -> Target<'_>
     }
 }
 
-/// What setting a name from outside sets is what `Set` sets by that name, wherever it sets something. It does nothing.
+/// If setting a name from outside sets something, that is what `Set` sets with this name. This function does nothing.
 pub fn outside_sets_what_set_sets()
     ensures { (before : Settable) (name value : List ℕ) → spec.wide_target name ≢ Nothing
         → spec.with_value before name value ≡ spec.with_target before (spec.wide_target name) value }

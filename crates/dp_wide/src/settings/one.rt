@@ -14,7 +14,7 @@ use dp_conf::{NoMemory, Text};
 use dp_vars::{Change, Target};
 use std::alloc::Global;
 
-/// Another text in the place of one.
+/// A new text in place of another.
 #[derive(Drop)]
 struct NewText<'a> {
     bytes: &'a [u8],
@@ -29,7 +29,7 @@ impl Change<Text> for NewText<'_> {
     }
 }
 
-/// Sets the name and the number of the caller. After a refused growth the cell is as before.
+/// Sets the name and the number of the caller. If memory runs out the cell is as before.
 fn set_caller(alloc: Global, cell: &mut Cell, caller: CallerText<'_>) -> Result<(), NoMemory>
     ensures ok { OnOk result (cell_now cell.new ≡ with_settable (cell_now cell.old)
         (spec.with_caller (settable_of (cell_now cell.old)) (caller_seen caller.entry))) }
@@ -42,7 +42,7 @@ fn set_caller(alloc: Global, cell: &mut Cell, caller: CallerText<'_>) -> Result<
     cell.store.set_after(alloc, b"CALLERID(name)", caller.name, &number, cell.caller)
 }
 
-/// Sets one thing. After a refused growth the cell is as before.
+/// Sets one thing. If memory runs out the cell is as before.
 fn set_target(
     alloc: Global,
     cell: &mut Cell,
@@ -66,7 +66,7 @@ fn set_target(
     Ok(())
 }
 
-/// Sets a name by what it sets, where each of some names is a plain cell. After a refused growth the cell is as before.
+/// Sets a name, given what it sets, with each of a list of names taken as a plain cell. If memory runs out the cell is as before.
 pub(super) fn set_effect(
     alloc: Global,
     cell: &mut Cell,
@@ -87,7 +87,7 @@ pub(super) fn set_effect(
     }
 }
 
-/// Sets one of some names. After a refused growth the cell is as before.
+/// Sets one of a list of names. If memory runs out the cell is as before.
 pub(super) fn set_one(
     alloc: Global,
     cell: &mut Cell,

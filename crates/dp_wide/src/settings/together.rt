@@ -1,4 +1,4 @@
-//! Settings of which all are made or none.
+//! Settings that are made all together or not at all.
 ghost use Rattle.std.specs.Prelude.{◌≡◌, IfOk, OnErr, OnOk};
 ghost use Rattle.dp_app.specs.Cells.{KeepsLoans, cell_now};
 ghost use Rattle.dp_wide.specs.Settings.{Settable, settable_of, with_settable};
@@ -13,7 +13,7 @@ pub(super) trait Assignments {
     // What can be set after them.
     ghost after: { Self → Settable → Settable };
 
-    /// Makes them. After a refused growth some of them are made.
+    /// Makes them. If memory runs out some of them are made.
     fn run(&self, alloc: Global, cell: &mut Cell) -> Result<(), NoMemory>
         ensures ok { OnOk result (cell_now cell.new ≡ with_settable (cell_now cell.old)
             (after self.now (settable_of (cell_now cell.old)))) }
@@ -21,7 +21,7 @@ pub(super) trait Assignments {
         ensures loans { KeepsLoans cell.old cell.new };
 }
 
-/// What can be set of a cell, as copies of its own.
+/// The settable parts of a cell, as copies.
 #[derive(Drop)]
 struct Copies {
     caller: Text,
@@ -29,7 +29,7 @@ struct Copies {
     globals: Globals,
 }
 
-/// Copies of what can be set.
+/// Copies of the settable parts.
 fn copies_of(caller: &Text, store: &Store<Place>, globals: &Globals) -> Result<Copies, NoMemory>
     ensures { IfOk result (λ copies. copies ≡ record { caller = caller.now; store = store.now; globals = globals.now }) }
 {
@@ -43,7 +43,7 @@ fn copies_of(caller: &Text, store: &Store<Place>, globals: &Globals) -> Result<C
     })
 }
 
-/// Puts copies in the place of what can be set.
+/// Replaces the settable parts with copies.
 fn put_copies(cell: &mut Cell, copies: Copies)
     ensures cell { cell_now cell.new ≡ with_settable (cell_now cell.old)
         (record { caller = copies.caller; store = copies.store; globals = copies.globals }) }
@@ -59,8 +59,8 @@ fn put_copies(cell: &mut Cell, copies: Copies)
     *cell.globals = globals;
 }
 
-/// Makes settings, all of them or none: they are made on copies, which then stand in the place of what was copied. After a
-/// refused growth the cell is as before.
+/// Makes settings, all of them or none: they are made on copies, which then replace the originals. If memory runs out the cell is as
+/// before.
 pub(super) fn set_together<A: Assignments>(
     alloc: Global,
     cell: &mut Cell,
