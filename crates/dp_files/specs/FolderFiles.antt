@@ -88,6 +88,7 @@ abbrev pub FitsKnown : Option KnownText → Option (List ℕ) → Type 0
 FitsKnown None text = Unit {0}
 FitsKnown (Some known) text = Fits known text
 
+-- names are as they are known; those of which nothing is known may be any
 abbrev pub AreKnown : Option (List (List ℕ)) → List (List ℕ) → Type 0
 AreKnown None names = Unit {0}
 AreKnown (Some known) names = names ≡ known
@@ -101,10 +102,12 @@ pub record Agrees (known : Known) (has : Files) : Type 0 where
 abbrev pub MayFit : (Option (List ℕ) → Type 0) → KnownText → Type 0
 MayFit may known = (text : Option (List ℕ)) × Fits known text × may text
 
+-- the same where something is known of the file
 abbrev pub MayFitKnown : (Option (List ℕ) → Type 0) → Option KnownText → Type 0
 MayFitKnown may None = Unit {0}
 MayFitKnown may (Some known) = MayFit may known
 
+-- names that are known are names that may be told
 abbrev pub MayBeKnown : (List (List ℕ) → Type 0) → Option (List (List ℕ)) → Type 0
 MayBeKnown may None = Unit {0}
 MayBeKnown may (Some names) = may names

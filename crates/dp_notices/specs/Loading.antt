@@ -59,6 +59,7 @@ abbrev pub notices_of : Result (List LoadFault) LoadFault → List NumberedNotic
 notices_of (Ok faults) = flat_map fault_notices faults
 notices_of (Err fault) = fault_notices fault
 
+-- the same, given the text
 abbrev pub faults_in_text : List ℕ → List NumberedNotice
 faults_in_text text = notices_of (faults_of text)
 

@@ -38,9 +38,11 @@ pub record Wording : Type 0 where
   pub number : Option ℕ
   pub name : List ℕ
 
+-- of a fault with a number
 abbrev pub numbered : ℕ → List ℕ → Wording
 numbered number name = record { number = Some number; name = name }
 
+-- of a note, or of a fault without a number
 abbrev pub named : List ℕ → Wording
 named name = record { number = None; name = name }
 

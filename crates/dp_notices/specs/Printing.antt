@@ -53,6 +53,7 @@ is_not_found (Line kind) = false
 is_not_found OldForm = false
 is_not_found NoClock = false
 
+-- the same of any fault
 abbrev pub is_missing_fault : NoticeFault → Bool
 is_missing_fault (Reading fault) = is_not_found fault
 is_missing_fault (Name fault) = false

@@ -53,7 +53,7 @@ abbrev pub checked : Result PlanFilesOf ReadingFault → Result CheckOf PbxFault
 checked (Ok plan) = Ok (check_of plan)
 checked (Err fault) = Err (reading_fault fault)
 
--- what a check writes and answers, by what it reports or the fault in its place: all of it or, where a write fails, a front
+-- what a check writes and answers, by what it reports or the fault in its place: all of it or, if a write fails, a prefix
 abbrev pub WritesCheck : Option (List ℕ) → Option (List ℕ) → Result CheckOf PbxFault → Result ℕ PbxFault → Type 0
 WritesCheck old new (Ok check) (Ok status) = Appends old new check.text × (status ≡ check.status)
 WritesCheck old new (Ok check) (Err (Coded code line)) = AppendsFront old new check.text × (code ≡ WriteFailed) × (line ≡ None)
