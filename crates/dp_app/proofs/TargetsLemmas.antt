@@ -1,4 +1,4 @@
--- Texts of more than three parts.
+-- Texts with more than three parts.
 use Rattle.std.proofs.Common.{◌≡◌, ◌<◌, ℕ, Bool, true, false, cond, List, [], ◌∷◌, ◌++◌, ap, length, arith}
 use Rattle.std.proofs.Common.{Option, Some, None, MatchOption, Bor, is_some}
 use Rattle.std.specs.List.{onto_first}
@@ -20,7 +20,7 @@ some_part text = from [] text
         by false [] = omega arith
         by false (part ∷ parts) = omega arith
 
--- a text of which something is left after three parts has more than three
+-- a text with a rest after three parts has more than three
 pub more_than_three : (target first second third rest left : List ℕ) (after : Option (Bor (List ℕ)))
     → parts_of target ≡ first ∷ parts_of rest → parts_of rest ≡ second ∷ parts_of left → is_some after ≡ true
     → MatchOption after (parts_of left ≡ third ∷ []) (λ last. parts_of left ≡ third ∷ parts_of last.now)

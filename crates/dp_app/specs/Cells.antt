@@ -1,4 +1,4 @@
--- What an application sees of a machine and may change, behind the references of a cell.
+-- The parts of a machine that an application sees and may change, behind the references of a cell.
 use Rattle.std.specs.Prelude.{◌≡◌, ℕ, Bool, List}
 use Rattle.dp_queue.specs.Queues.{QueuesOf}
 use Rattle.dp_vars.specs.Stores.{StoreOf}
@@ -16,7 +16,7 @@ pub record CellOf : Type 0 where
   pub globals : Named
   pub queues : QueuesOf
 
--- what stands behind the references of a cell
+-- the values behind the references of a cell
 abbrev pub cell_now : Cell → CellOf
 cell_now cell = record {
   number = cell.number;
@@ -28,7 +28,7 @@ cell_now cell = record {
   queues = cell.queues.now;
 }
 
--- what may be written through the references is still what was lent: none of them refers to anything else
+-- the references that may be written through still refer to what was borrowed, and to nothing else
 pub record KeepsLoans (before after : Cell) : Type 0 where
   pub caller : after.caller.ghost_name ≡ before.caller.ghost_name
   pub store : after.store.ghost_name ≡ before.store.ghost_name

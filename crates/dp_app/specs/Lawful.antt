@@ -17,7 +17,7 @@ use Rattle.dp_app.specs.declared.phase.Phase.TheVariants.{Ready, Digits, Pause, 
 use Rattle.dp_app.specs.declared.place.Place.{Place}
 use Rattle.dp_app.specs.declared.touch.Touch.{Touch}
 
--- where each frame goes back to
+-- the place to which each frame returns
 abbrev pub places_of : StoreOf Place → List Place
 places_of store = map (λ frame. frame.back) store.frames
 
@@ -25,9 +25,9 @@ places_of store = map (λ frame. frame.back) store.frames
 abbrev pub locals_of : StoreOf Place → List Named
 locals_of store = map (λ frame. frame.locals) store.frames
 
--- with the touch on frames these may be any; without it there are as many, which go back to the same places, and their locals
--- change under the touch on variables alone. The channel's own variables change under that touch alone. With neither touch the
--- names keep their numbers and no name is new
+-- with the touch on frames these may be any; without it there are as many, which return to the same places, and their locals change only
+-- with the touch on variables. The channel's own variables change only with that touch. Without both touches the names keep their numbers
+-- and no name is new
 pub record KeepsStore (touch : Touch) (before after : StoreOf Place) : Type 0 where
   pub places : touch.frames ≡ false → places_of after ≡ places_of before
   pub variables : touch.variables ≡ false → after.variables ≡ before.variables
@@ -38,8 +38,8 @@ pub record KeepsStore (touch : Touch) (before after : StoreOf Place) : Type 0 wh
 abbrev pub waiting_lists : QueuesOf → List (List ℕ)
 waiting_lists q = map (λ queue. queue.waiting) q.queues
 
--- the queues, what each agent does and the count of finished calls are as before; without the touch on members these are as
--- before too, and with them the agents that are known, and without the touch on waiting the waiting lists
+-- the queues, the states of agents and the count of finished calls are as before; without the touch on members these are as before too, and
+-- so are the known agents, and without the touch on waiting the waiting lists are as before
 pub record KeepsQueues (touch : Touch) (before after : QueuesOf) : Type 0 where
   pub names : map (λ queue. queue.name) after.queues ≡ map (λ queue. queue.name) before.queues
   pub settings : map (λ queue. queue.settings) after.queues ≡ map (λ queue. queue.settings) before.queues
@@ -61,7 +61,7 @@ pub record KeepsUntouched (touch : Touch) (before after : CellOf) : Type 0 where
   pub store : KeepsStore touch before.store after.store
   pub queues : KeepsQueues touch before.queues after.queues
 
--- a phase in which an application may park a channel, where there are so many queues
+-- a phase in which an application may park a channel, given the number of queues
 abbrev pub MayPark : ℕ → Phase → Type 0
 MayPark count Ready = ⊥
 MayPark count (Digits text is_background) = text ≡ []
@@ -71,21 +71,21 @@ MayPark count (Talking queue agent goes_on) = ⊥
 MayPark count (Dialling goes_on has_timer) = Unit {0}
 MayPark count Ended = ⊥
 
--- the park law: a move parks a channel in such a phase alone
+-- the park law: a move parks a channel only in such a phase
 abbrev pub MayGo : ℕ → Move → Type 0
 MayGo count Next = Unit {0}
 MayGo count (Jump target) = Unit {0}
 MayGo count (Park phase) = MayPark count phase
 MayGo count Hang = Unit {0}
 
--- the first half of the closing law: the move parks the channel nowhere
+-- the first half of the closing law: the move does not park the channel
 abbrev pub ParksNowhere : Move → Type 0
 ParksNowhere Next = Unit {0}
 ParksNowhere (Jump target) = Unit {0}
 ParksNowhere (Park phase) = ⊥
 ParksNowhere Hang = Unit {0}
 
--- the waiting lists after a park of the channel: it stands last in the list of the queue in which it waits
+-- the waiting lists after the channel is parked: it is last in the list of the queue in which it waits
 abbrev pub waiting_parked : List (List ℕ) → ℕ → Phase → List (List ℕ)
 waiting_parked lists number Ready = lists
 waiting_parked lists number (Digits text is_background) = lists
@@ -102,12 +102,12 @@ waiting_after lists number (Jump target) = lists
 waiting_after lists number (Park phase) = waiting_parked lists number phase
 waiting_after lists number Hang = lists
 
--- the row would park the channel in this phase, were it not closing
+-- the row would park the channel in this phase if it were not closing
 abbrev pub WouldPark : Row → List ℕ → CellOf → Phase → Type 0
 WouldPark row arguments cell phase = (row arguments (record cell { is_closing = false })).next ≡ Park phase
 
--- the laws of a row: the touch law, the park law in two halves, and the closing law: with the closing mark the channel is parked
--- nowhere, and where it would be parked without the mark the call ends, with nothing changed
+-- the laws of a row: the touch law, the park law in two halves, and the closing law: with the closing mark the channel is not parked, and
+-- where it would be parked without the mark the call ends, with nothing changed
 pub record IsLawfulRow (touch : Touch) (row : Row) : Type 0 where
   pub keeps : (arguments : List ℕ) (cell : CellOf) → KeepsUntouched touch cell (row arguments cell).cell
   pub parks : (arguments : List ℕ) (cell : CellOf) → MayGo (length cell.queues.queues) (row arguments cell).next
@@ -117,16 +117,16 @@ pub record IsLawfulRow (touch : Touch) (row : Row) : Type 0 where
   pub hangs : (arguments : List ℕ) (cell : CellOf) (phase : Phase) → cell.is_closing ≡ true
       → WouldPark row arguments cell phase → row arguments cell ≡ record { cell = cell; next = Hang }
 
--- the laws of a table: of each row that it has, with the touch of its name
+-- the laws of a table: those of each of its rows, with the touch of its name
 abbrev pub IsLawful : (List ℕ → Touch) → Rows → Type 0
 IsLawful touches rows = (name : List ℕ) (row : Row) → rows name ≡ Some row → IsLawfulRow (touches name) row
 
--- a table is blind to ASCII case: where it has a name, it has each spelling of it with the same row and the same touch
+-- a table does not distinguish ASCII case: for each of its names, every spelling has the same row and the same touch
 pub record IsBlind (touches : List ℕ → Touch) (rows : Rows) : Type 0 where
   pub row : (name spelling : List ℕ) → same_word name spelling ≡ true → rows spelling ≡ rows name
   pub touch : (name spelling : List ℕ) → same_word name spelling ≡ true → touches spelling ≡ touches name
 
--- the channel of a cell may run an application: it stands at a priority of an entry, waits in no queue and talks with no agent
+-- the channel of a cell may run an application: it is at a priority of an entry, does not wait in a queue and does not talk with an agent
 pub record MayRun (cell : CellOf) : Type 0 where
   pub within : cell.place.priority ≤ most_priority
   pub waits_nowhere : waits_in cell.queues.queues cell.number ≡ None

@@ -9,7 +9,7 @@ use Rattle.dp_app.specs.Lawful.{IsBlind, IsLawful, IsLawfulRow}
 use Rattle.dp_app.specs.Rows.{Meanings, Row, Rows, with_standard_functions}
 use Rattle.dp_app.specs.declared.touch.Touch.{Touch}
 
--- the table with no name
+-- the table without names
 abbrev pub no_rows : Rows
 no_rows name = None
 
@@ -21,7 +21,7 @@ no_meanings = with_standard_functions no_rows
 abbrev pub no_touch : List ℕ → Touch
 no_touch name = record { variables = false; frames = false; globals = false; caller = false; members = false; waiting = false }
 
--- a table with one more application, by its name in any ASCII case
+-- a table with one more application, found by its name in any ASCII case
 abbrev pub with_row : List ℕ → Row → Rows → Rows
 with_row title meaning rows name = if same_word name title then Some meaning else rows name
 
@@ -29,11 +29,11 @@ with_row title meaning rows name = if same_word name title then Some meaning els
 abbrev pub with_touch : List ℕ → Touch → (List ℕ → Touch) → List ℕ → Touch
 with_touch title touch touches name = if same_word name title then touch else touches name
 
--- the table with no name is lawful
+-- the table without names is lawful
 pub no_rows_lawful : IsLawful no_touch no_rows
 no_rows_lawful name row h = absurd (none-some row h)
 
--- a lawful row is the row that is told, with its touch
+-- a row is lawful with its touch, whichever of two lawful ones it is
 lawful_by : (b : Bool) (touch : Touch) (meaning : Row) (touches : Touch) (rows : Option Row) (row : Row) → IsLawfulRow touch meaning →
     ((r : Row) → rows ≡ Some r → IsLawfulRow touches r) → (if b then Some meaning else rows) ≡ Some row → IsLawfulRow (if b then touch else touches) row
 lawful_by true touch meaning touches rows row lawful_row lawful h = subst (λ r. IsLawfulRow touch r) (same_Some meaning row h) lawful_row
@@ -45,20 +45,20 @@ pub with_row_lawful : (title : List ℕ) (touch : Touch) (meaning : Row) (touche
 with_row_lawful title touch meaning touches rows lawful_row lawful name row h =
     lawful_by (same_word name title) touch meaning (touches name) (rows name) row lawful_row (lawful name) h
 
--- the table with no name is blind
+-- the table without names does not distinguish case
 pub no_rows_blind : IsBlind no_touch no_rows
 no_rows_blind = record {
   row = λ name spelling same. refl;
   touch = λ name spelling same. refl;
 }
 
--- two spellings of a word are one spelling in lower case, and so each of them is the same word as a third where the other is
+-- two spellings of a word are the same in lower case, and so one of them equals a third word exactly if the other does
 spelled_same : (name spelling title : List ℕ) → same_word name spelling ≡ true → same_word spelling title ≡ same_word name title
 spelled_same name spelling title same =
     ap (λ lower. pointwise nat_eq lower (map to_ascii_lowercase title))
     (sym ((bytes_decides (map to_ascii_lowercase name) (map to_ascii_lowercase spelling)).0 same))
 
--- a blind table with one more application is blind
+-- one more application keeps a table from distinguishing case
 pub with_row_blind : (title : List ℕ) (touch : Touch) (meaning : Row) (touches : List ℕ → Touch) (rows : Rows) →
     IsBlind touches rows → IsBlind (with_touch title touch touches) (with_row title meaning rows)
 with_row_blind title touch meaning touches rows blind = record {

@@ -1,3 +1,3 @@
--- Proofs of what the ghost members of applications and tables say, which stand here since these members name them.
+-- Proofs of the ghost members of applications and tables, which are here because these members name them.
 pub mod Keeping
 pub mod StoreKept

@@ -1,3 +1,3 @@
--- What private functions say of their steps. No public clause rests on it.
+-- The steps of private functions. No public clause depends on them.
 pub mod Extensions
 pub mod Targets

@@ -14,32 +14,32 @@ use dp_conf::NoMemory;
 use dp_vars::Functions;
 use std::alloc::Global;
 
-/// An application of a dialplan, after the Asterisk documentation's application reference: what it does to the channel
-/// that runs it, and where it sends it.
+/// An application of a dialplan, after the Asterisk documentation's application reference: its effect on the channel
+/// that runs it, and where it sends the channel.
 ///
-/// Its row has to keep the laws of rows: it changes no part of the cell but those that `TOUCH` names, parks a channel only
-/// in a phase that an application may choose, and never while the channel is closing: where it would park such a channel, the
+/// Its row must keep the laws of rows: it changes only the parts of the cell that `TOUCH` names, it parks a channel
+/// only in a phase that an application may choose, and it never parks a closing channel: where it would park one, the
 /// call ends instead, with nothing changed.
 pub trait Application {
-    // What the application makes of its arguments and of a cell.
+    // The outcome, given its arguments and a cell.
     ghost meaning: { Row };
 
-    // Its name as it is printed.
+    // Its printed name.
     ghost title: { List ℕ };
 
-    // Which parts of a cell it may change.
+    // The parts of a cell that it may change.
     ghost TOUCH: { touches.Touch };
 
     ghost lawful: { IsLawfulRow TOUCH meaning };
 
-    /// Which parts of a cell it may change.
+    /// The parts of a cell that it may change.
     const TOUCH: Touch;
 
     /// The application's name. Names are compared without regard to ASCII case.
     fn name() -> &'static [u8]
         ensures { result.now ≡ title };
 
-    /// Runs the application on its expanded arguments. After a refused growth the cell is as before.
+    /// Runs the application with its expanded arguments. If memory runs out the cell is as before.
     fn apply(alloc: Global, arguments: &[u8], cell: &mut Cell) -> Result<Move, NoMemory>
         requires { MayRun (cell_now cell.old) }
         ensures ok { IfOk result (λ going. meaning arguments.now (cell_now cell.old) ≡ record { cell = cell_now cell.new; next = going }) }
@@ -47,28 +47,29 @@ pub trait Application {
         ensures loans { KeepsLoans cell.old cell.new };
 }
 
-/// A table of applications, each of which keeps the laws of rows. It knows no case: each spelling of a name that it has, in
-/// ASCII letters of either case, has the same row and the same touch.
+/// A table of applications, each of which keeps the laws of rows. It does not distinguish case: each spelling of a
+/// name, in ASCII letters of either case, has the same row and the same touch.
 pub trait AppTable {
-    // The row of each name that the table has.
+    // The row of each name in the table.
     ghost rows: { Rows };
 
-    // Which parts of a cell the application of a name may change.
+    // The parts of a cell that the application with a name may change.
     ghost touches: { List ℕ → touches.Touch };
 
     ghost lawful: { IsLawful touches rows };
 
     ghost blind: { IsBlind touches rows };
 
-    /// The functions of the texts that are expanded for the table's applications.
+    /// The functions in the texts that are expanded for the table's applications.
     type Functions: Functions;
 
-    /// The number of the application of this name, by which `run_by_number` finds it; None where the table lacks the name.
+    /// The number of the application with this name, with which `run_by_number` finds it, or None if the table lacks
+    /// the name.
     fn number_of(name: &[u8]) -> Option<AppNumber>
         ensures { is_some result ≡ has_row rows name.now };
 
-    /// Runs the application of this name on its expanded arguments, or gives None where the table lacks the name. After a
-    /// refused growth the cell is as before.
+    /// Runs the application with this name and these expanded arguments, or gives None if the table lacks the name. If
+    /// memory runs out the cell is as before.
     fn dispatch(
         alloc: Global,
         name: &[u8],
@@ -80,7 +81,7 @@ pub trait AppTable {
         ensures err { OnErr result (cell_now cell.new ≡ cell_now cell.old) }
         ensures loans { KeepsLoans cell.old cell.new };
 
-    /// The same as `dispatch`, which looks first where the number says.
+    /// The same as `dispatch`, but looks first at the place of the number.
     fn run_by_number(
         alloc: Global,
         _number: AppNumber,
@@ -99,11 +100,11 @@ pub trait AppTable {
 
 /// Applications in an order.
 pub trait AppList {
-    // The name and the row of each.
+    // The name and the row of each application.
     ghost listed: { List Listed };
 
-    /// Runs the application before which so many stand, if it has this name; else nothing is run. After a refused growth the cell
-    /// is as before.
+    /// Runs the application at this place of the list, which is the number of applications before it, if it has this
+    /// name; otherwise nothing is run. If memory runs out the cell is as before.
     fn run_at(
         alloc: Global,
         place: u16,

@@ -10,16 +10,16 @@ use dp_conf::{NoMemory, Text};
 use std::marker::Model;
 use std::{fmt, slice};
 
-/// How the bytes of an extension are held.
+/// The form in which the bytes of an extension are kept.
 #[derive(Drop)]
 pub(crate) enum HeldExten {
     Text(Text),
     Byte(u8),
 }
 
-/// An extension. One of a single byte is not allocated, as `i`, `t` and `h`, to which a channel goes by itself, and one digit.
+/// An extension. One of a single byte is not allocated, such as `i`, `t` and `h`, to which a channel goes by itself, or a single digit.
 ///
-/// A contract sees it as its bytes. Two extensions are equal where their bytes are.
+/// A contract sees it as its bytes. Two extensions are equal if their bytes are equal.
 pub struct Exten {
     held: HeldExten,
 }
@@ -41,7 +41,7 @@ impl Model for Exten {
 }
 
 impl Exten {
-    /// The extension of a text. It never allocates, and gives that of a single byte back.
+    /// The extension with a text. It never allocates, and frees the text of a single byte.
     pub fn new(text: Text) -> Self
         ensures { result ≡ text }
     {
@@ -53,7 +53,7 @@ impl Exten {
         }
     }
 
-    /// The extension of one byte. It never allocates.
+    /// The extension with one byte. It never allocates.
     pub fn of_byte(byte: u8) -> Self
         ensures { result ≡ byte ∷ [] }
     {

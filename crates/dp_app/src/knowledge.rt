@@ -8,19 +8,19 @@ use dp_conf::NoMemory;
 use dp_vars::{Counts, Scope};
 use std::alloc::Global;
 
-/// A table that says what it does not know of what its applications would do.
+/// A table that reports what it does not know of what its applications would do.
 pub trait KnownTable: AppTable {
-    // What it knows.
+    // What the table knows.
     ghost knowledge: { Knowledge };
 
-    /// Whether the application of this name looks at its arguments. One that does not does the same whatever they are.
+    /// Whether the application with this name depends on its arguments. One that does not has the same effect with any arguments.
     fn looks_at_arguments(name: &[u8]) -> bool
         ensures { result ≡ knowledge.looks name.now };
 
-    /// What the application of this name asks, with these expanded arguments and in what a channel sees, that is not known: the name
-    /// of an application that it would run, or of a value that nothing has set. It is empty where all is known.
+    /// What the application with this name would need, with these expanded arguments and for what a channel sees, that is not known: the
+    /// name of an application that it would run, or of a value that nothing has set. It is empty if everything is known.
     ///
-    /// The error comes only where a growth was refused.
+    /// It fails only if memory runs out.
     fn asked<B, C: Counts>(
         alloc: Global,
         scope: &Scope<'_, B, C>,

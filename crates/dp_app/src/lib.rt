@@ -1,5 +1,5 @@
-//! What an application of a dialplan is, after the Asterisk documentation's application reference: a row from its
-//! arguments and a cell to the cell after it and to where the channel goes, under laws that every table keeps.
+//! The meaning of an application of a dialplan, after the Asterisk documentation's application reference: a row, which
+//! gives for its arguments and a cell the cell after it and where the channel goes, under laws that every table keeps.
 #![tactic(auto)]
 
 mod application;

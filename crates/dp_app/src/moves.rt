@@ -10,7 +10,7 @@ pub enum Move {
     Next,
     /// To this target.
     Jump(Target),
-    /// It waits here for what the phase says.
+    /// The channel waits here for what the phase says.
     Park(Phase),
     /// Nowhere: the call ends.
     Hang,

@@ -1,8 +1,8 @@
 //! The number of an application in a table.
 ghost use Rattle.std.specs.Prelude.{◌≡◌, ◌+◌, ◌-◌, ◌^◌, min};
 
-/// Where a table looks first for an application: how many stand before it. No answer depends on it: a number of another name, or of
-/// another table, costs a walk over the names.
+/// The place where a table looks first for an application: the number of applications before it. No result depends on it: with the number
+/// of another name, or of another table, the names are searched one by one.
 #[derive(Clone, Copy, Debug, PartialEq, Eq)]
 pub struct AppNumber {
     pub place: u16,
@@ -16,7 +16,7 @@ impl AppNumber {
         AppNumber { place: 0 }
     }
 
-    /// The number after this one. The greatest number stands for all that come after it, too.
+    /// The number after this one, or the same number if it is the greatest.
     pub fn after(self) -> Self
         ensures { result.place ≡ min (self.place + 1) (2 ^ 16 - 1) }
     {

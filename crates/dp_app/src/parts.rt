@@ -1,10 +1,10 @@
-//! What applications read of the parts of their arguments, after the Asterisk documentation's application reference.
+//! Reading the parts of applications' arguments, after the Asterisk documentation's application reference.
 ghost use Rattle.std.specs.Prelude.{◌≡◌, map};
 ghost use Rattle.dp_app.specs.Parts as spec;
 
 use dp_conf::cut_outside;
 
-/// The part of a number, from 0; the empty text where there are not so many.
+/// The part with a number, counted from 0, or the empty text if there are not that many.
 pub fn part<'a>(parts: &[&'a [u8]], number: usize) -> &'a [u8]
     ensures { result.now ≡ spec.part number (map (λ part. part.now) parts.now) }
 {
@@ -14,7 +14,7 @@ pub fn part<'a>(parts: &[&'a [u8]], number: usize) -> &'a [u8]
     }
 }
 
-/// Whether the options have this one, a letter: it stands outside parentheses.
+/// Whether the options contain this letter outside parentheses.
 pub fn has_option(options: &[u8], option: u8) -> bool
     ensures { result ≡ spec.has_option option options.now }
 {

@@ -6,28 +6,28 @@ use dp_conf::Text;
 pub enum Phase {
     /// The next step.
     Ready,
-    /// Digits, of which these came. A time-out goes on at the next priority where `Background` asked for them.
+    /// Digits, of which these have come. After a time-out the channel goes on at the next priority if `Background` waits for the digits.
     Digits {
         text: Text,
         is_background: bool,
     },
     /// A time-out.
     Pause,
-    /// An agent of the queue of this number.
+    /// An agent of the queue with this number.
     Queued {
         queue: usize,
         /// Whether the channel goes on at the next priority when the agent is done.
         goes_on: bool,
-        /// Whether a time-out takes it out of the queue.
+        /// Whether a time-out removes it from the queue.
         has_timer: bool,
     },
-    /// The end of a talk with the agent of this number.
+    /// The end of a talk with the agent with this number.
     Talking {
         queue: usize,
         agent: usize,
         goes_on: bool,
     },
-    /// What comes of a call to devices.
+    /// The result of a call to devices.
     Dialling {
         /// Whether the channel goes on at the next priority when the far side has answered and hung up.
         goes_on: bool,

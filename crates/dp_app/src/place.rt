@@ -1,11 +1,11 @@
-//! Where a channel stands, after the Asterisk documentation's page on dialplans.
+//! The place of a channel, after the Asterisk documentation's page on dialplans.
 ghost use Rattle.std.specs.Prelude.{◌≡◌, IfOk};
 
 use crate::exten::Exten;
 use dp_conf::{NoMemory, Text};
 
-/// Where a channel stands: a context, an extension as it was dialled, and a priority. The priority may be one above the
-/// greatest of an entry, where no entry can be.
+/// The place of a channel: a context, an extension as dialled, and a priority. The priority may be one above the
+/// greatest priority of an entry, where no entry can be.
 #[derive(Debug, PartialEq, Eq, Drop)]
 pub struct Place {
     pub context: Text,

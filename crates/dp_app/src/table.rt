@@ -15,10 +15,10 @@ use dp_vars::StandardFunctions;
 use std::alloc::Global;
 use std::marker::PhantomData;
 
-/// The table that has no application.
+/// The table without applications.
 pub struct NoApps;
 
-/// A table with one application more, whose name comes before the same name of the other table.
+/// A table with one more application, whose name comes before the same name in the other table.
 pub struct With<A, T> {
     types: PhantomData<(A, T)>,
 }
@@ -30,7 +30,7 @@ fn is_name_of<A: Application>(name: &[u8]) -> bool
     same_word(name, A::name())
 }
 
-/// Runs the application, if it has this name; else nothing is run. It is apart from the walk over a list, so that a level of the
+/// Runs the application, if it has this name; otherwise nothing is run. It is separate from the walk over a list, so that a level of the
 /// walk has no values of its own.
 fn run_if_named<A: Application>(
     alloc: Global,

@@ -8,20 +8,20 @@ use smallvec::SmallVec;
 use std::alloc::Global;
 use std::marker::Model;
 
-/// How the parts of a target are kept.
+/// The form in which the parts of a target are kept.
 #[derive(Drop)]
 pub(crate) enum KeptParts {
-    /// The parts before the last one, and the last one, which is not allocated where it has few bytes.
+    /// The parts before the last one, and the last one, which is not allocated if it is short.
     Apart {
         front: Vec<Text>,
         last: SmallVec<u8, 16>,
     },
-    /// A text of more than three parts, which names no place, as it is.
+    /// The whole text of more than three parts, which names no place.
     Whole(Text),
 }
 
-/// The parts of a target in the order of its text, which a contract sees as the list of them: `[[context,]extension,]priority`.
-/// There is at least the last one. Of more than three there is the text alone, however many they are.
+/// The parts of a target, in the order of its text: `[[context,]extension,]priority`. A contract sees it as their list.
+/// There is always the last one. If there are more than three, only the text is kept, however many they are.
 #[derive(Drop)]
 pub struct TargetParts {
     kept: KeptParts,
@@ -38,7 +38,7 @@ impl Model for TargetParts {
     ghost invariant = { λ parts. AreMany parts.kept };
 }
 
-/// Texts of their own.
+/// Owned copies of the texts.
 fn copies_of(alloc: Global, parts: &[&[u8]]) -> Result<Vec<Text>, NoMemory>
     ensures { IfOk result (λ texts. texts.items ≡ map (λ part. part.now) parts.now) }
 {
@@ -51,7 +51,8 @@ fn copies_of(alloc: Global, parts: &[&[u8]]) -> Result<Vec<Text>, NoMemory>
 }
 
 impl TargetParts {
-    /// The parts of a target's text, which its commas outside parentheses part, each without the blanks at its ends.
+    /// The parts of a target's text, which are separated by commas outside parentheses, each without blanks at either
+    /// end. It fails only if memory runs out.
     pub fn of(alloc: Global, target: &[u8]) -> Result<Self, NoMemory>
         ensures { IfOk result (λ parts. parts ≡ arguments_of target.now) }
     {
@@ -70,7 +71,7 @@ impl TargetParts {
         TargetParts::with_last(alloc, &[trim(first), trim(second)], trim(third))
     }
 
-    /// The parts of a text that has more than three.
+    /// The parts of a text with more than three.
     fn whole(alloc: Global, target: &[u8]) -> Result<Self, NoMemory>
         requires { 3 < length (arguments_of target.now) }
         ensures { IfOk result (λ parts. parts ≡ arguments_of target.now) }
@@ -81,7 +82,7 @@ impl TargetParts {
         })
     }
 
-    /// These parts and one more after them, as texts of their own.
+    /// Copies of these parts, with one more at the end. It fails only if memory runs out.
     #[inline(always)]
     pub fn with_last(alloc: Global, front: &[&[u8]], last: &[u8]) -> Result<Self, NoMemory>
         ensures { IfOk result (λ made. made ≡ map (λ part. part.now) front.now ++ last.now ∷ []) }
@@ -93,7 +94,7 @@ impl TargetParts {
         })
     }
 
-    /// The parts before the last one in their order, and the last one; None where there are more than three parts.
+    /// The parts before the last one, in order, and the last one; None if there are more than three parts.
     pub fn apart(&self) -> Option<(&[Text], &[u8])>
         ensures { MatchOption result (3 < length self.now)
             (λ parts. (self.now ≡ parts.0.now ++ parts.1.now ∷ []) × (length parts.0.now ≤ 2)) }
@@ -104,8 +105,7 @@ impl TargetParts {
         }
     }
 
-    /// The texts before the last one themselves, in their order; None only where there are more than three parts. It
-    /// never allocates.
+    /// The owned texts before the last one, in order; None only if there are more than three parts. It never allocates.
     pub fn into_front(self) -> Option<Vec<Text>>
         ensures { MatchOption result (3 < length self) (λ front. (last : List ℕ) × (self ≡ front.items ++ last ∷ [])) }
     {
@@ -121,7 +121,7 @@ impl TargetParts {
 pub enum Target {
     /// This place.
     To(Place),
-    /// The place that the parts name, if an entry is found there; else the call ends.
+    /// The place that the parts name, if an entry is found there; otherwise the call ends.
     Existing(TargetParts),
     /// The place that the parts name.
     Parts(TargetParts),

@@ -16,9 +16,10 @@ use indexmap::IndexSet;
 use std::alloc::Global;
 use std::marker::Model;
 
-/// A dialplan with its finder. A contract sees it as the dialplan.
+/// A dialplan with its finder, and the allocator that the finder came from. A contract sees it as the dialplan.
 #[derive(Drop)]
 pub(crate) struct PlanFinder<'a> {
+    alloc: Global,
     plan: &'a Dialplan,
     finder: Finder,
 }
@@ -40,7 +41,16 @@ impl<'a> PlanFinder<'a> {
         ensures { IfOk result (λ held. held ≡ plan.now) }
     {
         let finder = Finder::build(alloc, plan)?;
-        Ok(PlanFinder { plan, finder })
+        Ok(PlanFinder {
+            alloc,
+            plan,
+            finder,
+        })
+    }
+
+    /// The allocator.
+    pub(crate) fn alloc(&self) -> Global {
+        self.alloc
     }
 
     /// The dialplan.
@@ -61,16 +71,12 @@ impl<'a> PlanFinder<'a> {
     }
 
     /// The names that have priority 1 in a context in the search order of this one.
-    pub(crate) fn firsts(
-        &mut self,
-        alloc: Global,
-        context: &Text,
-    ) -> Result<IndexSet<Spelling>, NoMemory>
+    pub(crate) fn firsts(&mut self, context: &Text) -> Result<IndexSet<Spelling>, NoMemory>
         ensures firsts { IfOk result (λ names. Adds (some_first self.old (search_order self.old context.now)) [] names.keys) }
         ensures same { self.new ≡ self.old }
     {
         self.finder.turn_to(self.plan, context);
-        firsts_of(alloc, self.plan, self.finder.order())
+        firsts_of(self.alloc, self.plan, self.finder.order())
     }
 
     /// The entry that is found for the extension of the context at the priority.

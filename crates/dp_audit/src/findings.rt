@@ -2,11 +2,8 @@
 ghost use Rattle.std.specs.Prelude.{◌≡◌, ◌<◌, ◌++◌, Some, IfOk, OnOk};
 ghost use Rattle.std.specs.List.{flat_map, range_with_len};
 ghost use Rattle.dp_audit.specs.Findings as spec;
-ghost use Rattle.dp_audit.specs.steps.Hiding.{AreHidden};
-ghost use Rattle.dp_audit.specs.Labels.{IsNaming};
 ghost use Rattle.dp_audit.specs.Orders.{order_at};
 ghost use Rattle.dp_audit.specs.steps.Scene.{IsKnown, IsScene};
-ghost use Rattle.dp_audit.specs.Unset.{AreSet};
 ghost use Rattle.dp_lookup.specs.SearchOrder.{context_count, search_order};
 ghost use Rattle.dp_plan.specs.Lookup.{entry_at};
 
@@ -18,19 +15,11 @@ use crate::labels::Naming;
 use crate::names::Names;
 use crate::neighbours::{entries_at, greater_marks, lower_marks};
 use crate::order::name_at;
-use crate::scene::Scene;
+use crate::scene::{Known, Scene};
 use crate::target::push_missing;
 use crate::unset::{SetNames, push_unset};
 use dp_plan::{Dialplan, Entry, EntryId, NoMemory, Text};
 use std::alloc::Global;
-
-/// What may name the labels of a dialplan, what the dialplan sets and what it hides.
-#[derive(Clone, Copy)]
-struct Known<'a> {
-    naming: &'a Naming,
-    set: &'a SetNames,
-    hidden: &'a Hidings,
-}
 
 /// Adds the finding, if the condition holds.
 fn push_if(findings: &mut Vec<Finding>, is_one: bool, finding: Finding) -> Result<(), NoMemory>
@@ -66,19 +55,18 @@ fn push_of_priorities(
 /// Adds the findings on the texts of the entry: those on its targets come before those on its priorities.
 fn push_of_texts<N: Names>(
     findings: &mut Vec<Finding>,
-    alloc: Global,
     finder: &PlanFinder<'_>,
     scene: &Scene<'_>,
     id: EntryId,
     entry: &Entry,
 ) -> Result<(), NoMemory>
     requires scene { IsScene finder.now id.context scene.now }
-    requires naming { IsNaming N.known finder.now scene.now.naming.now }
+    requires known { IsKnown N.known finder.now scene.now.known }
     ensures { OnOk result (findings.new.items
         ≡ findings.old.items ++ spec.of_texts N.known finder.now id entry.now) }
 {
-    push_unset(findings, alloc, scene.set, id, entry)?;
-    let is_unused = scene.naming.is_unused(alloc, entry)?;
+    push_unset(findings, finder.alloc(), scene.known.set, id, entry)?;
+    let is_unused = scene.known.naming.is_unused(finder.alloc(), entry)?;
     push_if(findings, is_unused, Finding::Unused { entry: id })?;
     Ok(())
 }
@@ -87,7 +75,6 @@ fn push_of_texts<N: Names>(
 #[tactic(auto, using(crate::proofs::FindingsLemmas::five))]
 fn push_of<N: Names>(
     findings: &mut Vec<Finding>,
-    alloc: Global,
     finder: &mut PlanFinder<'_>,
     scene: &Scene<'_>,
     id: EntryId,
@@ -95,36 +82,35 @@ fn push_of<N: Names>(
 ) -> Result<(), NoMemory>
     requires scene { IsScene finder.old id.context scene.now }
     requires there { entry_at finder.old id ≡ Some entry.now }
-    requires naming { IsNaming N.known finder.old scene.now.naming.now }
+    requires known { IsKnown N.known finder.old scene.now.known }
     ensures found { OnOk result (findings.new.items
         ≡ findings.old.items ++ spec.of_entry N.known finder.old id entry.now) }
     ensures same { finder.new ≡ finder.old }
 {
     let is_unknown = !N::has_application(entry.application.bytes());
     push_if(findings, is_unknown, Finding::NoApplication { entry: id })?;
-    push_missing(findings, alloc, finder, scene.context, id, entry)?;
+    push_missing(findings, finder, scene.context, id, entry)?;
     push_of_priorities(findings, finder, scene, id, entry)?;
-    push_hidden(findings, scene.hidden, id)?;
-    push_of_texts::<N>(findings, alloc, finder, scene, id, entry)?;
+    push_hidden(findings, scene.known.hidden, id)?;
+    push_of_texts::<N>(findings, finder, scene, id, entry)?;
     Ok(())
 }
 
 /// Adds the findings on the entry with these numbers.
 fn push_of_entry<N: Names>(
     findings: &mut Vec<Finding>,
-    alloc: Global,
     finder: &mut PlanFinder<'_>,
     scene: &Scene<'_>,
     id: EntryId,
 ) -> Result<(), NoMemory>
     requires scene { IsScene finder.old id.context scene.now }
-    requires naming { IsNaming N.known finder.old scene.now.naming.now }
+    requires known { IsKnown N.known finder.old scene.now.known }
     ensures found { OnOk result (findings.new.items
         ≡ findings.old.items ++ spec.findings_of_entry N.known finder.old id) }
     ensures same { finder.new ≡ finder.old }
 {
     match finder.plan().entry(id) {
-        Some(entry) => push_of::<N>(findings, alloc, finder, scene, id, entry),
+        Some(entry) => push_of::<N>(findings, finder, scene, id, entry),
         None => Ok(()),
     }
 }
@@ -133,13 +119,12 @@ fn push_of_entry<N: Names>(
 #[tactic(auto, using(crate::proofs::FindingsLemmas::entries_more))]
 fn push_of_entries<N: Names>(
     findings: &mut Vec<Finding>,
-    alloc: Global,
     finder: &mut PlanFinder<'_>,
     scene: &Scene<'_>,
     number: usize,
 ) -> Result<(), NoMemory>
     requires scene { IsScene finder.old number scene.now }
-    requires naming { IsNaming N.known finder.old scene.now.naming.now }
+    requires known { IsKnown N.known finder.old scene.now.known }
     ensures found { OnOk result (findings.new.items
         ≡ findings.old.items ++ spec.findings_of_entries N.known finder.old number) }
     ensures same { finder.new ≡ finder.old }
@@ -149,14 +134,13 @@ fn push_of_entries<N: Names>(
             context: number,
             entry,
         };
-        push_of_entry::<N>(findings, alloc, finder, scene, id)?;
+        push_of_entry::<N>(findings, finder, scene, id)?;
     }
     Ok(())
 }
 
 /// Adds the findings on the entries of the context with the name and number.
 fn push_of_named<N: Names>(
-    alloc: Global,
     findings: &mut Vec<Finding>,
     finder: &mut PlanFinder<'_>,
     known: Known<'_>,
@@ -171,25 +155,22 @@ fn push_of_named<N: Names>(
     ensures same { finder.new ≡ finder.old }
 {
     let plan = finder.plan();
-    let greater = greater_marks(alloc, plan, number)?;
-    let lower = lower_marks(alloc, plan, number)?;
-    let firsts = finder.firsts(alloc, context)?;
+    let greater = greater_marks(finder.alloc(), plan, number)?;
+    let lower = lower_marks(finder.alloc(), plan, number)?;
+    let firsts = finder.firsts(context)?;
     let scene = Scene {
         greater: &greater,
         lower: &lower,
         firsts: &firsts,
         context,
-        naming: known.naming,
-        set: known.set,
-        hidden: known.hidden,
+        known,
     };
-    push_of_entries::<N>(findings, alloc, finder, &scene, number)?;
+    push_of_entries::<N>(findings, finder, &scene, number)?;
     Ok(())
 }
 
 /// Adds the findings on the context with the number and on its entries.
 fn push_of_context<N: Names>(
-    alloc: Global,
     findings: &mut Vec<Finding>,
     finder: &mut PlanFinder<'_>,
     known: Known<'_>,
@@ -204,13 +185,12 @@ fn push_of_context<N: Names>(
     let context = name_at(finder.plan(), number);
     let is_cycle = finder.is_included(context, number);
     push_if(findings, is_cycle, Finding::Cycle { context: number })?;
-    push_of_named::<N>(alloc, findings, finder, known, context, number)?;
+    push_of_named::<N>(findings, finder, known, context, number)?;
     Ok(())
 }
 
 /// The findings on the contexts, in the order of the file.
 fn findings_of<N: Names>(
-    alloc: Global,
     finder: &mut PlanFinder<'_>,
     known: Known<'_>,
 ) -> Result<Vec<Finding>, NoMemory>
@@ -218,34 +198,10 @@ fn findings_of<N: Names>(
     ensures { IfOk result (λ findings. findings.items
         ≡ flat_map (spec.findings_of_context N.known finder.old) (range_with_len 0 (context_count finder.old))) }
 {
-    let mut findings = Vec::new(alloc);
+    let mut findings = Vec::new(finder.alloc());
     for number in 0..finder.plan().contexts().len() {
-        push_of_context::<N>(alloc, &mut findings, finder, known, number)?;
+        push_of_context::<N>(&mut findings, finder, known, number)?;
     }
-    Ok(findings)
-}
-
-/// The findings on the dialplan, given what may name its labels, what it sets and what it hides.
-#[tactic(auto, unfolding(crate::specs::Findings::findings_of))]
-fn findings_by<N: Names>(
-    alloc: Global,
-    plan: &Dialplan,
-    naming: &Naming,
-    set: &SetNames,
-    hidden: &Hidings,
-) -> Result<Vec<Finding>, NoMemory>
-    requires naming { IsNaming N.known plan.now naming.now }
-    requires set { AreSet plan.now set.now }
-    requires hidden { AreHidden plan.now hidden.now }
-    ensures { IfOk result (λ findings. findings.items ≡ spec.findings_of N.known plan.now) }
-{
-    let mut finder = PlanFinder::new(alloc, plan)?;
-    let known = Known {
-        naming,
-        set,
-        hidden,
-    };
-    let findings = findings_of::<N>(alloc, &mut finder, known)?;
     Ok(findings)
 }
 
@@ -255,11 +211,19 @@ fn findings_by<N: Names>(
 /// name its label: no target, and no piece of the arguments of an application that the table lacks.
 ///
 /// The cost is linear in the dialplan and its search orders, apart from look-ups in tries. It fails only if memory runs out.
+#[tactic(auto, unfolding(crate::specs::Findings::findings_of))]
 pub fn audit<N: Names>(alloc: Global, plan: &Dialplan) -> Result<Vec<Finding>, NoMemory>
     ensures { IfOk result (λ findings. findings.items ≡ spec.findings_of N.known plan.now) }
 {
     let naming = Naming::of::<N>(alloc, plan)?;
     let set = SetNames::of(alloc, plan)?;
     let hidden = Hidings::of(alloc, plan)?;
-    findings_by::<N>(alloc, plan, &naming, &set, &hidden)
+    let mut finder = PlanFinder::new(alloc, plan)?;
+    let known = Known {
+        naming: &naming,
+        set: &set,
+        hidden: &hidden,
+    };
+    let findings = findings_of::<N>(&mut finder, known)?;
+    Ok(findings)
 }

@@ -1,11 +1,10 @@
 //! Entries that others hide: they never answer from a context that includes their own, because an entry with the same place comes before
 //! them.
 ghost use Rattle.std.specs.Prelude.{◌≡◌, ◌≢◌, ◌≤◌, ◌++◌, ℕ, List, [], All, IsTrue, map, replicate, slice_get, unwrap_or, Some, IfOk, OnOk};
-ghost use Rattle.std.specs.List.{list_any};
 ghost use Rattle.dp_conf.specs.Changes.{changed_at};
 ghost use Rattle.dp_audit.specs.Hidden.{hidden_from, is_hidden};
 ghost use Rattle.dp_audit.specs.steps.Hiding as spec;
-ghost use Rattle.dp_lookup.specs.FoundEntry.{entries_at, found_entry};
+ghost use Rattle.dp_lookup.specs.FoundEntry.{found_entry};
 ghost use Rattle.dp_lookup.specs.SearchOrder.{context_count};
 ghost use Rattle.dp_audit.specs.Orders.{order_at};
 ghost use Rattle.dp_plan.specs.Contexts.{AreNamed};
@@ -181,25 +180,6 @@ impl Hidings {
         Ok(())
     }
 
-    /// Adds the places of a context's entries, and checks the entries of the context that comes after it.
-    fn ask_next(
-        &mut self,
-        plan: &Dialplan,
-        places: &mut IndexSet<EntryPlace>,
-        before: usize,
-        number: usize,
-        from: usize,
-    ) -> Result<(), NoMemory>
-        ensures places { OnOk result (spec.Adds (λ place. list_any (spec.is_at place)
-            (entries_at plan.now before)) places.old.keys places.new.keys) }
-        ensures noted { OnOk result (spec.Grows self.old self.new
-            (spec.for_each plan.now (spec.is_among places.new.keys) number from)) }
-    {
-        add_places(places, entries_at(plan, before))?;
-        self.ask_context(plan, places, number, from)?;
-        Ok(())
-    }
-
     /// Records which entries are hidden from the context with a number, given its search order. It keeps no places for the last context,
     /// and checks nothing in an order with one context.
     fn ask_order(
@@ -213,9 +193,8 @@ impl Hidings {
     {
         let mut places = IndexSet::new(alloc);
         for place in 1..order.len() {
-            let before = order[place - 1];
-            let number = order[place];
-            self.ask_next(plan, &mut places, before, number, from)?;
+            add_places(&mut places, entries_at(plan, order[place - 1]))?;
+            self.ask_context(plan, &places, order[place], from)?;
         }
         Ok(())
     }

@@ -95,7 +95,6 @@ impl Search {
     fn walk<N: OnwardNames>(
         &mut self,
         finder: &mut PlanFinder<'_>,
-        alloc: Global,
         start: EntryId,
     ) -> Result<Option<EntryId>, NoMemory>
         ensures walk { IfOk result (λ end. walks.IsWalk (spec.successor N.onward finder.old) start self.new.path.items end) }
@@ -109,7 +108,7 @@ impl Search {
         while let Some(id) = self.seen.keep_unmarked(end) {
             self.seen.set(id);
             self.path.push(id)?;
-            end = successor::<N>(finder, alloc, id)?;
+            end = successor::<N>(finder, id)?;
         }
         Ok(end)
     }
@@ -118,7 +117,6 @@ impl Search {
     fn search_from<N: OnwardNames>(
         &mut self,
         finder: &mut PlanFinder<'_>,
-        alloc: Global,
         start: EntryId,
     ) -> Result<(), NoMemory>
         requires { marks.AreSearched N.onward finder.old self.old.seen self.old.firsts }
@@ -126,7 +124,7 @@ impl Search {
         ensures seen { OnOk result (marks.Sees finder.old self.old.seen self.new.seen (λ id. id ≡ start)) }
         ensures same { finder.new ≡ finder.old }
     {
-        let end = self.walk::<N>(finder, alloc, start)?;
+        let end = self.walk::<N>(finder, start)?;
         if let Some(first) = first_of_loop(&self.path, end) {
             self.firsts.set(first);
         }
@@ -137,7 +135,6 @@ impl Search {
     fn search_context<N: OnwardNames>(
         &mut self,
         finder: &mut PlanFinder<'_>,
-        alloc: Global,
         number: usize,
     ) -> Result<(), NoMemory>
         requires { marks.AreSearched N.onward finder.old self.old.seen self.old.firsts }
@@ -150,23 +147,19 @@ impl Search {
                 context: number,
                 entry,
             };
-            self.search_from::<N>(finder, alloc, start)?;
+            self.search_from::<N>(finder, start)?;
         }
         Ok(())
     }
 
     /// Searches from each entry of the dialplan.
-    fn search_all<N: OnwardNames>(
-        &mut self,
-        finder: &mut PlanFinder<'_>,
-        alloc: Global,
-    ) -> Result<(), NoMemory>
+    fn search_all<N: OnwardNames>(&mut self, finder: &mut PlanFinder<'_>) -> Result<(), NoMemory>
         requires { marks.AreSearched N.onward finder.old self.old.seen self.old.firsts }
         ensures searched { OnOk result (marks.AreSearched N.onward finder.old self.new.seen self.new.firsts) }
         ensures seen { OnOk result (marks.Sees finder.old self.old.seen self.new.seen (λ id. id.context < context_count finder.old)) }
     {
         for number in 0..finder.plan().contexts().len() {
-            self.search_context::<N>(finder, alloc, number)?;
+            self.search_context::<N>(finder, number)?;
         }
         Ok(())
     }
@@ -177,7 +170,7 @@ impl Search {
     {
         let mut finder = PlanFinder::new(alloc, plan)?;
         let mut search = Search::new(alloc, plan)?;
-        search.search_all::<N>(&mut finder, alloc)?;
+        search.search_all::<N>(&mut finder)?;
         Ok(search)
     }
 }

@@ -6,6 +6,14 @@ use crate::unset::SetNames;
 use dp_plan::Text;
 use indexmap::IndexSet;
 
+/// What may name the labels of a dialplan, what the dialplan sets and what it hides.
+#[derive(Clone, Copy)]
+pub(crate) struct Known<'a> {
+    pub(crate) naming: &'a Naming,
+    pub(crate) set: &'a SetNames,
+    pub(crate) hidden: &'a Hidings,
+}
+
 /// For one context, which of its entries have an entry with a greater or a lower priority in their extension, and the names that have
 /// priority 1 in a context in its search order.
 #[derive(Clone, Copy)]
@@ -15,10 +23,5 @@ pub(crate) struct Scene<'a> {
     pub(crate) firsts: &'a IndexSet<Spelling>,
     /// The context's name.
     pub(crate) context: &'a Text,
-    /// What may name a label of the dialplan.
-    pub(crate) naming: &'a Naming,
-    /// What the dialplan sets.
-    pub(crate) set: &'a SetNames,
-    /// What the dialplan hides.
-    pub(crate) hidden: &'a Hidings,
+    pub(crate) known: Known<'a>,
 }

@@ -10,7 +10,6 @@ use crate::onward_names::OnwardNames;
 use dp_conf::{read_number, same_word, trim};
 use dp_pattern::Parts;
 use dp_plan::{Dialplan, Entry, EntryId, MOST_PRIORITY, NoMemory, Text};
-use std::alloc::Global;
 
 /// Whether the entry with these numbers belongs to the context with the name.
 fn is_of(plan: &Dialplan, context: &Text, id: EntryId) -> bool
@@ -113,7 +112,6 @@ fn part_or<'a>(own: &'a [u8], part: &'a [u8]) -> &'a [u8]
 /// The entry to which the parts of a target lead from an extension of a context.
 fn meet_by_parts(
     finder: &mut PlanFinder<'_>,
-    alloc: Global,
     own: &Text,
     exten: &[u8],
     parts: JumpParts<'_>,
@@ -125,14 +123,13 @@ fn meet_by_parts(
     if parts.context.is_empty() {
         return Ok(meet_written(finder, own, exten, parts.priority));
     }
-    let context = Text::copy_of(alloc, parts.context)?;
+    let context = Text::copy_of(finder.alloc(), parts.context)?;
     Ok(meet_written(finder, &context, exten, parts.priority))
 }
 
 /// The entry to which a literal target leads.
 fn meet_by_target(
     finder: &mut PlanFinder<'_>,
-    alloc: Global,
     own: &Text,
     exten: &[u8],
     target: &[u8],
@@ -149,7 +146,7 @@ fn meet_by_target(
         return Ok(None);
     }
     match parts {
-        Some(parts) => meet_by_parts(finder, alloc, own, exten, parts),
+        Some(parts) => meet_by_parts(finder, own, exten, parts),
         None => Ok(None),
     }
 }
@@ -157,7 +154,6 @@ fn meet_by_target(
 /// The entry to which a call goes from an entry with a plain name: by `Goto`, or after an application that always goes on.
 fn meet_after<N: OnwardNames>(
     finder: &mut PlanFinder<'_>,
-    alloc: Global,
     own: &Text,
     exten: &[u8],
     entry: &Entry,
@@ -168,7 +164,7 @@ fn meet_after<N: OnwardNames>(
     let application = entry.application.bytes();
     if same_word(application, b"Goto") {
         let target = trim(entry.arguments.text().bytes());
-        return meet_by_target(finder, alloc, own, exten, target);
+        return meet_by_target(finder, own, exten, target);
     }
     if N::goes_on(application) {
         let next = entry.priority.get() + 1;
@@ -180,7 +176,6 @@ fn meet_after<N: OnwardNames>(
 /// The entry to which a call goes from an entry of the context with the name.
 fn successor_of<N: OnwardNames>(
     finder: &mut PlanFinder<'_>,
-    alloc: Global,
     own: &Text,
     entry: &Entry,
 ) -> Result<Option<EntryId>, NoMemory>
@@ -188,7 +183,7 @@ fn successor_of<N: OnwardNames>(
     ensures same { finder.new ≡ finder.old }
 {
     match entry.name.name().parts() {
-        Parts::Plain(text) => meet_after::<N>(finder, alloc, own, text, entry),
+        Parts::Plain(text) => meet_after::<N>(finder, own, text, entry),
         Parts::Pattern(_, _) => Ok(None),
     }
 }
@@ -196,7 +191,6 @@ fn successor_of<N: OnwardNames>(
 /// The entry to which a call goes from the entry with these numbers in any case. From an entry with a pattern it is unknown.
 pub(crate) fn successor<N: OnwardNames>(
     finder: &mut PlanFinder<'_>,
-    alloc: Global,
     id: EntryId,
 ) -> Result<Option<EntryId>, NoMemory>
     ensures found { IfOk result (λ next. next ≡ spec.successor N.onward finder.old id) }
@@ -207,7 +201,7 @@ pub(crate) fn successor<N: OnwardNames>(
         return Ok(None);
     };
     match context.entries().get(id.entry) {
-        Some(entry) => successor_of::<N>(finder, alloc, context.name(), entry),
+        Some(entry) => successor_of::<N>(finder, context.name(), entry),
         None => Ok(None),
     }
 }

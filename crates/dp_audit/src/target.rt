@@ -54,7 +54,6 @@ fn priority_leads(finder: &mut PlanFinder<'_>, context: &Text, exten: &[u8], tex
 /// Whether the priority is found in the given extension of the context, else in the entry's own.
 fn exten_leads(
     finder: &mut PlanFinder<'_>,
-    alloc: Global,
     own: &Text,
     parts: JumpParts<'_>,
     exten: &[u8],
@@ -66,14 +65,13 @@ fn exten_leads(
     if parts.context.is_empty() {
         return Ok(priority_leads(finder, own, exten, parts.priority));
     }
-    let context = Text::copy_of(alloc, parts.context)?;
+    let context = Text::copy_of(finder.alloc(), parts.context)?;
     Ok(priority_leads(finder, &context, exten, parts.priority))
 }
 
 /// Whether the parts lead to an entry, from an entry with this name in this context.
 fn leads(
     finder: &mut PlanFinder<'_>,
-    alloc: Global,
     own: &Text,
     name: &Name,
     parts: Option<JumpParts<'_>>,
@@ -86,7 +84,7 @@ fn leads(
         return Ok(false);
     };
     match exten_of(name, parts.exten) {
-        Some(exten) => exten_leads(finder, alloc, own, parts, exten),
+        Some(exten) => exten_leads(finder, own, parts, exten),
         None => Ok(true),
     }
 }
@@ -94,7 +92,6 @@ fn leads(
 /// Whether a target is literal and leads nowhere.
 fn is_missing(
     finder: &mut PlanFinder<'_>,
-    alloc: Global,
     own: &Text,
     name: &Name,
     jump: Jump,
@@ -107,14 +104,13 @@ fn is_missing(
     if !parts_stand(text, parts) {
         return Ok(false);
     }
-    let leads = leads(finder, alloc, own, name, parts)?;
+    let leads = leads(finder, own, name, parts)?;
     Ok(!leads)
 }
 
 /// The target, if there is one that is literal and leads nowhere.
 fn keep_missing<'a>(
     finder: &mut PlanFinder<'_>,
-    alloc: Global,
     own: &Text,
     name: &Name,
     jump: Jump,
@@ -127,7 +123,7 @@ fn keep_missing<'a>(
     let Some(text) = target else {
         return Ok(None);
     };
-    let missing = is_missing(finder, alloc, own, name, jump, text)?;
+    let missing = is_missing(finder, own, name, jump, text)?;
     Ok(missing.then_some(text))
 }
 
@@ -135,7 +131,6 @@ fn keep_missing<'a>(
 #[tactic(auto, using(crate::proofs::TargetsLemmas::filter_sides))]
 fn keep_sides<'a>(
     finder: &mut PlanFinder<'_>,
-    alloc: Global,
     own: &Text,
     name: &Name,
     jump: Jump,
@@ -145,8 +140,8 @@ fn keep_sides<'a>(
         ≡ filter (spec.is_missing finder.old own.now name.now jump) (spec.texts_of_targets targets.entry)) }
     ensures same { finder.new ≡ finder.old }
 {
-    let first = keep_missing(finder, alloc, own, name, jump, targets.first)?;
-    let second = keep_missing(finder, alloc, own, name, jump, targets.second)?;
+    let first = keep_missing(finder, own, name, jump, targets.first)?;
+    let second = keep_missing(finder, own, name, jump, targets.second)?;
     Ok(Targets { first, second })
 }
 
@@ -154,7 +149,6 @@ fn keep_sides<'a>(
 #[tactic(auto, unfolding(crate::specs::Targets::missing_targets))]
 fn missing_targets<'a>(
     finder: &mut PlanFinder<'_>,
-    alloc: Global,
     own: &Text,
     entry: &'a Entry,
 ) -> Result<Targets<'a>, NoMemory>
@@ -168,7 +162,7 @@ fn missing_targets<'a>(
         });
     };
     let targets = targets_in(jump, entry.arguments.text().bytes());
-    keep_sides(finder, alloc, own, entry.name.name(), jump, targets)
+    keep_sides(finder, own, entry.name.name(), jump, targets)
 }
 
 /// Adds the target, if there is one.
@@ -207,7 +201,6 @@ fn push_targets(
 /// Adds the targets of an entry of this context that are literal and lead nowhere.
 pub(crate) fn push_missing(
     findings: &mut Vec<Finding>,
-    alloc: Global,
     finder: &mut PlanFinder<'_>,
     own: &Text,
     id: EntryId,
@@ -217,6 +210,6 @@ pub(crate) fn push_missing(
         ++ map (Finding.NoTarget id) (spec.missing_targets finder.old own.now entry.now)) }
     ensures same { finder.new ≡ finder.old }
 {
-    let missing = missing_targets(finder, alloc, own, entry)?;
-    push_targets(findings, alloc, id, missing)
+    let missing = missing_targets(finder, own, entry)?;
+    push_targets(findings, finder.alloc(), id, missing)
 }

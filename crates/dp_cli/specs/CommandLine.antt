@@ -10,7 +10,7 @@ use Rattle.dp_conf.specs.Words.{same_text}
 use Rattle.dp_commands.specs.Script.{number_within}
 use Rattle.dp_conf.specs.Numbers.{most_priority}
 use Rattle.dp_program.specs.Entries.{fault_named, fault_numbered}
-use Rattle.dp_program.specs.Requests.{RequestOf, joined, check, check_files, check_queues, check_both, listing, auditing, auditing_by, matching, explaining, run, run_wide, debug, reaching, QuestionOf}
+use Rattle.dp_program.specs.Requests.{RequestOf, joined, check, check_files, check_queues, check_both, listing, listing_files, auditing, auditing_by, matching, matching_files, explaining, run, run_wide, debug, reaching, LookupOf, QuestionOf}
 use Rattle.dp_program.specs.Texts.{OfRun}
 use Rattle.dp_wide_runs.specs.Kinds.{KindsTold, all, only, except, are_kinds}
 
@@ -46,10 +46,6 @@ file_word = required_word (codes "FILE")
 abbrev pub with_explain : App → App
 with_explain app = with_rule app (flag (codes "explain") (codes "explain"))
 
--- a command whose one word is a dialplan's file
-abbrev pub file_app : List ℕ → App
-file_app name = with_explain (with_rule (new_app name) file_word)
-
 -- a command with the word of a file of queues
 abbrev pub with_queues : App → App
 with_queues app = with_rule app (named_word (codes "QUEUES") (codes "queues"))
@@ -77,14 +73,14 @@ with_asterisk app = with_rule app (flag (codes "asterisk") (codes "asterisk"))
 abbrev pub check_app : App
 check_app = with_explain (with_rule (with_queues (with_asterisk (new_app (codes "check")))) (free_word (codes "FILE")))
 
--- `list [--explain] FILE`
+-- `list [--asterisk] [--explain] FILE`
 abbrev pub list_app : App
-list_app = file_app (codes "list")
+list_app = with_explain (with_rule (with_asterisk (new_app (codes "list"))) file_word)
 
--- `match [--all] [--explain] FILE CONTEXT TEXT [PRIORITY]`
+-- `match [--asterisk] [--all] [--explain] FILE CONTEXT TEXT [PRIORITY]`
 abbrev pub match_app : App
 match_app =
-    with_explain (with_lookup (with_rule (with_rule (new_app (codes "match")) (flag (codes "all") (codes "all"))) file_word))
+    with_explain (with_lookup (with_rule (with_rule (with_asterisk (new_app (codes "match"))) (flag (codes "all") (codes "all"))) file_word))
 
 -- `explain [--explain] CODE`
 abbrev pub explain_app : App
@@ -194,16 +190,30 @@ check_over words false = check_request (first_of (codes "FILE") words) (first_of
 abbrev pub check_asked : List Row → Option RequestOf
 check_asked words = check_over words (is_set (codes "asterisk") words)
 
+-- what `list` asks of a file, by whether it reads the files that the dialplan includes
+abbrev pub list_of : Bool → List ℕ → RequestOf
+list_of false file = listing file
+list_of true file = listing_files file
+
 -- what `list` asks for, by its words
 abbrev pub list_asked : List Row → Option RequestOf
-list_asked words = option_map listing (first_of (codes "FILE") words)
+list_asked words = option_map (list_of (is_set (codes "asterisk") words)) (first_of (codes "FILE") words)
+
+-- what is looked up at a priority, by the words of `match`
+abbrev pub lookup_at : List Row → ℕ → Option LookupOf
+lookup_at words priority =
+    option_and_then (λ file. option_and_then (λ context. option_map
+    (λ text. record { file = file; context = context; text = text; priority = priority })
+    (first_of (codes "TEXT") words)) (first_of (codes "CONTEXT") words)) (first_of (codes "FILE") words)
+
+-- what `match` asks of a look-up, by whether it reads the files that the dialplan includes, and by its other words
+abbrev pub match_over : List Row → Bool → LookupOf → RequestOf
+match_over words false lookup = matching lookup (is_set (codes "all") words)
+match_over words true lookup = matching_files lookup (is_set (codes "all") words)
 
 -- what `match` asks for at a priority, by its other words
 abbrev pub match_at : List Row → ℕ → Option RequestOf
-match_at words priority =
-    option_and_then (λ file. option_and_then (λ context. option_map
-    (λ text. matching (record { file = file; context = context; text = text; priority = priority }) (is_set (codes "all") words))
-    (first_of (codes "TEXT") words)) (first_of (codes "CONTEXT") words)) (first_of (codes "FILE") words)
+match_at words priority = option_map (match_over words (is_set (codes "asterisk") words)) (lookup_at words priority)
 
 -- what `match` asks for, by its words
 abbrev pub match_asked : List Row → Option RequestOf

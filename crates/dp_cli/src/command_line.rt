@@ -151,13 +151,23 @@ pub(crate) fn is_set(given: &ArgMatches<'_>, name: &str) -> bool
     }
 }
 
+/// What `list` asks of a file, given whether it reads the files that the dialplan includes.
+fn list_of<'a>(includes: bool, file: &'a str) -> Request<'a>
+    ensures { request_asked result ≡ spec.list_of includes file.now }
+{
+    if includes {
+        Request::ListIncluding { file }
+    } else {
+        Request::Listing { file }
+    }
+}
+
 /// What the words of `list` ask for.
 fn list_request<'a>(given: &ArgMatches<'a>) -> Option<Request<'a>>
     ensures { option_map request_asked result ≡ spec.list_asked (rows_of (found_of given.now)) }
 {
-    Some(Request::Listing {
-        file: word_of(given, "FILE")?,
-    })
+    let file = word_of(given, "FILE")?;
+    Some(list_of(is_set(given, "asterisk"), file))
 }
 
 /// What the words of `match` ask for, or its refusal where they name no priority.
@@ -176,9 +186,10 @@ fn match_request<'a>(alloc: Global, given: &ArgMatches<'a>) -> Result<Option<Req
     }
 }
 
-/// What the other words of `match` ask for at a priority.
-fn match_at<'a>(given: &ArgMatches<'a>, priority: Priority) -> Option<Request<'a>>
-    ensures { option_map request_asked result ≡ spec.match_at (rows_of (found_of given.now)) priority }
+/// What the words of `match` ask for at a priority, in the dialplan of one file.
+fn plain_match<'a>(given: &ArgMatches<'a>, priority: Priority) -> Option<Request<'a>>
+    ensures { option_map request_asked result ≡ option_map (spec.match_over (rows_of (found_of given.now)) false)
+        (spec.lookup_at (rows_of (found_of given.now)) priority) }
 {
     let lookup = Lookup {
         file: word_of(given, "FILE")?,
@@ -188,6 +199,31 @@ fn match_at<'a>(given: &ArgMatches<'a>, priority: Priority) -> Option<Request<'a
     };
     let all = is_set(given, "all");
     Some(Request::Match { lookup, all })
+}
+
+/// The same in a dialplan that is read with the files that it includes.
+fn including_match<'a>(given: &ArgMatches<'a>, priority: Priority) -> Option<Request<'a>>
+    ensures { option_map request_asked result ≡ option_map (spec.match_over (rows_of (found_of given.now)) true)
+        (spec.lookup_at (rows_of (found_of given.now)) priority) }
+{
+    let lookup = Lookup {
+        file: word_of(given, "FILE")?,
+        context: word_of(given, "CONTEXT")?,
+        text: word_of(given, "TEXT")?,
+        priority,
+    };
+    let all = is_set(given, "all");
+    Some(Request::MatchIncluding { lookup, all })
+}
+
+/// What the words of `match` ask for at a priority.
+fn match_at<'a>(given: &ArgMatches<'a>, priority: Priority) -> Option<Request<'a>>
+    ensures { option_map request_asked result ≡ spec.match_at (rows_of (found_of given.now)) priority }
+{
+    if is_set(given, "asterisk") {
+        return including_match(given, priority);
+    }
+    plain_match(given, priority)
 }
 
 /// What the words of `explain` ask for, or its refusal where they name no fault.

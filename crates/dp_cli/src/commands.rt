@@ -97,7 +97,7 @@ fn with_dialplan<'a>(
 ) -> Result<Command<'a>, NoMemory>
     ensures { (app : App) → Makes app command.entry → Makes (with_rule app spec.file_word) result }
 {
-    let file = required_word(alloc, "FILE", "The dialplan, as extensions.conf");
+    let file = required_word(alloc, "FILE", "The dialplan, such as extensions.conf");
     with_word(command, file)
 }
 
@@ -112,7 +112,7 @@ fn with_explain<'a>(
         alloc,
         "explain",
         "explain",
-        "Print below each fault, and below each note of `check`, where it stands and what the manual says of it",
+        "Print below each fault, and below each note of `check`, where it is and what the manual says of it",
     );
     with_word(command, explain)
 }
@@ -128,7 +128,7 @@ fn with_verbose<'a>(
         alloc,
         "verbose",
         "verbose",
-        "Print above each step the line of its entry, and above each refusal what the manual says of it",
+        "Print the line of its entry above each step, and what the manual says above each refusal",
     );
     with_word(command, verbose)
 }
@@ -143,20 +143,6 @@ fn with_asterisk<'a>(
 {
     let asterisk = flag(alloc, "asterisk", "asterisk", help);
     with_word(command, asterisk)
-}
-
-/// A command whose one word is its dialplan's file.
-fn file_command<'a>(
-    alloc: Global,
-    name: &'a str,
-    about: &'a str,
-    notes: &'a str,
-) -> Result<Command<'a>, NoMemory>
-    ensures { Makes (spec.file_app name.now) result }
-{
-    let command = command_of(alloc, name, about, notes);
-    let command = with_dialplan(alloc, command);
-    with_explain(alloc, command)
 }
 
 /// The command with the words of the files that a run has: those of its dialplan and of its script.
@@ -193,13 +179,13 @@ fn with_more_files<'a>(
     let with = with_queues(
         alloc,
         command,
-        "The queues, as queues.conf; without it there are none",
+        "The queues, such as queues.conf; by default there are none",
     );
     let second_plan = named_word(
         alloc,
         "DIALPLAN",
         "reload",
-        "The second dialplan, which a line `reload` of the script puts in force",
+        "The second dialplan, which replaces the first at a line `reload` of the script",
     );
     with_word(with, second_plan)
 }
@@ -242,8 +228,8 @@ pub(crate) fn check_command<'a>(alloc: Global) -> Result<Command<'a>, NoMemory>
         check,
         "Read the files that the dialplan includes, templates and block comments, and print every fault",
     );
-    let check = with_queues(alloc, check, "The queues, as queues.conf");
-    let file = free_word(alloc, "FILE", "The dialplan, as extensions.conf");
+    let check = with_queues(alloc, check, "The queues, such as queues.conf");
+    let file = free_word(alloc, "FILE", "The dialplan, such as extensions.conf");
     let check = with_word(check, file);
     with_explain(alloc, check)
 }
@@ -279,7 +265,7 @@ fn with_kinds<'a>(
         alloc,
         "KINDS",
         "only",
-        "Print the findings of these kinds alone, separated by commas",
+        "Print only the findings of these kinds, separated by commas",
     );
     let with = with_word(command, only);
     let ignore = named_word(
@@ -315,12 +301,19 @@ pub(crate) fn audit_command<'a>(alloc: Global) -> Result<Command<'a>, NoMemory>
 fn list_command<'a>(alloc: Global) -> Result<Command<'a>, NoMemory>
     ensures { Makes spec.list_app result }
 {
-    file_command(
+    let list = command_of(
         alloc,
         "list",
-        "Print a dialplan in its canonical text",
+        "Print a dialplan as canonical text",
         LIST_NOTES,
-    )
+    );
+    let list = with_asterisk(
+        alloc,
+        list,
+        "Read the files that the dialplan includes, templates and block comments",
+    );
+    let list = with_dialplan(alloc, list);
+    with_explain(alloc, list)
 }
 
 /// The command with the words of a look-up: those of its context, of what was dialled, and of the priority that is asked for.
@@ -332,12 +325,12 @@ fn with_lookup<'a>(
 {
     let context = required_word(alloc, "CONTEXT", "The context where the call begins");
     let with = with_word(command, context);
-    let text = required_word(alloc, "TEXT", "What was dialled");
+    let text = required_word(alloc, "TEXT", "The dialled text");
     let with = with_word(with, text);
     let priority = optional_word(
         alloc,
         "PRIORITY",
-        "The priority that is asked for, from 1 to 2147483647",
+        "The requested priority, from 1 to 2147483647",
         "1",
     );
     with_word(with, priority)
@@ -353,11 +346,16 @@ pub(crate) fn match_command<'a>(alloc: Global) -> Result<Command<'a>, NoMemory>
         "Print which entry of a dialplan answers a call",
         MATCH_NOTES,
     );
+    let matching = with_asterisk(
+        alloc,
+        matching,
+        "Read the files that the dialplan includes, templates and block comments",
+    );
     let all = flag(
         alloc,
         "all",
         "all",
-        "Print below it what becomes of each extension that matches",
+        "Also print what becomes of each extension that matches",
     );
     let matching = with_word(matching, all);
     let matching = with_dialplan(alloc, matching);
@@ -372,7 +370,7 @@ pub(crate) fn explain_command<'a>(alloc: Global) -> Result<Command<'a>, NoMemory
     let explain = command_of(
         alloc,
         "explain",
-        "Print what the manual says of a fault",
+        "Print what the manual says about a fault",
         EXPLAIN_NOTES,
     );
     let code = required_word(
@@ -397,14 +395,14 @@ pub(crate) fn run_command<'a>(alloc: Global) -> Result<Command<'a>, NoMemory>
     let run = with_asterisk(
         alloc,
         run,
-        "Use the applications and functions that people use, take facts from the script, and stop at what is unknown",
+        "Use the applications and functions that people use, take facts from the script, and stop at anything unknown",
     );
     let run = with_more_files(alloc, run);
     let threads = named_word(
         alloc,
         "N",
         "threads",
-        "Give the events in so many threads at once, from 1 to 64",
+        "Give the events from this many threads at once, from 1 to 64",
     );
     let run = with_word(run, threads);
     let run = with_verbose(alloc, run);
@@ -446,21 +444,21 @@ fn with_outside<'a>(
         alloc,
         "CONTEXTS",
         "start",
-        "The contexts where other calls come in, separated by commas; without it every context",
+        "The contexts where other calls come in, separated by commas; by default every context",
     );
     let with = with_word(command, starts);
     let exten = named_word(
         alloc,
         "BYTES",
         "exten",
-        "What may be dialled, as 0-9*#; without it 0-9A-Za-z*#+_.",
+        "The bytes that may be dialled, such as 0-9*#; by default 0-9A-Za-z*#+_.",
     );
     let with = with_word(with, exten);
     let caller = named_word(
         alloc,
         "NUMBERS",
         "caller",
-        "What a caller's number may have; without it 0-9+",
+        "The bytes of a caller's number; by default 0-9+",
     );
     with_word(with, caller)
 }
@@ -478,14 +476,14 @@ fn reach_command<'a>(alloc: Global) -> Result<Command<'a>, NoMemory>
     let reach = with_queues(
         alloc,
         reach,
-        "The queues, as queues.conf; without it there are none",
+        "The queues, such as queues.conf; by default there are none",
     );
     let reach = with_outside(alloc, reach);
     let target = named_word(
         alloc,
         "TARGET",
         "to",
-        "Say of this context alone whether the call may reach it",
+        "Report only whether the call may reach this context",
     );
     let reach = with_word(reach, target);
     let reach = with_dialplan(alloc, reach);

@@ -5,8 +5,8 @@ pub(crate) const VERSION: &str = "0.1.0 logic dac8208d650f15bf";
 
 /// What the help says below the commands.
 pub(crate) const PBX_NOTES: &str = "\
-With no command, pbx reads one text from the standard input and runs it: a dialplan, a line `;; script`, and a script. A line
-`;; reload` and a second dialplan may stand before the line `;; script`.
+Without a command, pbx reads one text from standard input and runs it: a dialplan, a line `;; script`, and a script. A line
+`;; reload` and a second dialplan may come before the line `;; script`.
 
 Examples:
   pbx check extensions.conf
@@ -19,18 +19,18 @@ Examples:
   pbx explain 20
   pbx < joined.conf
 
-Status: 0; 1 where a fault was printed, an event was refused, an audit found something or a context may be reached; 2 where the
-command line was refused; 4 where a run with --asterisk stopped at what is unknown.";
+Status: 0; 1 if a fault was printed, an event was refused, an audit found something or a context may be reached; 2 if the command
+line was refused; 4 if a run with --asterisk stopped because something is unknown.";
 
 /// What the help of `check` says below its words.
 pub(crate) const CHECK_NOTES: &str = "\
 Prints `note LINE KIND` for each line that is dropped and for each include that finds nothing, and then the counts. With
---queues a line with the count of queues follows; without FILE it stands alone. A file that does not load has its first fault
-on standard error, with its line, and the status 1.
+--queues a line with the number of queues follows; without FILE it is the only line. If a file does not load, its first fault
+is printed on standard error with its line, and the status is 1.
 
 With --asterisk the file is read as Asterisk reads it: with the files that it includes, templates, block comments, and
-priorities such as `n+1`. Each note and each fault is printed with the line of the file that it is about, and not only the
-first fault. The last line is the counts, or `N faults` with the status 1.
+priorities such as `n+1`. All notes and all faults are printed, each with its file and line. The last line has the counts, or
+it is `N faults` with status 1.
 
 Example:
   $ pbx check extensions.conf
@@ -41,8 +41,11 @@ Example:
 
 /// What the help of `list` says below its words.
 pub(crate) const LIST_NOTES: &str = "\
-Prints the dialplan in one canonical text: its global variables, and each context with its entries and its includes. Each
-priority is a number, and each name stands in its one spelling. The notes of the dialplan are not printed.
+Prints the dialplan as canonical text: its global variables, and each context with its entries and its includes. Each priority
+is a number, and each name has its canonical spelling. The notes on the dialplan are not printed.
+
+With --asterisk the files that the dialplan includes are read, templates and block comments. If lines have faults, each fault is printed
+on standard error with its file and line, and the status is 1.
 
 Example:
   $ pbx list extensions.conf
@@ -53,11 +56,14 @@ Example:
 
 /// What the help of `match` says below its words.
 pub(crate) const MATCH_NOTES: &str = "\
-Prints `CONTEXT,NAME,PRIORITY APPLICATION` of the entry that answers, or `none`. The context is searched first, and then
-what it includes. A word that begins with `-` may stand after `--`.
+Prints `CONTEXT,NAME,PRIORITY APPLICATION` for the entry that answers, or `none`. The context is searched first, and then the
+contexts that it includes. Write `--` before a word that begins with `-`.
 
-With --all a line follows for each extension that matches, in the order in which a look-up asks: `answers`, `less specific`,
-`later context` or `no such priority`.
+With --all a line follows for each extension that matches, in the order in which a look-up tries them: `answers`,
+`less specific`, `later context` or `no such priority`.
+
+With --asterisk the files that the dialplan includes are read. If a line has a fault, or something that this program cannot follow
+(`switch`, an extension for one caller, `autofallthrough=no`), each such line is printed on standard error, and the status is 1.
 
 Example:
   $ pbx match extensions.conf main 555-1234 3
@@ -65,23 +71,24 @@ Example:
 
 /// What the help of `audit` says below its words.
 pub(crate) const AUDIT_NOTES: &str = "\
-Prints `KIND CONTEXT,NAME,PRIORITY` for each finding, with what it is about after it, and then how many there are:
+Prints `KIND CONTEXT,NAME,PRIORITY` for each finding, followed by its details, and then the number of findings:
   Cycle          a context includes itself
   NoApplication  there is no such application
   NoTarget       a target leads to no entry
-  Gap            the next priority is not found, but greater ones are there
+  Gap            the next priority is not found, but there are greater ones
   NoFirst        there is no priority 1
-  Hidden         another entry of the same name and priority comes before it
+  Hidden         another entry with the same name and priority comes before it
   Unset          nothing sets the variable that is read
   Unused         no target names the label
-The status is 0 where nothing is found, and else 1.
+The status is 0 if nothing is found, and 1 otherwise.
 
-With --asterisk the applications and functions that people use are known, there is no `Unset`, and behind the others come:
-  FallsThrough   a call goes on behind the entry in another extension, which is printed after it
+With --asterisk the files that the dialplan includes are read, the applications and functions that people use are known, there is no
+`Unset`, and these kinds come last:
+  FallsThrough   a call goes on after the entry in another extension, which is printed after it
   Loop           a call that gets there comes back again and again, and nothing ends it
   NoFunction     there is no such function
 
-With --only KINDS, findings of these kinds are printed alone, and with --ignore KINDS all but these. A kind is one of the words above, in
+With --only KINDS only findings of these kinds are printed, and with --ignore KINDS all others. A kind is one of the words above, in
 any case.
 
 Example:
@@ -96,8 +103,8 @@ Prints each entry that a call from CONTEXT may run, whatever is dialled, pressed
 the entries of each context how a call gets there. It is proved that such a call runs no other entry. Conditions are not followed, so
 an entry that is printed may never run.
 
-With --to, prints `unreachable: TARGET`, with the status 0, or `may reach: ENTRY` with the way there and each jump that lets a call
-in, with the status 1.
+With --to, prints `unreachable: TARGET` with status 0, or `may reach: ENTRY` with the way there and each jump that lets a call in,
+with status 1.
 
 Example:
   $ pbx reach extensions.conf from-carrier --to international
@@ -106,8 +113,8 @@ Example:
 
 /// What the help of `explain` says below its words.
 pub(crate) const EXPLAIN_NOTES: &str = "\
-Prints the number and the name of a fault, or of a refusal of an event, when it comes, and an example of it, as the manual has them.
-CODE is the number or the name; the case of each letter counts. `LeftOut` is the name of 24 and of 32, and is refused.
+Prints the number and the name of a fault or of the refusal of an event, when it comes, and an example of it, as in the manual.
+CODE is the number or the name, which is case sensitive. `LeftOut` is the name of both 24 and 32, and is refused.
 
 Example:
   $ pbx explain 20
@@ -117,38 +124,40 @@ Example:
 
 /// What the help of `run` says below its words.
 pub(crate) const RUN_NOTES: &str = "\
-A script has one event a line. Channels are numbered from 1 as they start, queues and agents are named:
+A script has one event per line. Channels are numbered from 1 as they start; queues and agents have names:
   start CONTEXT EXTEN [CALLER]   a call comes in
-  step CHANNEL [COUNT]           the channel takes so many steps
+  step CHANNEL [COUNT]           the channel takes COUNT steps, 1 by default
   digit CHANNEL D                the caller dials a digit
   timeout CHANNEL                what the channel waits for does not come in time
   poll CHANNEL                   the channel leaves its queue, if that is too empty
   hangup CHANNEL                 the caller hangs up
-  result CHANNEL STATUS          the call to devices came to ANSWER, BUSY, NOANSWER, CONGESTION or CHANUNAVAIL
-  offer QUEUE                    a call of the queue rings at agents
-  answer AGENT, decline AGENT    the agent takes the call that it rings for, or not
+  result CHANNEL STATUS          the call to devices ends with ANSWER, BUSY, NOANSWER, CONGESTION or CHANUNAVAIL
+  offer QUEUE                    agents ring for a call of the queue
+  answer AGENT, decline AGENT    the agent takes or declines the call for which it rings
   done AGENT                     the agent is done with its call
-  reload                         the second dialplan comes in force
+  reload                         the second dialplan replaces the first
   show CHANNEL NAME              prints a variable
-Prints a line for each of them.
+Prints a line for each.
 
-With --threads N the calls that the script begins with come in first. Then N threads give the other events at once, each in
-turn one, and each thread its own in their order; `show` is passed over. One line is printed: `settled N seats M calls`.
+With --threads N the calls at the beginning of the script come in first. The other events are dealt to N threads in turn, and
+each thread gives its own in order; `show` is skipped. One line is printed: `settled N seats M calls`.
 
-With --verbose the line `  FILE:LINE APP(ARGS)` stands above that of each step that runs an entry, and what `pbx explain` prints above
-that of each refusal. It has no effect beside --threads.
+With --verbose the line `  FILE:LINE APP(ARGS)` is printed above that of each step that runs an entry, and the text of `pbx explain`
+above that of each refusal. It has no effect with --threads.
 
-With --asterisk a run has the applications and functions that people use. It never guesses: at a step before which something is unknown
-it prints `unknown CHANNEL WHAT -> STATE`, leaves out the further steps of that line, and ends with the status 4 unless an event was
-refused. Further lines of a script tell it what it does not know:
+With --asterisk the files that the dialplans include are read, and a run has the applications and functions that people use. It never
+guesses: at a step before which something is unknown it prints `unknown CHANNEL WHAT -> STATE`, leaves out the further steps of that line,
+and ends with status 4 unless an event was refused. If a line of a dialplan has a fault, or something that this program cannot follow
+(`switch`, an extension for one caller, `autofallthrough=no`), nothing runs: each such line is printed on standard error, and the status
+is 1. These lines of a script say what would be unknown otherwise:
   let CHANNEL NAME=VALUE         a variable of the channel, or what `Set` would set
   global NAME=VALUE              a global variable
-  assume NAME ..                 what nothing has set in these functions, such as DB, is empty
-  clock DAY YYYY-MM-DD HH:MM     what time it is
-  go CHANNEL                     what the channel waits for comes to its end
+  assume NAME ..                 values that nothing has set in these functions, such as DB, are empty
+  clock DAY YYYY-MM-DD HH:MM     the time
+  go CHANNEL                     what the channel waits for ends
   redirect CHANNEL CONTEXT EXTEN [PRIORITY]   the channel goes to a place
-  pass CHANNEL                   the channel passes over an entry that is unknown
-It cannot be used with --threads.
+  pass CHANNEL                   the channel skips an entry that is unknown
+--asterisk cannot be used with --threads.
 
 Example:
   $ cat calls.script
@@ -161,10 +170,10 @@ Example:
 
 /// What the help of `debug` says below its words.
 pub(crate) const DEBUG_NOTES: &str = "\
-Runs the script as `run` does, but passes over `show`. Before a step of a channel that is ready at the place of the break it prints
-`break TAKEN`, and goes on; last it prints `end TAKEN`. TAKEN is how many events of the script were taken. The context and the
-extension are compared byte by byte with those of the channel: a pattern, or a context that is included, is no place. With --verbose it
-prints more, as `run` does.
+Runs the script as `run` does, but skips `show`. Before a step of a channel that is ready at the place of the break it prints
+`break TAKEN`, and goes on; at the end it prints `end TAKEN`. TAKEN is the number of events of the script that were taken. The context
+and the extension are compared byte by byte with those of the channel: a pattern or an included context is not a place. With --verbose
+it prints more, as `run` does.
 
 Example:
   $ cat calls.script

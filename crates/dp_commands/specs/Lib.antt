@@ -6,6 +6,7 @@ pub mod Debug
 pub mod Explained
 pub mod Faults
 pub mod Joined
+pub mod LinePlaces
 pub mod Report
 pub mod Run
 pub mod Script

@@ -1,7 +1,7 @@
 -- Verbose runs: the line of a step follows the entry that the step runs, and the line of a refusal follows its explanation.
-use Rattle.std.specs.Prelude.{◌≡◌, ℕ, ◌++◌, ◌==◌, Bool, true, false, List, [], ◌∷◌, Option, Some, None, is_some, is_none, Result, Ok, Err, codes, decimal, if◌then◌else◌}
+use Rattle.std.specs.Prelude.{◌≡◌, ℕ, ◌++◌, ◌==◌, Bool, true, false, List, [], ◌∷◌, Option, Some, None, is_some, is_none, Result, Ok, Err, codes, if◌then◌else◌}
 use Rattle.std.specs.Io.KnownBytes.{Appends}
-use Rattle.std.specs.Option.{unwrap_or}
+use Rattle.std.specs.Option.{option_map, unwrap_or}
 use Rattle.dp_app.specs.Rows.{Meanings}
 use Rattle.dp_conf.specs.Answers.{◌>>=◌}
 use Rattle.dp_debug.specs.Breaks.{first_before}
@@ -24,6 +24,7 @@ use Rattle.dp_machine.specs.declared.reply.Reply.TheVariants.{Started, Ran, Inva
 use Rattle.dp_queue.specs.Changes.{one_more}
 use Rattle.dp_table.specs.Standard.{standard_meanings}
 use Rattle.dp_commands.specs.Debug.{DebugRun, Watch, debug_on, debug_turn, end_text, halt_text, watching}
+use Rattle.dp_commands.specs.LinePlaces.{Places, in_file, line_place}
 use Rattle.dp_commands.specs.Run.{Run, status_by}
 use Rattle.dp_commands.specs.Trace.{after_turn, event_line, phase_at}
 use Rattle.dp_commands.specs.Turns.{Taken, WritesTurns, refused_in}
@@ -32,10 +33,10 @@ use Rattle.dp_commands.specs.declared.fault.PbxFault.TheVariants.{Coded, NoMemor
 use Rattle.dp_commands.specs.declared.script.Turn.{Turn}
 use Rattle.dp_commands.specs.declared.script.Turn.TheVariants.{Event as turn_event, Show}
 
--- the dialplan in force: the name of its file and the lines of its entries; and the name of the second dialplan's file
+-- the dialplan in force: where its lines come from, and the lines of its entries; and where the lines of the second dialplan come from
 pub record InForce : Type 0 where
-  pub file : List ℕ
-  pub second_file : List ℕ
+  pub places : Places
+  pub second_places : Places
   pub lines : List (List ℕ)
 
 -- the lines of a dialplan that has loaded; a dialplan with a fault has no entries
@@ -47,13 +48,22 @@ lines_or_none (Err fault) = []
 abbrev pub lines_in : List ℕ → List (List ℕ)
 lines_in text = lines_or_none (lines_loaded text)
 
--- the dialplan of this text before the first event, with the name of its file and that of the second, if there is one
+-- where the lines of the second dialplan come from; without one they come from a file without a name
+abbrev pub second_or_none : Option Places → Places
+second_or_none places = unwrap_or places (in_file [])
+
+-- the dialplan of this text before the first event, with where its lines come from and where those of the second do, if there is one
+abbrev pub first_in_force_at : Places → Option Places → List ℕ → InForce
+first_in_force_at places second_places text =
+    record { places = places; second_places = second_or_none second_places; lines = lines_in text }
+
+-- the same of dialplans that are the texts of the files with these names
 abbrev pub first_in_force : List ℕ → Option (List ℕ) → List ℕ → InForce
-first_in_force name second_name text = record { file = name; second_file = unwrap_or second_name []; lines = lines_in text }
+first_in_force name second_name text = first_in_force_at (in_file name) (option_map (λ name. in_file name) second_name) text
 
 -- the second dialplan, which has this text, is put in force
 abbrev pub with_second : InForce → List ℕ → InForce
-with_second in_force text = record { file = in_force.second_file; second_file = in_force.second_file; lines = lines_in text }
+with_second in_force text = record { places = in_force.second_places; second_places = in_force.second_places; lines = lines_in text }
 
 -- the dialplan in force after an event, given whether the event is refused: a reload that is taken puts the second in force
 abbrev pub in_force_by : InForce → Event → Bool → InForce
@@ -99,11 +109,6 @@ arguments_of_by meanings w (Reload text) = []
 arguments_of_by meanings w (Assign channel name value) = []
 arguments_of_by meanings w (Redirect number place) = []
 
--- the number of an entry's line
-abbrev pub line_number : Option ℕ → List ℕ
-line_number None = []
-line_number (Some line) = decimal line
-
 -- the application of an entry, as the entry writes it
 abbrev pub application_in : Option Entry → List ℕ
 application_in None = []
@@ -111,7 +116,7 @@ application_in (Some entry) = entry.application
 
 -- the source of an entry, `FILE:LINE`, indented
 abbrev pub source_text : InForce → EntryId → List ℕ
-source_text in_force id = codes "  " ++ in_force.file ++ codes ":" ++ line_number (line_at in_force.lines id)
+source_text in_force id = codes "  " ++ line_place in_force.places (line_at in_force.lines id)
 
 -- what an entry runs, `APP(ARGS)`
 abbrev pub call_text : PlanOf → EntryId → List ℕ → List ℕ

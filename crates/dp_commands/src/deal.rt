@@ -96,9 +96,10 @@ pub(crate) fn have_acted<S: Session>(seats: &[Seat<S>], events: &[Event]) -> boo
     true
 }
 
-/// Events that are dealt to seats in turn, and the gate whose two function calls enclose each event.
+/// Events that are dealt to seats in turn, the gate whose two function calls enclose each event, and the allocator of what they need.
 #[derive_where(Clone, Copy)]
 pub(crate) struct Deal<'a, G> {
+    pub(crate) alloc: Global,
     pub(crate) events: &'a [Event],
     pub(crate) gate: &'a G,
 }
@@ -109,7 +110,6 @@ impl<G: Gate + Sync> Deal<'_, G> {
     fn act_one<S: Session, R: Wait>(
         self,
         rt: &R,
-        alloc: Global,
         board: &Board<StandardApps, S>,
         seat: &mut Seat<S>,
         event: &Event,
@@ -121,7 +121,7 @@ impl<G: Gate + Sync> Deal<'_, G> {
         let copy = event.copy()?;
         let channel = event.channel();
         self.gate.before(channel, seat.record().len() as u64);
-        let (_place, reply) = board.act(rt, alloc, seat, copy)?;
+        let (_place, reply) = board.act(rt, self.alloc, seat, copy)?;
         self.gate.after(channel, &reply);
         Ok(())
     }
@@ -130,7 +130,6 @@ impl<G: Gate + Sync> Deal<'_, G> {
     fn act_all<S: Session, R: Wait>(
         self,
         rt: &R,
-        alloc: Global,
         board: &Board<StandardApps, S>,
         seat: &mut Seat<S>,
         count: usize,
@@ -144,7 +143,7 @@ impl<G: Gate + Sync> Deal<'_, G> {
         let number = seat.number() as usize;
         for at in 0..events.len() {
             if at % count == number {
-                self.act_one(rt, alloc, board, seat, &events[at])?;
+                self.act_one(rt, board, seat, &events[at])?;
             }
         }
         Ok(())
@@ -154,7 +153,6 @@ impl<G: Gate + Sync> Deal<'_, G> {
     pub(crate) fn act_at_once<S: Session + Send + Sync, R: Threads + Wait + Sync>(
         self,
         rt: &R,
-        alloc: Global,
         board: &Board<StandardApps, S>,
         seats: &mut [Seat<S>],
     )
@@ -163,14 +161,23 @@ impl<G: Gate + Sync> Deal<'_, G> {
         ensures gave { All (GaveFront (length seats.old) self.entry.events.now) seats.new }
         ensures numbers { KeepNumbers seats.old seats.new }
     {
-        let Deal { events, gate } = self;
+        let Deal {
+            alloc,
+            events,
+            gate,
+        } = self;
         let count = seats.len();
         let give = |_place: usize, seat: &mut Seat<S>|
             requires { (0 < count) × (seat.now.told ≡ []) }
             ensures { GaveFront count events.entry.now seat.exit.now × (seat.exit.now.number ≡ seat.entry.now.number) }
         {
             // Where memory was refused, the seat was told of fewer events than are its own.
-            let _ = Deal { events, gate }.act_all(rt, alloc, board, seat, count);
+            let deal = Deal {
+                alloc,
+                events,
+                gate,
+            };
+            let _ = deal.act_all(rt, board, seat, count);
         };
         for_each_mut(rt, seats, count, &give);
     }

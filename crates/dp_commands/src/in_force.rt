@@ -1,13 +1,15 @@
-//! The dialplan in force in a verbose run: the name of its file, and the lines of its entries.
+//! The dialplan in force in a verbose run: where the lines of its text come from, and the lines of its entries.
 ghost use Rattle.std.specs.Prelude.{◌≡◌, IfOk, IfErr, false};
 ghost use Rattle.std.specs.Option.{option_map};
 ghost use Rattle.dp_conf.specs.Answers.{Refuses};
 ghost use Rattle.dp_commands.specs.Faults.{is_write_failed, reason_of};
+ghost use Rattle.dp_commands.specs.LinePlaces.{places_of};
 ghost use Rattle.dp_commands.specs.Run.{plan_fault};
 ghost use Rattle.dp_commands.specs.Verbose as spec;
 ghost use Rattle.dp_plan.specs.Loaded.{plan_and_notes};
 
 use crate::fault::PbxFault;
+use crate::line_places::LinePlaces;
 use dp_machine::{EntryId, Event};
 use dp_plan::{Dialplan, EntryLines, LoadedPlan, NoMemory};
 use std::alloc::Global;
@@ -20,6 +22,37 @@ pub struct PlanNames<'a> {
     pub plan: &'a str,
     /// The name of the second dialplan's file, if there is one.
     pub second_plan: Option<&'a str>,
+}
+
+impl<'a> PlanNames<'a> {
+    ghost use Rattle.std.specs.Prelude.{◌≡◌};
+    ghost use Rattle.std.specs.Option.{option_map};
+    ghost use Rattle.dp_commands.specs.LinePlaces.{in_file, places_of};
+
+    /// Where the lines of the dialplans come from: each dialplan is the text of its file.
+    pub fn places(self) -> PlanPlaces<'a>
+        ensures plan { places_of result.plan ≡ in_file self.entry.plan.now }
+        ensures second { option_map places_of result.second_plan
+            ≡ option_map (λ name. in_file name) (option_map (λ name. name.now) self.entry.second_plan) }
+    {
+        let second_plan = match self.second_plan {
+            Some(name) => Some(LinePlaces::InFile(name)),
+            None => None,
+        };
+        PlanPlaces {
+            plan: LinePlaces::InFile(self.plan),
+            second_plan,
+        }
+    }
+}
+
+/// Where the lines of a run's dialplans come from, as a verbose run prints them.
+#[derive(Clone, Copy)]
+pub struct PlanPlaces<'a> {
+    /// Where the lines of the dialplan come from.
+    pub plan: LinePlaces<'a>,
+    /// Where the lines of the second dialplan come from, if there is one.
+    pub second_plan: Option<LinePlaces<'a>>,
 }
 
 /// The lines of the entries of a dialplan's text, or its fault.
@@ -37,44 +70,51 @@ fn load_lines(alloc: Global, text: &[u8]) -> Result<EntryLines, PbxFault>
     Ok(lines)
 }
 
-/// The dialplan in force. A contract sees it as the name of its file, that of the second dialplan's file, and the lines of its entries.
+/// The dialplan in force. A contract sees it as where its lines come from, where those of the second dialplan do, and the lines of its
+/// entries.
 #[derive(Drop)]
 pub(crate) struct PlanInForce<'a> {
-    file: &'a str,
-    second_file: &'a str,
+    places: LinePlaces<'a>,
+    second_places: LinePlaces<'a>,
     lines: EntryLines,
 }
 
 impl<'a> Model for PlanInForce<'a> {
+    ghost use Rattle.dp_commands.specs.LinePlaces.{places_of};
     ghost use Rattle.dp_commands.specs.Verbose.{InForce};
 
     ghost Value = { InForce };
 
-    ghost view = { λ plan. record { file = plan.file.now; second_file = plan.second_file.now; lines = plan.lines } };
+    ghost view = { λ plan. record { places = places_of plan.places; second_places = places_of plan.second_places; lines = plan.lines } };
 }
 
 impl<'a> PlanInForce<'a> {
-    ghost use Rattle.std.specs.Prelude.{◌≡◌, [], OnOk};
-    ghost use Rattle.std.specs.Option.{option_map, unwrap_or};
+    ghost use Rattle.std.specs.Prelude.{◌≡◌, OnOk};
+    ghost use Rattle.std.specs.Option.{option_map};
+    ghost use Rattle.dp_commands.specs.LinePlaces.{places_of};
     ghost use Rattle.dp_commands.specs.Verbose as spec;
     ghost use Rattle.dp_plan.specs.Lookup.{line_at};
 
     /// The first dialplan of a run, with the lines of its entries.
-    fn first(names: PlanNames<'a>, lines: EntryLines) -> Self
-        ensures { result ≡ record { file = names.entry.plan.now; second_file = unwrap_or (option_map (λ name. name.now) names.entry.second_plan) []; lines = lines } }
+    fn first(places: PlanPlaces<'a>, lines: EntryLines) -> Self
+        ensures { result ≡ record {
+          places = places_of places.entry.plan;
+          second_places = spec.second_or_none (option_map places_of places.entry.second_plan);
+          lines = lines;
+        } }
     {
         PlanInForce {
-            file: names.plan,
-            second_file: names.second_plan.unwrap_or(""),
+            places: places.plan,
+            second_places: second_or_none(places.second_plan),
             lines,
         }
     }
 
-    /// The name of its file.
-    pub(crate) fn file(&self) -> &'a str
-        ensures { result.now ≡ self.now.file }
+    /// Where its lines come from.
+    pub(crate) fn places(&self) -> LinePlaces<'a>
+        ensures { places_of result ≡ self.now.places }
     {
-        self.file
+        self.places
     }
 
     /// The line of the entry with these numbers, or None if there is no such entry.
@@ -105,7 +145,7 @@ impl<'a> PlanInForce<'a> {
     {
         match load_lines(alloc, text) {
             Ok(lines) => {
-                self.file = self.second_file;
+                self.places = self.second_places;
                 self.lines = lines;
                 Ok(())
             }
@@ -114,7 +154,34 @@ impl<'a> PlanInForce<'a> {
     }
 }
 
+/// Where the lines of the second dialplan come from; without one they come from a file without a name.
+fn second_or_none<'a>(places: Option<LinePlaces<'a>>) -> LinePlaces<'a>
+    ensures { places_of result ≡ spec.second_or_none (option_map places_of places.entry) }
+{
+    match places {
+        Some(places) => places,
+        None => LinePlaces::InFile(""),
+    }
+}
+
 /// The dialplan in force before the first event, which has this text, or the fault of the text.
+pub(crate) fn first_in_force_at<'a>(
+    alloc: Global,
+    places: PlanPlaces<'a>,
+    text: &[u8],
+) -> Result<PlanInForce<'a>, PbxFault>
+    ensures plan { IfOk result (λ plan. plan ≡ spec.first_in_force_at (places_of places.entry.plan)
+        (option_map places_of places.entry.second_plan) text.now) }
+    ensures fault { IfErr result (λ fault. Refuses (reason_of fault) (plan_fault (plan_and_notes text.now))) }
+    ensures quiet { is_write_failed result ≡ false }
+{
+    match load_lines(alloc, text) {
+        Ok(lines) => Ok(PlanInForce::first(places, lines)),
+        Err(fault) => Err(fault),
+    }
+}
+
+/// The same of dialplans that are the texts of their files.
 pub(crate) fn first_in_force<'a>(
     alloc: Global,
     names: PlanNames<'a>,
@@ -125,8 +192,5 @@ pub(crate) fn first_in_force<'a>(
     ensures fault { IfErr result (λ fault. Refuses (reason_of fault) (plan_fault (plan_and_notes text.now))) }
     ensures quiet { is_write_failed result ≡ false }
 {
-    match load_lines(alloc, text) {
-        Ok(lines) => Ok(PlanInForce::first(names, lines)),
-        Err(fault) => Err(fault),
-    }
+    first_in_force_at(alloc, names.places(), text)
 }

@@ -66,7 +66,6 @@ fn settled_history<S: Session>(
 /// The history of the events that the seats of a board give at once.
 fn act_and_settle<S: Session + Send + Sync, R: Threads + Wait + Sync, G: Gate + Sync>(
     rt: &R,
-    alloc: Global,
     board: Board<StandardApps, S>,
     mut seats: Vec<Seat<S>>,
     deal: Deal<'_, G>,
@@ -76,9 +75,9 @@ fn act_and_settle<S: Session + Send + Sync, R: Threads + Wait + Sync, G: Gate + 
     ensures dealt { IfOk result (λ history. spec.IsDealt S.opening board deal.entry.events.now history) }
     ensures code { IfErr result (λ fault. spec.is_settle_fault fault ≡ true) }
 {
-    deal.act_at_once(rt, alloc, &board, &mut seats);
+    deal.act_at_once(rt, &board, &mut seats);
     if have_acted(&seats, deal.events) {
-        settled_history(alloc, board, seats)
+        settled_history(deal.alloc, board, seats)
     } else {
         Err(PbxFault::NoMemory)
     }
@@ -251,7 +250,14 @@ fn history_of<S: Session + Send + Sync, R: Threads + Wait + Sync, G: Gate + Sync
     let (_, events) = calls_and_others(&given.events);
     let gate = sharing.gate;
     match Board::<StandardApps, S>::open(alloc, blank, machine, sharing.threads) {
-        Ok((board, seats)) => act_and_settle(rt, alloc, board, seats, Deal { events, gate }),
+        Ok((board, seats)) => {
+            let deal = Deal {
+                alloc,
+                events,
+                gate,
+            };
+            act_and_settle(rt, board, seats, deal)
+        }
         Err(back) => Err(open_fault(back)),
     }
 }

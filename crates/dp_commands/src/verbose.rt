@@ -4,6 +4,7 @@ ghost use Rattle.std.specs.Option.{option_map};
 ghost use Rattle.dp_app.specs.Rows.{with_functions};
 ghost use Rattle.dp_conf.specs.Answers.{Refuses};
 ghost use Rattle.dp_commands.specs.Faults.{is_write_failed, reason_of};
+ghost use Rattle.dp_commands.specs.LinePlaces.{places_of};
 ghost use Rattle.dp_commands.specs.Run.{Run as runs, plan_fault, run_of_texts, status_of};
 ghost use Rattle.dp_commands.specs.Trace.{after_turn_by};
 ghost use Rattle.dp_commands.specs.Verbose as spec;
@@ -13,12 +14,13 @@ ghost use Rattle.dp_plan.specs.Lookup.{entry_at};
 use crate::block::Block;
 use crate::explanations::Explanations;
 use crate::fault::PbxFault;
-use crate::in_force::{PlanInForce, PlanNames, first_in_force};
+use crate::in_force::{PlanInForce, PlanNames, PlanPlaces, first_in_force, first_in_force_at};
+use crate::line_places::push_line_place;
 use crate::run::run_texts;
 use crate::script::Turn;
 use crate::taker::Taker;
 use crate::texts::RunTexts;
-use crate::trace::{push_number, push_reply, push_show};
+use crate::trace::{push_reply, push_show};
 use dp_app::AppTable;
 use dp_conf::WriteTold;
 use dp_machine::{EntryId, Event, Machine, Refusal, Reply};
@@ -47,17 +49,6 @@ pub(crate) fn arguments_of<A: AppTable>(
     }
 }
 
-/// Adds the number of an entry's line.
-fn push_line_number(out: &mut Block, line: Option<usize>) -> Result<(), NoMemory>
-    ensures kept { out.new.whole ≡ out.old.whole }
-    ensures ok { OnOk result (out.new.begun ≡ out.old.begun ++ spec.line_number line) }
-{
-    match line {
-        Some(line) => push_number(out, line),
-        None => Ok(()),
-    }
-}
-
 /// Adds the application of the entry with these numbers.
 fn push_application(out: &mut Block, plan: &Dialplan, id: EntryId) -> Result<(), NoMemory>
     ensures kept { out.new.whole ≡ out.old.whole }
@@ -75,9 +66,7 @@ fn push_source(out: &mut Block, in_force: &PlanInForce<'_>, id: EntryId) -> Resu
     ensures ok { OnOk result (out.new.begun ≡ out.old.begun ++ spec.source_text in_force.now id) }
 {
     out.push(b"  ")?;
-    out.push(in_force.file().as_bytes())?;
-    out.push_byte(b':')?;
-    push_line_number(out, in_force.line(id))
+    push_line_place(out, in_force.places(), in_force.line(id))
 }
 
 /// Adds what an entry runs, `APP(ARGS)`.
@@ -224,9 +213,25 @@ impl<'a, E> Model for VerboseTaker<'a, E> {
 }
 
 impl<'a, E: Explanations> VerboseTaker<'a, E> {
-    /// The state before the first turn, given the names of the files of a run's dialplans and the text of the first; or the fault of that
-    /// text.
-    pub fn first(alloc: Global, names: PlanNames<'a>, text: &[u8]) -> Result<Self, PbxFault>
+    /// The state before the first turn, given where the lines of a run's dialplans come from and the text of the first; or the fault of
+    /// that text.
+    pub fn first_at(alloc: Global, places: PlanPlaces<'a>, text: &[u8]) -> Result<Self, PbxFault>
+        ensures plan { IfOk result (λ taker. taker ≡ spec.first_in_force_at (places_of places.entry.plan)
+            (option_map places_of places.entry.second_plan) text.now) }
+        ensures fault { IfErr result (λ fault. Refuses (reason_of fault) (plan_fault (plan_and_notes text.now))) }
+        ensures quiet { is_write_failed result ≡ false }
+    {
+        match first_in_force_at(alloc, places, text) {
+            Ok(in_force) => Ok(VerboseTaker {
+                in_force,
+                explanations: PhantomData,
+            }),
+            Err(fault) => Err(fault),
+        }
+    }
+
+    /// The same, given the names of the files of a run's dialplans.
+    fn first(alloc: Global, names: PlanNames<'a>, text: &[u8]) -> Result<Self, PbxFault>
         ensures plan { IfOk result (λ taker. taker ≡ spec.first_in_force names.entry.plan.now
             (option_map (λ name. name.now) names.entry.second_plan) text.now) }
         ensures fault { IfErr result (λ fault. Refuses (reason_of fault) (plan_fault (plan_and_notes text.now))) }

@@ -11,7 +11,7 @@ module _ {X : Type 0} where
   changed_at-set change (suc place) (z ∷ xs) x y within here new =
       ap (λ (t : List _). z ∷ t) (changed_at-set change place xs x y (omega (arith, within)) here new)
 
-  -- beyond the list nothing changes
+  -- a place after the end of the list changes nothing
   pub changed_at-past : (change : X → X) (place : ℕ) (xs : List X) → length xs ≤ place → changed_at change place xs ≡ xs
   changed_at-past change place [] past = refl
   changed_at-past change zero (x ∷ xs) past = absurd (omega (arith, past))

@@ -11,7 +11,7 @@ use Rattle.bstr.specs.Find.{IsFirstByte, is_byte}
 use Rattle.dp_conf.specs.Cut.{before_last, cut_once}
 use Rattle.dp_conf.specs.Lines.{parts_of}
 
--- what a search for the byte answered is where it first stands
+-- the result of a search for the byte is its first place
 abbrev pub Finds : ℕ → List ℕ → Option ℕ → Type 0
 Finds byte xs r = MatchOption r (position_or_len (λ b. eqb b byte) xs ≡ length xs) (λ at. (at < length xs) × (position_or_len (λ b. eqb b byte) xs ≡ at))
 
@@ -21,31 +21,31 @@ Finds-from_first byte xs None h =
 Finds-from_first byte xs (Some at) h =
     (h.0.high, position_or_len_is (λ b. eqb b byte) xs at 0 (omega (arith, h.0.high)) (λ k l. false_from_ne_true _ (h.0.before k (omega arith) l)) (λ _. h.1))
 
--- where the byte stands nowhere, nothing is cut
+-- without the byte nothing is cut
 pub cut_once-none : (byte : ℕ) (xs : List ℕ) → position_or_len (λ b. eqb b byte) xs ≡ length xs → cut_once byte xs ≡ None
 cut_once-none byte xs e = rw e (grind arith)
 
--- where the byte first stands at a place, the text is cut there
+-- the text is cut at the first place of the byte
 pub cut_once-found : (byte : ℕ) (xs : List ℕ) (at : ℕ) → at < length xs → position_or_len (λ b. eqb b byte) xs ≡ at → cut_once byte xs ≡ Some (take at xs, drop (at + 1) xs)
 cut_once-found byte xs at l e = rw e (grind arith)
 
--- the same, with what stands after the place as a range up to the end
+-- the same, with the text after the place as a range up to the end
 pub cut_once-at : (byte : ℕ) (xs : List ℕ) (at : ℕ) → at < length xs → position_or_len (λ b. eqb b byte) xs ≡ at → cut_once byte xs ≡ Some (take at xs, take (length xs - (at + 1)) (drop (at + 1) xs))
 cut_once-at byte xs at l e =
     cut_once-found byte xs at l e
     ∙ ap (λ (after : List ℕ). Some (take at xs, after)) (sym (take_all (length xs - (at + 1)) (drop (at + 1) xs) (omega (arith, length-drop (at + 1) xs))))
 
--- what a text is cut into, by the test that the byte stands in it
+-- the cut of a text, given a test whether it contains the byte
 abbrev cut_by : ℕ → List ℕ → Bool → Option (List ℕ × List ℕ)
 cut_by byte xs t = cond {A = Option (List ℕ × List ℕ)} t (Some (before_first (λ b. eqb b byte) xs, after_first (λ b. eqb b byte) xs)) None
 
--- what a found cut is
+-- the result of a found cut
 same_cut : (before after part rest : List ℕ) → (let cut : Option (List ℕ × List ℕ) = Some (before, after) in cut ≡ Some (part, rest)) → (before ≡ part) × (after ≡ rest)
 same_cut before after part rest e =
     let pair : (let p : List ℕ × List ℕ = (before, after) in p ≡ (part, rest)) = cc in
     (ap (λ (p : List ℕ × List ℕ). p.0) pair, ap (λ (p : List ℕ × List ℕ). p.1) pair)
 
--- where the byte stands in the text
+-- the place of the byte in the text
 abbrev place_of : ℕ → List ℕ → ℕ
 place_of byte xs = position_or_len (λ b. eqb b byte) xs
 
@@ -57,7 +57,7 @@ parts_of-cut_by xs part rest true l e =
     slice_split_first (λ b. eqb b 10) xs 0 (ltb-true _ _ l) ∙ (ap (λ (p : List ℕ). p ∷ parts_of (after_first (λ b. eqb b 10) xs)) before ∙ ap (λ (r : List ℕ). part ∷ parts_of r) after)
 parts_of-cut_by xs part rest false l e = cc
 
--- where a line feed cuts the text, what stands before it is the first part
+-- if a line feed cuts the text, the text before it is the first part
 pub parts_of-cut : (xs part rest : List ℕ) → cut_once 10 xs ≡ Some (part, rest) → parts_of xs ≡ part ∷ parts_of rest
 parts_of-cut xs part rest e = parts_of-cut_by xs part rest (ltb (place_of 10 xs) (length xs)) refl e
 
@@ -66,7 +66,7 @@ parts_of-whole_by xs true l e = cc
 parts_of-whole_by xs false l e =
     slice_split_none (λ b. eqb b 10) xs (All-from_get_or (λ b. eqb b 10 ≡ false) xs 0 (λ i h. fails_before_first (λ b. eqb b 10) xs i 0 (omega (arith, ltb-false _ _ l))))
 
--- with no line feed the text is its one part
+-- without a line feed the whole text is its only part
 pub parts_of-whole : (xs : List ℕ) → cut_once 10 xs ≡ None → parts_of xs ≡ xs ∷ []
 parts_of-whole xs e = parts_of-whole_by xs (ltb (place_of 10 xs) (length xs)) refl e
 
@@ -78,11 +78,11 @@ length-cut_by byte xs part rest true l e =
     rw (← after) (omega (arith, shorter, within))
 length-cut_by byte xs part rest false l e = absurd cc
 
--- what stands after a cut is shorter
+-- the text after a cut is shorter
 pub length-cut_once : (byte : ℕ) (xs part rest : List ℕ) → cut_once byte xs ≡ Some (part, rest) → length rest < length xs
 length-cut_once byte xs part rest e = length-cut_by byte xs part rest (ltb (place_of byte xs) (length xs)) refl e
 
--- a front of which a test is computed before or after one more byte
+-- a byte may be added to the front before or after the test
 placed : (b : Bool) (f : ℕ) (front : List ℕ) (o other : Option (List ℕ))
     → option_map_or (λ before. Some (f ∷ before)) (cond b (Some front) o) other ≡ cond b (Some (f ∷ front)) (option_map_or (λ before. Some (f ∷ before)) o other)
 placed true f front o other = refl
@@ -101,7 +101,7 @@ pub before_last-found : (byte : ℕ) (text front : List ℕ) (last : ℕ) → te
 before_last-found byte text front last cut is =
     ap (λ b. cond b (Some front) (before_last byte front)) (sym is) ∙ sym (before_last-push byte front last) ∙ ap (before_last byte) (sym cut)
 
--- the last byte is another
+-- the last byte is another one
 pub before_last-passed : (byte : ℕ) (text front : List ℕ) (last : ℕ) → text ≡ front ++ last ∷ [] → eqb last byte ≡ false
     → before_last byte front ≡ before_last byte text
 before_last-passed byte text front last cut is =

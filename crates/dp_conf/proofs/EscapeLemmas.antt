@@ -1,4 +1,4 @@
--- What an escaped text says is the text.
+-- A line with an escaped text says the text.
 use Rattle.std.proofs.Common.{◌≡◌, ◌≢◌, ℕ, ◌+◌, ◌⊎◌, inl, inr, subst, arith, Bool, true, false, not, ◌&&◌, ◌==◌, cond, nat_eq, List, [], ◌∷◌, ◌++◌, length, take, refl, ap, ◌∙◌, sym}
 use Rattle.std.proofs.Math.Seq.{take-length}
 use Rattle.std.proofs.lemmas.Bool.Decides.{eqb_tells}
@@ -8,7 +8,7 @@ use Rattle.dp_conf.specs.Blanks.{trim}
 use Rattle.dp_conf.specs.Escape.{escape_text}
 use Rattle.dp_conf.specs.Lines.{comment_start, without_escapes, content_of, line_feed}
 
--- one byte more of an escaped text: a semicolon, or another byte
+-- one more byte of an escaped text: a semicolon, or another byte
 pub escape_text-semicolon : (b : ℕ) (text : List ℕ) → (b == byte ";") ≡ true → escape_text (b ∷ text) ≡ byte "\\" ∷ b ∷ escape_text text
 escape_text-semicolon b text e = ap (λ t. cond t (byte "\\" ∷ b ∷ []) (b ∷ []) ++ escape_text text) e
 
@@ -68,7 +68,7 @@ without_escapes-escape_text (b ∷ text) = by (eqb_tells b (byte ";")) (without_
         ap without_escapes (escape_text-other b text other.0)
         ∙ (plain (b == byte "\\") (starts_with nat_eq (escape_text text) (byte ";" ∷ [])) start ∙ ap (λ (later : List ℕ). b ∷ later) rest)
 
--- what a line with an escaped text says is the text, without the blanks at its ends
+-- a line with an escaped text says the text, without the blanks at its ends
 pub content_of-escape_text : (text : List ℕ) → content_of (escape_text text) ≡ trim text
 content_of-escape_text text =
     ap (λ n. trim (without_escapes (take n (escape_text text)))) (comment_start-escape_text line_feed text)

@@ -1,4 +1,4 @@
--- The reading of a text as groups and bytes: it is one, and the only one.
+-- A text reads as groups and bytes in exactly one way.
 use Rattle.std.proofs.Common.{◌≡◌, ◌≢◌, ◌≤◌, ℕ, zero, suc, Bool, true, false, cond, eqb, List, [], ◌∷◌, ◌++◌, Option, Some, None, length, drop, refl, sym, ap, subst, ◌∙◌, arith, append_assoc, true≢false, ◌⊎◌, ⊎_elim}
 use Rattle.std.proofs.lemmas.Bool.Decides.{eqb_tells}
 use Rattle.dp_conf.specs.declared.groups.GroupKind.{GroupKind}
@@ -17,7 +17,7 @@ neither : {A : Type 0} (b : Bool) (x : A) → cond b x x ≡ x
 neither true x = refl
 neither false x = refl
 
--- an end after a text opens nothing with it
+-- the end of a group after a text opens nothing with it
 pub opening-closer : (kind : GroupKind) (byte : ℕ) (bytes after : List ℕ) → opening byte (bytes ++ closer kind ∷ after) ≡ opening byte bytes
 opening-closer Braces byte [] after = neither (eqb byte 36) None
 opening-closer Brackets byte [] after = neither (eqb byte 36) None
@@ -44,7 +44,7 @@ opener-not_36 : (kind : GroupKind) → opener kind ≢ 36
 opener-not_36 Braces e = omega arith
 opener-not_36 Brackets e = omega arith
 
--- what a mark says of the place where it stands
+-- what a mark says of its place
 abbrev pub MarkSays : List GroupKind → ℕ → List ℕ → Mark → Type 0
 MarkSays [] byte after End = ⊥
 MarkSays (kind ∷ kinds) byte after End = byte ≡ closer kind
@@ -85,9 +85,9 @@ mark_says (kind ∷ kinds) byte after =
     (λ other. subst (λ b. MarkSays (kind ∷ kinds) byte after (cond b End (mark_of (opening byte after) byte))) (sym other.0)
     (mark_of-says (kind ∷ kinds) byte after (opening byte after) refl other.0))
 
--- ---- what the levels of a text print
+-- ---- the text of the levels
 
--- the text of levels inside of these groups
+-- the text of levels inside these groups
 abbrev pub printed_levels : List GroupKind → Levels → List ℕ
 printed_levels kinds (Last rest) = text_of_reading rest
 printed_levels [] (Within rest outer) = text_of_reading rest
@@ -108,7 +108,7 @@ with_opening-text_of_reading [] kind (Within inside (Within rest outer)) = refl
 with_opening-text_of_reading (k ∷ kinds) kind (Within inside (Within rest outer)) =
     ap (λ bytes. 36 ∷ opener kind ∷ bytes) (append_assoc (text_of_reading inside) (closer kind ∷ text_of_reading rest) (closer k ∷ printed_levels kinds outer))
 
--- the levels of a text print what is not read yet of it
+-- the levels of a text give the rest of it that is not read yet
 pub levels-text_of_reading : (bytes : List ℕ) (kinds : List GroupKind) (skipped : ℕ) → printed_levels kinds (levels bytes kinds skipped) ≡ drop skipped bytes
 unfolding levels text_of_reading
 levels-text_of_reading [] kinds zero = refl
@@ -127,7 +127,7 @@ levels-text_of_reading (byte ∷ after) kinds zero = by kinds (mark_at kinds byt
         ∙ (λ i. sym says.0 i ∷ sym says.1.1 i)
     by kinds (Byte b) says rest = with_byte-text_of_reading kinds b (levels after kinds 0) ∙ (λ i. says.0 i ∷ rest kinds 0 i)
 
--- ---- what stands before an end is read as it is printed
+-- ---- the text before an end is read as it is printed
 
 mark_at-end : (kind : GroupKind) (kinds : List GroupKind) (after : List ℕ) → mark_at (kind ∷ kinds) (closer kind) after ≡ End
 mark_at-end Braces kinds after = refl
@@ -172,7 +172,7 @@ levels-group kind inside body kinds after =
 
 -- ---- the levels of a text are read as groups and bytes
 
--- levels inside of these groups are bodies, but for the outermost
+-- levels inside these groups are bodies, except for the outermost
 abbrev pub AreValid : List GroupKind → Levels → Type 0
 AreValid kinds (Last rest) = IsWhole rest
 AreValid [] (Within rest outer) = IsWhole rest
@@ -199,7 +199,7 @@ with_byte-valid (kind ∷ kinds) byte (Within rest outer) plain none valid = (
   valid.1,
 )
 
--- an opening that has no end begins no group
+-- an opening without an end begins no group
 unclosed : (kinds : List GroupKind) (kind : GroupKind) (rest : Reading) → levels (text_of_reading rest) (kind ∷ kinds) 0 ≡ Last rest
     → ¬ (BeginsGroup (36 ∷ opener kind ∷ text_of_reading rest))
 unclosed kinds kind rest open_end group =
@@ -241,9 +241,9 @@ levels-valid (byte ∷ after) kinds zero = by kinds (mark_at kinds byte after) (
         with_byte-valid kinds b (levels after kinds 0) (ap (is_end kinds) says.0 ∙ says.1)
         ((λ i. opening (says.0 i) (levels-text_of_reading after kinds 0 i)) ∙ says.2) (rest kinds 0)
 
--- ---- no other reading of a text is one
+-- ---- a text has no other reading
 
--- the reading is what the levels of its text end in, where none of them ends before
+-- the reading is what the levels of its text end in, if none of them ends before
 abbrev pub IsOnly : Reading → Type 0
 IsOnly reading = (kinds : List GroupKind) (last : Reading) → levels (text_of_reading reading) kinds 0 ≡ Last last → last ≡ reading
 
@@ -257,7 +257,7 @@ only-Group kind inside rest body only kinds last is =
         let inner : Group kind inside reading ≡ last = cc in sym inner ∙ ap (Group kind inside) (only kinds reading e)
     by (Within reading outer) e same = cc
 
--- what is read after the first byte, where the second byte opens a group with it
+-- the rest after the first byte, if the second byte opens a group with it
 NextOnly : Reading → Type 0
 NextOnly Over = Unit {0}
 NextOnly (Plain byte rest) = IsOnly rest
@@ -313,7 +313,7 @@ only_reading (Plain byte rest) whole =
     let inner = only_reading rest whole.1 in (only-Plain byte rest whole.0 inner.0 inner.1, inner.0)
 only_reading (Group kind inside rest) whole = (only-Group kind inside rest whole.0 (only_reading rest whole.1).0, tt)
 
--- how many levels end in the text
+-- the number of levels that end in the text
 closings : Levels → ℕ
 closings (Last rest) = 0
 closings (Within rest outer) = suc (closings outer)
@@ -329,7 +329,7 @@ with_opening-closings kind (Last rest) n few = omega arith
 with_opening-closings kind (Within inside (Last rest)) n few = omega arith
 with_opening-closings kind (Within inside (Within rest outer)) n few = omega arith
 
--- no more levels end than are open
+-- no more levels end than there are open groups
 levels-closings : (bytes : List ℕ) (kinds : List GroupKind) (skipped : ℕ) → closings (levels bytes kinds skipped) ≤ length kinds
 unfolding levels closings
 levels-closings [] kinds skipped = omega arith
@@ -343,7 +343,7 @@ levels-closings (byte ∷ after) kinds zero = by kinds (mark_at kinds byte after
     by kinds (Opening kind) says rest = with_opening-closings kind (levels after (kind ∷ kinds) 1) (length kinds) (rest (kind ∷ kinds) 1)
     by kinds (Byte b) says rest = omega (arith, with_byte-closings b (levels after kinds 0), rest kinds 0)
 
--- outside of groups nothing ends
+-- outside groups nothing ends
 pub levels-last : (bytes : List ℕ) → levels bytes [] 0 ≡ Last (reading_of bytes)
 unfolding closings reading_of
 levels-last bytes = by (levels bytes [] 0) (levels-closings bytes [] 0)

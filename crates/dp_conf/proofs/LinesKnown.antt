@@ -1,4 +1,4 @@
--- What is known of each line of a text that is read without a fault.
+-- Facts about each line of a text that is read without a fault.
 use Rattle.std.proofs.Common.{◌≡◌, ℕ, ◌+◌, ◌<◌, Bool, true, false, cond, ◌&&◌, ◌==◌, nat_eq, List, [], ◌∷◌, ◌++◌, length, take, drop, Option, Some, None, Result, Ok, Err, codes, refl, ap, ◌∙◌, sym, subst}
 use Rattle.std.specs.List.{AllByRecursion, list_any, onto_first, starts_with}
 use Rattle.std.specs.Str.{byte}

@@ -1,4 +1,4 @@
--- The readings of lines, by the number of lines before them and by whether a section has begun.
+-- The readings of lines, given the number of lines before them and whether a section has begun.
 use Rattle.std.proofs.Common.{◌≡◌, ℕ, ◌+◌, ◌<◌, ◌≤◌, drop, nat_eq, MatchOption, IfSome, Bool, true, false, ◌||◌, ◌&&◌, eqb, cond, not, List, [], ◌∷◌, ◌++◌, Option, Some, None, Result, Ok, Err, Bor, length, refl, ap, ◌∙◌, sym, arith}
 use Rattle.std.specs.List.{list_any, starts_with}
 use Rattle.std.proofs.lemmas.List.Folds.{list_any-append}
@@ -12,7 +12,7 @@ use Rattle.dp_conf.specs.Lines.{LineOf, Header, Pair, LineFault, without_mark, c
 use Rattle.dp_conf.specs.declared.fault.LineKind.{LineKind}
 use Rattle.dp_conf.specs.declared.fault.LineKind.TheVariants.{BlockComment, NoSection, Directive}
 
--- the readings, where `line` lines stand before and a section has begun or not
+-- the readings after `line` lines, given whether a section has begun
 abbrev pub readings_from : Bool → ℕ → List (List ℕ) → List (Result (List LineOf) LineFault)
 readings_from in_section line [] = []
 readings_from in_section line (part ∷ parts) =
@@ -28,22 +28,22 @@ each_after-reading_of before (part ∷ parts) =
     ∙ ap (λ t. readings_from t (length (before ++ part ∷ [])) parts) any
     ∙ ap (λ n. readings_from (list_any opens_section before || opens_section part) n parts) len)
 
--- the parts of what is left to read, where something is
+-- the parts of the rest, if there is one
 abbrev pub parts_left : Option (Bor (List ℕ)) → List (List ℕ)
 parts_left None = []
 parts_left (Some rest) = parts_of rest.now
 
--- a number that falls as the text is read
+-- a number that decreases as the text is read
 abbrev pub left_len : Option (Bor (List ℕ)) → ℕ
 left_len None = 0
 left_len (Some rest) = length rest.now + 1
 
--- the parts of what is left to read, where the first part was cut off
+-- the parts of the rest after the first part
 pub parts_left-cut : (text part : List ℕ) (after : Option (Bor (List ℕ))) → MatchOption after (parts_of text ≡ part ∷ []) (λ rest. parts_of text ≡ part ∷ parts_of rest.now) → parts_of text ≡ part ∷ parts_left after
 parts_left-cut text part None e = e
 parts_left-cut text part (Some rest) e = e
 
--- what is left to read is shorter
+-- the rest is shorter
 pub left_len-cut : (text : List ℕ) (after : Option (Bor (List ℕ))) → IfSome after (λ rest. length rest.now < length text) → left_len after ≤ length text
 left_len-cut text None shorter = omega arith
 left_len-cut text (Some rest) shorter = omega (arith, shorter)
@@ -52,11 +52,11 @@ length-without : (t : Bool) (text : List ℕ) → length (cond t (drop 3 text) t
 length-without true text = omega (arith, length-drop 3 text)
 length-without false text = omega arith
 
--- the text without its mark is no longer
+-- the text without its mark is not longer
 pub length-without_mark : (text : List ℕ) → length (without_mark text) ≤ length text
 length-without_mark text = length-without (starts_with nat_eq text (239 ∷ 187 ∷ 191 ∷ [])) text
 
--- a part that is no block comment is read by its content
+-- a part without a block comment is read from its content
 pub part_item-plain : (in_section : Bool) (line : ℕ) (part : List ℕ) → opens_block (comment_of part) ≡ false → part_item in_section line part ≡ item_of in_section line (content_of part)
 part_item-plain in_section line part e =
     ap (λ t. cond {A = Result (List LineOf) LineKind} t (Err BlockComment) (item_of in_section line (content_of part))) e
@@ -88,7 +88,7 @@ item_by : (in_section opens directive : Bool) (line : ℕ) (inside cut : Option 
 item_by in_section true directive line inside cut items e = header_of-is_header line inside items e
 item_by in_section false directive line inside cut items e = other_by in_section directive line cut items e
 
--- an item is a header exactly where its content begins with `[`
+-- an item is a header exactly if its content begins with `[`
 item_of-is_header : (in_section : Bool) (line : ℕ) (content : List ℕ) (items : List LineOf) → item_of in_section line content ≡ Ok items → list_any is_header items ≡ begins_with 91 content
 item_of-is_header in_section line [] items e =
     let none : [] ≡ items = cc in
@@ -104,12 +104,12 @@ at_line-Ok : {X : Type 0} (line : ℕ) (r : Result X LineKind) (x : X) → at_li
 at_line-Ok line (Ok y) x e = cc
 at_line-Ok line (Err kind) x e = absurd cc
 
--- the item of a part is a header exactly where the part begins a section
+-- the item of a part is a header exactly if the part begins a section
 pub opens_section-is_header : (in_section : Bool) (line : ℕ) (part : List ℕ) (items : List LineOf) → at_line line (part_item in_section line part) ≡ Ok items → list_any is_header items ≡ opens_section part
 opens_section-is_header in_section line part items e =
     part_by (opens_block (comment_of part)) in_section line (content_of part) items (at_line-Ok line (part_item in_section line part) items e)
 
--- a text with no `\` is written as it is
+-- a text without a `\` is unchanged
 pub without_escapes-plain : (text : List ℕ) → list_any (λ b. eqb b 92) text ≡ false → without_escapes text ≡ text
 without_escapes-plain [] e = refl
 without_escapes-plain (b ∷ text) e = by (eqb b 92) (without_escapes-plain text) e
@@ -118,7 +118,7 @@ without_escapes-plain (b ∷ text) e = by (eqb b 92) (without_escapes-plain text
     by true later e = absurd cc
     by false later e = ap (λ (bs : List ℕ). b ∷ bs) (later e)
 
--- a text with no `;` has no comment
+-- a text without a `;` has no comment
 pub comment_start-none : (previous : ℕ) (text : List ℕ) → list_any (λ b. eqb b 59) text ≡ false → comment_start previous text ≡ length text
 comment_start-none previous [] e = refl
 comment_start-none previous (b ∷ text) e = by (eqb b 59) (comment_start-none b text) e
@@ -127,7 +127,7 @@ comment_start-none previous (b ∷ text) e = by (eqb b 59) (comment_start-none b
     by true later e = absurd cc
     by false later e = omega (arith, later e)
 
--- a part is read by its content
+-- a part is read from its content
 part_by_content : (blocked in_section : Bool) (line : ℕ) (content : List ℕ) → at_line line (cond blocked (Err BlockComment) (item_of in_section line content)) ≡ (at_line line (cond {A = Result (List ℕ) LineKind} blocked (Err BlockComment) (Ok content)) >>= λ c. at_line line (item_of in_section line c))
 part_by_content true in_section line content = refl
 part_by_content false in_section line content = refl

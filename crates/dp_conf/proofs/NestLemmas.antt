@@ -1,4 +1,4 @@
--- What the openings that wait, and what is still to be read, come to.
+-- The nesting that follows from the waiting openings and the text still to be read.
 use Rattle.std.proofs.Common.{◌≡◌, ◌≤◌, ◌*◌, ℕ, suc, List, [], ◌∷◌, length, length-append, refl, sym, ap, ◌∙◌, arith, max}
 use Rattle.dp_conf.specs.declared.groups.GroupKind.{GroupKind}
 use Rattle.dp_conf.specs.declared.groups.Mark.{Mark}
@@ -9,7 +9,7 @@ use Rattle.dp_conf.specs.GroupsRead.{Levels, Last, Within, with_byte, with_openi
 use Rattle.dp_conf.specs.steps.Nest.{NestOf, kinds_of, after_group, nest_after, deepest_in}
 use Rattle.dp_conf.proofs.GroupsLemmas.{levels-last, one_reading}
 
--- the nesting of the whole, by the openings that wait, what the innermost level holds so far, and the levels after
+-- the nesting of the whole, given the waiting openings, that of the innermost level so far, and the levels after
 abbrev pub come : List WaitingGroup → ℕ → Levels → ℕ
 come waiting deepest (Last rest) = deepest_in waiting (max deepest (depth_of rest))
 come [] deepest (Within rest outer) = come [] (max deepest (depth_of rest)) outer
@@ -30,7 +30,7 @@ come-with_opening [] deepest kind (Within inside (Within rest outer)) = ap (λ d
 come-with_opening (w ∷ waiting) deepest kind (Within inside (Within rest outer)) =
     ap (λ d. come waiting (max w.deepest (suc d)) outer) (omega arith)
 
--- a mark changes nothing of what all comes to
+-- a mark does not change the nesting of the whole
 pub come-mark : (m : Mark) (nest : NestOf) (after : List GroupKind → ℕ → Levels)
     → come (nest_after m nest).waiting (nest_after m nest).deepest (after (kinds_of (nest_after m nest).waiting) 0)
     ≡ come nest.waiting nest.deepest (with_mark m after 0 (kinds_of nest.waiting))
@@ -50,7 +50,7 @@ pub come-over : (waiting : List WaitingGroup) (deepest : ℕ) → come waiting d
 unfolding levels depth_of
 come-over waiting deepest = ap (deepest_in waiting) (omega arith)
 
--- nothing is read yet
+-- nothing has been read yet
 pub come-text : (text : List ℕ) → come [] 0 (levels text [] 0) ≡ nesting_of text
 unfolding nesting_of
 come-text text = ap (come [] 0) (levels-last text) ∙ omega arith
@@ -59,7 +59,7 @@ deepest_in-above : (waiting : List WaitingGroup) (deepest : ℕ) → deepest ≤
 deepest_in-above [] deepest = omega arith
 deepest_in-above (w ∷ waiting) deepest = omega (arith, deepest_in-above waiting (max w.deepest deepest))
 
--- what the innermost level holds so far is no more than the whole
+-- the nesting of the innermost level so far is at most that of the whole
 pub come-above : (waiting : List WaitingGroup) (deepest : ℕ) (l : Levels) → deepest ≤ come waiting deepest l
 come-above waiting deepest (Last rest) = omega (arith, deepest_in-above waiting (max deepest (depth_of rest)))
 come-above [] deepest (Within rest outer) = omega (arith, come-above [] (max deepest (depth_of rest)) outer)

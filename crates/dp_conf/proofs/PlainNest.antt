@@ -1,4 +1,4 @@
--- A text with no `$` is read as its bytes, and no group stands in it.
+-- A text without a `$` is read as its bytes, and contains no group.
 use Rattle.std.proofs.Common.{◌≡◌, ℕ, Bool, true, false, ◌||◌, cond, eqb, List, [], ◌∷◌, Option, None, refl, ap, ◌∙◌}
 use Rattle.std.specs.List.{list_any}
 use Rattle.dp_conf.specs.Groups.{Reading, Over, Plain, kind_of, opening, depth_of}
@@ -33,7 +33,7 @@ unfolding depth_of bytes_of
 depth_of-bytes [] = refl
 depth_of-bytes (b ∷ text) = depth_of-bytes text
 
--- no group stands in a text with no `$`
+-- a text without a `$` contains no group
 pub nesting_of-plain : (text : List ℕ) → list_any (λ b. eqb b 36) text ≡ false → nesting_of text ≡ 0
 unfolding nesting_of reading_of
 nesting_of-plain text e = ap (λ (l : Levels). depth_of (first_level l)) (levels-plain text e) ∙ depth_of-bytes text

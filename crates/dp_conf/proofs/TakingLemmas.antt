@@ -1,4 +1,4 @@
--- A value after the parts of a text that are left, and after one more of them.
+-- A value after the remaining parts of a text, and after one more of them.
 use Rattle.std.proofs.Common.{◌≡◌, ℕ, ◌+◌, Bool, true, false, ◌||◌, List, [], ◌∷◌, ◌++◌, length, fold, Result, Ok, Err, refl, ap, ◌∙◌, sym, arith}
 use Rattle.std.specs.List.{list_any}
 use Rattle.std.proofs.lemmas.List.{append_assoc, append-nil}
@@ -14,7 +14,7 @@ use Rattle.dp_conf.proofs.LinesLemmas.{readings_from, each_after-reading_of, ope
 abbrev reading : Bool → ℕ → List ℕ → Result (List LineOf) LineFault
 reading in_section line part = at_line line (part_item in_section line part)
 
--- after the parts that are left, where `line` lines stand before them and a section has begun or not
+-- the value after the remaining parts, which come after `line` lines, given whether a section has begun
 abbrev pub rest_taken : {S : Type 0} → (S → LineOf → S) → Bool → ℕ → S → List (List ℕ) → Result S LineFault
 rest_taken next in_section line state parts = all_taken next state (all_of (readings_from in_section line parts))
 
@@ -24,7 +24,7 @@ unfolding lines_of
 rest_taken-text next state text =
     ap (λ readings. all_taken next state (all_of readings)) (sym (each_after-reading_of [] (parts_of (without_mark text))))
 
--- lines that were taken stand before those that are left
+-- lines that were taken come before the remaining ones
 all_taken-front : {S : Type 0} (next : S → LineOf → S) (state : S) (items : List LineOf) (rest : Result (List LineOf) LineFault) → all_taken next (fold next state items) rest ≡ all_taken next state (with_front items rest)
 all_taken-front {S} next state items (Ok lines) = ap (λ (s : S). let done : Result S LineFault = Ok s in done) (sym (fold-append next state items lines))
 all_taken-front next state items (Err fault) = refl
@@ -59,20 +59,20 @@ rest_taken-refused {S} next in_section line state part more fault e = by (readin
         let same : found ≡ fault = cc in
         ap (λ f. let refused : Result S LineFault = Err f in refused) same
 
--- a text of which a line is refused
+-- a text with a refused line
 pub all_taken-refused : {S : Type 0} (next : S → LineOf → S) (state : S) (read : Result (List LineOf) LineFault) (fault : LineFault) → all_taken next state read ≡ Err fault → read ≡ Err fault
 all_taken-refused next state (Ok lines) fault e = absurd cc
 all_taken-refused next state (Err found) fault e =
     let same : found ≡ fault = cc in
     ap (λ f. let refused : Result (List LineOf) LineFault = Err f in refused) same
 
--- an empty part says nothing
+-- an empty part has no item
 pub part_taken-empty : {S : Type 0} (next : S → LineOf → S) (in_section : Bool) (line : ℕ) (state : S) (part : List ℕ) → length part ≡ 0 → part_taken next in_section state (at_line line (part_item in_section line part)) ≡ Ok (in_section, state)
 part_taken-empty next true line state [] e = refl
 part_taken-empty next false line state [] e = refl
 part_taken-empty next in_section line state (b ∷ part) e = absurd (omega arith)
 
--- after the lines that are left up to the first faulty one
+-- the value after the remaining lines up to the first faulty one
 abbrev pub front_taken : {S : Type 0} → (S → LineOf → S) → Bool → ℕ → S → List (List ℕ) → S
 front_taken next in_section line state parts = fold next state (before_fault (readings_from in_section line parts))
 
@@ -110,7 +110,7 @@ front_taken-refused {S} next in_section line state part more fault e = by (readi
     by (Ok items) e = absurd cc
     by (Err found) e = refl
 
--- where a part was refused, the value is what the lines before it made of it
+-- if a part was refused the value is the one after the lines before it
 pub AtFault-front_taken : {S : Type 0} (X Y : Type 0) (next : S → LineOf → S) (in_section : Bool) (line : ℕ) (old new expected : S) (part : List ℕ) (more : List (List ℕ)) (fault : ConfFault)
     → Refuses (line_fault fault) (part_taken next in_section old (at_line (line + 1) (part_item in_section (line + 1) part)))
     → AtFault {X = X} (new ≡ old) (Err fault)
@@ -120,12 +120,12 @@ AtFault-front_taken X Y next in_section line old new expected part more (At numb
     kept ∙ (sym (front_taken-refused next in_section line old part more (record { line = number; kind = kind }) refused) ∙ front)
 AtFault-front_taken X Y next in_section line old new expected part more NoMemory refused kept front = tt
 
--- lines that are kept one after another are those before with these after them
+-- lines that are kept one after another come after those kept before
 kept_all : (before lines : List LineOf) → fold (λ (items : List LineOf) line. items ++ line ∷ []) before lines ≡ before ++ lines
 kept_all before [] = sym (append-nil before)
 kept_all before (line ∷ lines) = kept_all (before ++ line ∷ []) lines ∙ append_assoc before (line ∷ []) lines
 
--- a text of which all lines are kept
+-- a text whose lines are all kept
 pub all_taken-kept : (read : Result (List LineOf) LineFault) (before kept : List LineOf) → before ≡ [] → all_taken (λ (items : List LineOf) line. items ++ line ∷ []) before read ≡ Ok kept → read ≡ Ok kept
 all_taken-kept (Ok lines) before kept none e =
     let same : fold (λ (items : List LineOf) line. items ++ line ∷ []) before lines ≡ kept = cc in

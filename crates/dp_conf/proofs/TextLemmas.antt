@@ -1,4 +1,4 @@
--- Texts that have none of a byte, trimmed texts, and texts that are cut at a byte.
+-- Texts without a given byte, trimmed texts, and texts that are cut at a byte.
 use Rattle.std.proofs.Common.{◌≡◌, ℕ, zero, suc, ◌+◌, ◌<◌, Bool, true, false, cond, not, ◌||◌, ◌==◌, eqb, List, [], ◌∷◌, ◌++◌, length, take, drop, get_or, Option, Some, None, refl, ap, ◌∙◌, sym, subst, arith, ltb, ltb-true, ltb-false}
 use Rattle.std.specs.List.{AllByRecursion, list_any, position_or_len, before_first, after_first}
 use Rattle.std.proofs.lemmas.List.Elements.{recursion_from_All, All-from_get_or}
@@ -51,7 +51,7 @@ pub none-any : {X : Type 0} (p : X → Bool) (xs : List X) → list_any p xs ≡
 none-any p [] e = tt
 none-any p (x ∷ xs) e = let both = either-false (p x) (list_any p xs) e in (both.0, none-any p xs both.1)
 
--- the byte does not stand in the text
+-- the byte does not occur in the text
 abbrev pub Avoids : ℕ → List ℕ → Type 0
 Avoids byte text = AllByRecursion (λ b. (b == byte) ≡ false) text
 
@@ -92,7 +92,7 @@ position-nowhere byte (b ∷ text) a =
 pub cut_once-nowhere : (byte : ℕ) (text : List ℕ) → Avoids byte text → cut_once byte text ≡ None
 cut_once-nowhere byte text a = rw (position-nowhere byte text a) (grind arith)
 
--- what a cut tells of the text
+-- what a cut says of the text
 pub record IsCut (byte : ℕ) (text front rest : List ℕ) : Type 0 where
   pub whole : text ≡ front ++ byte ∷ rest
   pub avoids : Avoids byte front
@@ -121,7 +121,7 @@ abbrev pub BeginsFirm : List ℕ → Type 0
 BeginsFirm [] = Unit {0}
 BeginsFirm (b ∷ bs) = is_blank b ≡ false
 
--- no blank stands at an end of the text
+-- there is no blank at either end of the text
 pub record IsTrimmed (text : List ℕ) : Type 0 where
   pub begins : BeginsFirm text
   pub ends : trim_end text ≡ text
@@ -130,7 +130,7 @@ pub trim_start-firm : (text : List ℕ) → BeginsFirm text → trim_start text 
 trim_start-firm [] f = refl
 trim_start-firm (b ∷ text) f = ap (λ t. cond t (trim_start text) (b ∷ text)) f
 
--- a trimmed text is left as it is
+-- a trimmed text is unchanged
 pub trim-trimmed : (text : List ℕ) → IsTrimmed text → trim text ≡ text
 trim-trimmed text t = ap trim_end (trim_start-firm text t.begins) ∙ t.ends
 
@@ -157,7 +157,7 @@ trim_end-twice (b ∷ text) = by (trim_end text) (trim_end-twice text) (is_blank
   by [] e false firm = ap trim_end (before_kept-firm b [] firm) ∙ refl
   by (k ∷ kept) e t blank = ap (before_kept b) e
 
--- what is trimmed is a trimmed text
+-- trimming gives a trimmed text
 pub trimmed-trim : (text : List ℕ) → IsTrimmed (trim text)
 trimmed-trim text = record {
   begins = firm-trim_end (trim_start text) (firm-trim_start text);
@@ -182,7 +182,7 @@ each-trim_start P (b ∷ text) a = by (each-trim_start P text a.1) (is_blank b) 
   by rest true = rest
   by rest false = a
 
--- a trimmed text has the bytes of the text
+-- the bytes of a trimmed text are bytes of the text
 pub each-trim : (P : ℕ → Type 0) (text : List ℕ) → AllByRecursion P text → AllByRecursion P (trim text)
 each-trim P text a = each-trim_end P (trim_start text) (each-trim_start P text a)
 
@@ -190,7 +190,7 @@ before_kept-after : (x : ℕ) (xs : List ℕ) (k : ℕ) (ks : List ℕ) → befo
 before_kept-after x [] k ks = refl
 before_kept-after x (y ∷ xs) k ks = refl
 
--- what stands before a text that is no blank at its end is kept
+-- the text before one that does not end in a blank is kept
 pub trim_end-after : (xs : List ℕ) (k : ℕ) (ks : List ℕ) → trim_end (k ∷ ks) ≡ k ∷ ks → trim_end (xs ++ k ∷ ks) ≡ xs ++ k ∷ ks
 trim_end-after [] k ks e = e
 trim_end-after (x ∷ xs) k ks e = ap (before_kept x) (trim_end-after xs k ks e) ∙ before_kept-after x xs k ks
@@ -211,7 +211,7 @@ trim-blank_after b text t =
 pub trim-blank_before : (text : List ℕ) → IsTrimmed text → trim (32 ∷ text) ≡ text
 trim-blank_before text t = trim-trimmed text t
 
--- a text of which no byte is a blank
+-- a text without a blank
 pub trimmed-firm : (text : List ℕ) → AllByRecursion (λ b. is_blank b ≡ false) text → IsTrimmed text
 trimmed-firm text a = record { begins = firm text a; ends = whole text a }
   where
@@ -223,7 +223,7 @@ trimmed-firm text a = record { begins = firm text a; ends = whole text a }
     whole [] a = refl
     whole (b ∷ text) a = ap (before_kept b) (whole text a.1) ∙ before_kept-firm b text a.0
 
--- a text between two bytes that are no blanks
+-- a text between two bytes that are not blanks
 pub trimmed-between : (b : ℕ) (text : List ℕ) (last : ℕ) → is_blank b ≡ false → is_blank last ≡ false → IsTrimmed ((b ∷ text) ++ last ∷ [])
 trimmed-between b text last firm closed = record {
   begins = firm;
@@ -237,7 +237,7 @@ nowhere_by byte text true l e = absurd cc
 nowhere_by byte text false l e =
     recursion_from_All (λ b. eqb b byte ≡ false) text (All-from_get_or (λ b. eqb b byte ≡ false) text 0 (λ i h. fails_before_first (λ b. eqb b byte) text i 0 (omega (arith, ltb-false _ _ l))))
 
--- a text that is not cut does not have the byte
+-- a text that is not cut does not contain the byte
 pub cut_once-none : (byte : ℕ) (text : List ℕ) → cut_once byte text ≡ None → Avoids byte text
 cut_once-none byte text e = nowhere_by byte text (ltb (position_or_len (λ b. eqb b byte) text) (length text)) refl e
 

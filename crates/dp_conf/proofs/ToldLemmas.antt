@@ -1,22 +1,22 @@
--- What is written and what is left to write, and what was read, where the bytes are known.
+-- What is written and what is left to write, and what was read, if the bytes are known.
 use Rattle.std.proofs.Common.{◌≡◌, ℕ, ◌-◌, ◌≤◌, List, [], ◌∷◌, ◌++◌, Option, Some, None, length, take, drop, refl, ap, ◌∙◌, sym, subst, arith}
 use Rattle.std.proofs.lemmas.List.{append_assoc, append-nil, take-append-drop, take_all, length-drop}
 use Rattle.std.specs.Io.KnownBytes.{Appends, Keeps}
 use Rattle.std.specs.Bool.{⊤}
 use Rattle.dp_conf.specs.Fronts.{IsFront, AppendsFront}
 
--- known bytes stay at the front, and with what is left they are what was to be there
+-- known bytes stay at the front, and together with the rest they are the whole
 abbrev pub GoesOn : Option (List ℕ) → Option (List ℕ) → List ℕ → List ℕ → Type 0
 GoesOn None new bytes left = ⊤
 GoesOn (Some xs) None bytes left = ⊥
 GoesOn (Some xs) (Some ys) bytes left = (ys ++ left ≡ xs ++ bytes) × IsFront xs ys
 
--- a text is a front of itself with more after it
+-- a text is a prefix of itself with more after it
 pub IsFront-append : (xs ys : List ℕ) → IsFront xs (xs ++ ys)
 IsFront-append [] ys = refl
 IsFront-append (x ∷ xs) ys = ap (λ (t : List ℕ). x ∷ t) (IsFront-append xs ys)
 
--- a front of a text is one of it with more after it
+-- a prefix of a text is a prefix of it with more after it
 pub IsFront-more : (xs ys zs : List ℕ) → IsFront xs ys → IsFront xs (ys ++ zs)
 IsFront-more [] ys zs h = refl
 IsFront-more (x ∷ xs) [] zs h = absurd cc
@@ -25,7 +25,7 @@ IsFront-more (x ∷ xs) (y ∷ ys) zs h =
     let tails : take (length xs) ys ≡ xs = cc in
     ap (λ n. n ∷ take (length xs) (ys ++ zs)) heads ∙ ap (λ (t : List ℕ). x ∷ t) (IsFront-more xs ys zs tails)
 
--- a front of a front
+-- a prefix of a prefix
 pub IsFront-trans : (xs ys zs : List ℕ) → IsFront xs ys → IsFront ys zs → IsFront xs zs
 IsFront-trans [] ys zs h k = refl
 IsFront-trans (x ∷ xs) [] zs h k = absurd cc
@@ -37,7 +37,7 @@ IsFront-trans (x ∷ xs) (y ∷ ys) (z ∷ zs) h k =
     let back : take (length ys) zs ≡ ys = cc in
     ap (λ n. n ∷ take (length xs) zs) (second ∙ first) ∙ ap (λ (t : List ℕ). x ∷ t) (IsFront-trans xs ys zs front back)
 
--- a failed write before what was to be written
+-- a failed write before other bytes to be written
 pub AppendsFront-more : (old new : Option (List ℕ)) (first second : List ℕ) → AppendsFront old new first → AppendsFront old new (first ++ second)
 AppendsFront-more None new first second failed = tt
 AppendsFront-more (Some xs) None first second failed = failed

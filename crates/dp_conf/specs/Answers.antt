@@ -1,17 +1,17 @@
--- What a call returned beside what its definition gives, the first fault of a sequence, and lists read with what stands before.
+-- The result of a call compared with its definition, the first fault of a sequence, and lists read with the elements before each place.
 use Rattle.std.specs.Prelude.{◌≡◌, List, [], ◌∷◌, ◌++◌, Option, Some, None, Result, Ok, Err}
 
--- a call that refused for this reason was refused by its definition too; out of memory, with no reason, says nothing
+-- if a call failed for this reason its definition failed too; out-of-memory has no reason, and says nothing
 abbrev pub Refuses : {Y D : Type 0} → Option D → Result Y D → Type 0
 Refuses None given = Unit {0}
 Refuses (Some reason) given = given ≡ Err reason
 
--- what the call returned, as contracts see it, is what the definition gives, or out of memory
+-- the result of the call, as contracts see it, is that of the definition, or out-of-memory
 abbrev pub Answers : {X Y E D : Type 0} → (X → Y) → (E → Option D) → Result X E → Result Y D → Type 0
 Answers view reason (Ok x) given = given ≡ Ok (view x)
 Answers view reason (Err e) given = Refuses (reason e) given
 
--- what `next` gives of the value, or the fault
+-- the result of `next` for the value, or the fault
 infixl 10 ◌>>=◌
 abbrev pub ◌>>=◌ : {X Y E : Type 0} → Result X E → (X → Result Y E) → Result Y E
 Ok x >>= next = next x
@@ -32,7 +32,7 @@ before_fault [] = []
 before_fault (Ok xs ∷ readings) = xs ++ before_fault readings
 before_fault (Err fault ∷ readings) = []
 
--- what `f` says of each element and of those before it, where `before` stands before them all
+-- the values of `f` for each element and those before it, with `before` at the front
 abbrev pub each_after : {X Y : Type 0} → (List X → X → Y) → List X → List X → List Y
 each_after f before [] = []
 each_after f before (x ∷ xs) = f before x ∷ each_after f (before ++ x ∷ []) xs

@@ -1,4 +1,4 @@
--- Items and contents of lines whose texts stand in the lines themselves.
+-- Items and contents of lines whose texts borrow from the lines.
 use Rattle.std.specs.Prelude.{ℕ, List, [], ◌∷◌, Option, Some, None, Result, Ok, Err, if◌then◌else◌}
 use Rattle.dp_conf.specs.Blanks.{trim}
 use Rattle.dp_conf.specs.Lines.{LineOf, Header, Pair, comment_of, opens_block, content_of}
@@ -14,12 +14,12 @@ abbrev pub line_now : Line → LineOf
 line_now (header_in line name) = Header line name.now
 line_now (pair_in line key value) = Pair line key.now value.now
 
--- the item, where there is one
+-- the item, if there is one, as a list
 abbrev pub lines_now : Option Line → List LineOf
 lines_now None = []
 lines_now (Some line) = line_now line ∷ []
 
--- what a line says, without the blanks at its ends
+-- the content of a line, without the blanks at its ends
 abbrev pub content_now : Content → List ℕ
 content_now (AsWritten text) = trim text.now
 content_now (Unescaped bytes) = trim bytes.items

@@ -1,4 +1,4 @@
--- The numbers of the faults, the names that are printed beside them, and the text of a fault at a line.
+-- The numbers of the faults, the names printed next to them, and the text of a fault at a line.
 use Rattle.std.specs.Prelude.{ℕ, List, ◌++◌, Option, Some, None, codes, decimal}
 use Rattle.dp_conf.specs.declared.fault.ConfFault.{ConfFault}
 use Rattle.dp_conf.specs.declared.fault.ConfFault.TheVariants.{At, NoMemory as conf_no_memory}
@@ -25,12 +25,12 @@ line_name NoEquals = codes "NoEquals"
 line_name Directive = codes "Directive"
 line_name Template = codes "Template"
 
--- what is printed where a text could not be read as lines
+-- what is printed if a text could not be read as lines
 abbrev pub conf_fault_text : ConfFault → List ℕ
 conf_fault_text (At line kind) = line_name kind ++ codes " line " ++ decimal line
 conf_fault_text conf_no_memory = codes "out of memory"
 
--- the number of a reader's fault; out of memory has none
+-- the number of a reader's fault; out-of-memory has none
 abbrev pub read_code : ReadFault → Option ℕ
 read_code ReadFailed = Some 7
 read_code TooLong = Some 8

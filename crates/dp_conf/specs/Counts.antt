@@ -1,4 +1,4 @@
--- Counts that have a greatest number.
+-- Counts with a greatest number.
 use Rattle.std.specs.Prelude.{ℕ, ◌+◌, nat_lt, if◌then◌else◌}
 
 -- the greatest number of 64 bits

@@ -13,11 +13,11 @@ abbrev pub closer : GroupKind → ℕ
 closer Braces = 125
 closer Brackets = 93
 
--- the kind of group that a `$` with this byte after it opens
+-- the kind of group that a `$` opens if this byte comes after it
 abbrev pub kind_of : ℕ → Option GroupKind
 kind_of byte = if byte == 123 then Some Braces else (if byte == 91 then Some Brackets else None)
 
--- the kind of group that a byte opens, by the bytes after it
+-- the kind of group that a byte opens, given the bytes after it
 abbrev pub opening : ℕ → List ℕ → Option GroupKind
 opening byte [] = None
 opening byte (next ∷ after) = if byte == 36 then kind_of next else None
@@ -28,19 +28,19 @@ pub data Reading : Type 0 where
   Plain : ℕ → Reading → Reading
   Group : GroupKind → Reading → Reading → Reading
 
--- the text that is read so
+-- the text of a reading
 unfoldable pub text_of_reading : Reading → List ℕ
 text_of_reading Over = []
 text_of_reading (Plain byte rest) = byte ∷ text_of_reading rest
 text_of_reading (Group kind inside rest) = 36 ∷ opener kind ∷ (text_of_reading inside ++ closer kind ∷ text_of_reading rest)
 
--- inside a group no plain byte is its end, and none opens a group
+-- inside a group no plain byte ends it, and none opens a group
 unfoldable pub IsBody : GroupKind → Reading → Type 0
 IsBody kind Over = Unit {0}
 IsBody kind (Plain byte rest) = (byte ≢ closer kind) × (opening byte (text_of_reading rest) ≡ None) × IsBody kind rest
 IsBody kind (Group inner inside rest) = IsBody inner inside × IsBody kind rest
 
--- a group stands at the front of the text
+-- the text begins with a group
 pub record BeginsGroup (text : List ℕ) : Type 0 where
   pub kind : GroupKind
   pub inside : Reading
@@ -48,13 +48,13 @@ pub record BeginsGroup (text : List ℕ) : Type 0 where
   pub body : IsBody kind inside
   pub text_is : text ≡ 36 ∷ opener kind ∷ (text_of_reading inside ++ closer kind ∷ after)
 
--- outside of groups a byte is plain only where no group stands
+-- outside groups a byte is plain only if no group begins there
 unfoldable pub IsWhole : Reading → Type 0
 IsWhole Over = Unit {0}
 IsWhole (Plain byte rest) = (¬ (BeginsGroup (byte ∷ text_of_reading rest))) × IsWhole rest
 IsWhole (Group kind inside rest) = IsBody kind inside × IsWhole rest
 
--- the text reads so
+-- the reading is one of the text
 pub record IsReading (text : List ℕ) (reading : Reading) : Type 0 where
   pub text_is : text_of_reading reading ≡ text
   pub whole : IsWhole reading

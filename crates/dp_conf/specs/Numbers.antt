@@ -10,11 +10,11 @@ is_digit byte = nat_le 48 byte && nat_le byte 57
 abbrev pub with_digit : ℕ → ℕ → ℕ
 with_digit number byte = 10 * number + (byte - 48)
 
--- the number of digits, in decimal
+-- the decimal number that these digits write
 abbrev pub digits_number : List ℕ → ℕ
 digits_number digits = fold with_digit 0 digits
 
--- the number that a text writes: one or more digits, in decimal, however many
+-- the decimal number that a text writes: one or more digits, however many
 abbrev pub number_of : List ℕ → Option ℕ
 number_of [] = None
 number_of (b ∷ bs) = if list_all is_digit (b ∷ bs) then Some (digits_number (b ∷ bs)) else None

@@ -1,4 +1,4 @@
--- What becomes of a value that lines are taken into, one after another.
+-- A value that takes lines one after another.
 use Rattle.std.specs.Prelude.{Bool, ◌||◌, List, fold, Result, Ok, Err}
 use Rattle.std.specs.List.{list_any}
 use Rattle.dp_conf.specs.Answers.{◌>>=◌}
@@ -6,7 +6,7 @@ use Rattle.dp_conf.specs.Lines.{LineOf, LineFault, is_header}
 use Rattle.dp_conf.specs.declared.fault.ConfFault.{ConfFault}
 use Rattle.dp_conf.specs.declared.fault.ConfFault.TheVariants.{At, NoMemory}
 
--- after the lines of a text, by what one line makes of the value; a fault of the text ends all
+-- the value after the lines of a text, given what one line makes of it; a fault of the text ends everything
 abbrev pub all_taken : {S : Type 0} → (S → LineOf → S) → S → Result (List LineOf) LineFault → Result S LineFault
 all_taken after state read = read >>= λ lines. Ok (fold after state lines)
 
@@ -15,7 +15,7 @@ abbrev pub part_taken : {S : Type 0} → (S → LineOf → S) → Bool → S →
 part_taken after in_section state read =
     read >>= λ items. Ok (in_section || list_any is_header items, fold after state items)
 
--- what holds where a call ended at a faulty line
+-- if the call ended at a faulty line the condition holds
 abbrev pub AtFault : {X : Type 0} → Type 0 → Result X ConfFault → Type 0
 AtFault Holds (Ok x) = Unit {0}
 AtFault Holds (Err (At line kind)) = Holds

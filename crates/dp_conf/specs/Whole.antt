@@ -1,17 +1,17 @@
--- What reading a reader whole gives, by its bytes.
+-- The result of reading a reader to its end, given its bytes.
 use Rattle.std.specs.Prelude.{ℕ, Bool, true, false, nat_le, List, length, Option, Some, None, Result, Ok, Err, if◌then◌else◌}
 use Rattle.dp_conf.specs.declared.fault.ReadFault.{ReadFault}
 use Rattle.dp_conf.specs.declared.fault.ReadFault.TheVariants.{ReadFailed, TooLong, NoMemory}
 
--- how many bytes a text may have that is read whole
+-- the greatest number of bytes in a text that is read to its end
 abbrev pub most_bytes : ℕ
 most_bytes = 16777216
 
--- what reading a reader of these bytes whole gives
+-- the result of reading these bytes to their end
 abbrev pub whole_of : List ℕ → Result (List ℕ) ReadFault
 whole_of bytes = if nat_le (length bytes) most_bytes then Ok bytes else Err TooLong
 
--- a fault that the bytes alone decide; a failed read and out of memory they do not
+-- a fault that depends on the bytes alone, unlike a failed read and out-of-memory
 abbrev pub length_fault : ReadFault → Option ReadFault
 length_fault ReadFailed = None
 length_fault TooLong = Some TooLong

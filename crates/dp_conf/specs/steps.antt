@@ -1,2 +1,2 @@
--- What private functions say of their steps. No public clause rests on it.
+-- The steps of private functions. No public clause depends on them.
 pub mod Nest

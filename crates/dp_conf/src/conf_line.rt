@@ -1,4 +1,4 @@
-//! The items of a configuration text, read at once and owned.
+//! The items of a configuration text, all read at once and owned.
 ghost use Rattle.std.specs.Prelude.{◌≡◌, IfOk, map};
 ghost use Rattle.dp_conf.specs.Answers.{Answers};
 ghost use Rattle.dp_conf.specs.Borrowed.{line_now};
@@ -15,9 +15,9 @@ use std::marker::Model;
 /// One item of a configuration text, with the number of its line, counted from 1.
 #[derive(Debug, PartialEq, Eq, Drop)]
 pub enum ConfLine {
-    /// A section's header, `[name]`, by its name without blanks at its ends.
+    /// A section's header, `[name]`, with its name without blanks at either end.
     Header { line: usize, name: Text },
-    /// A line `key = value` or `key => value`, without blanks at the ends of both.
+    /// A line `key = value` or `key => value`, with both texts without blanks at either end.
     Pair { line: usize, key: Text, value: Text },
 }
 
@@ -26,7 +26,7 @@ impl ConfLine {
     ghost use Rattle.dp_conf.specs.Borrowed.{line_now};
     ghost use Rattle.dp_conf.specs.Owned.{line_of};
 
-    /// A copy of an item that stands in its line.
+    /// A copy of an item that borrows from its line.
     fn copy_of(alloc: Global, line: Line<'_>) -> Result<Self, AllocError>
         ensures { IfOk result (λ copy. line_of copy ≡ line_now line.entry) }
     {
@@ -44,7 +44,7 @@ impl ConfLine {
     }
 }
 
-/// The items that were read so far.
+/// The items read so far.
 #[derive(Drop)]
 struct ItemsRead {
     items: Vec<ConfLine>,
@@ -74,9 +74,8 @@ impl TakeLine for ItemsRead {
 
 /// The items of a configuration text in order, or the fault of its first faulty line.
 ///
-/// How lines are read, and which are refused, [`take_lines`] says. This call copies the texts of all items; a caller that goes
-/// after them one at a time uses [`take_lines`]. The fault has the number of its line, counted from 1, or is
-/// out-of-memory.
+/// See [`take_lines`] for how lines are read and which are refused. This call copies the texts of all items; a caller that processes them
+/// one at a time uses [`take_lines`]. The fault has the number of its line, counted from 1, or is out-of-memory.
 pub fn read_lines(alloc: Global, text: &[u8]) -> Result<Vec<ConfLine>, ConfFault>
     ensures { Answers (λ lines. map line_of lines.items) line_fault result (lines_of text.now) }
 {

@@ -1,4 +1,4 @@
-//! How a text is cut: blanks off its ends, at a byte, into lines, and into arguments.
+//! Cutting a text: trimming its blanks, and cutting it at a byte, into lines, and into arguments.
 ghost use Rattle.std.specs.Prelude.{◌≡◌, ◌+◌, ◌^◌, ◌<◌, IfOk, IfSome, MatchOption, Some, None, [], ◌∷◌, length, map};
 ghost use Rattle.std.specs.Option.{option_map};
 ghost use Rattle.dp_conf.specs.Blanks as blanks;
@@ -9,7 +9,7 @@ ghost use Rattle.dp_conf.specs.Lines as lines;
 use bstr::ByteSlice;
 use std::alloc::{AllocError, Global};
 
-/// Whether the byte is a blank: 32 or less, and no line feed (a choice of this program).
+/// Whether the byte is a blank: 32 or less, but not a line feed (a choice of this program).
 pub fn is_blank(byte: u8) -> bool
     ensures { result ≡ blanks.is_blank byte }
 {
@@ -24,7 +24,7 @@ pub fn trim(text: &[u8]) -> &[u8]
     trim_end(trim_start(text))
 }
 
-/// The text from its first byte that is no blank.
+/// The text from its first byte that is not a blank.
 #[inline(always)]
 pub fn trim_start(text: &[u8]) -> &[u8]
     ensures { result.now ≡ blanks.trim_start text.now }
@@ -39,7 +39,7 @@ pub fn trim_start(text: &[u8]) -> &[u8]
     left
 }
 
-/// The text up to its last byte that is no blank.
+/// The text up to its last byte that is not a blank.
 #[inline(always)]
 fn trim_end(text: &[u8]) -> &[u8]
     ensures { result.now ≡ blanks.trim_end text.now }
@@ -54,7 +54,7 @@ fn trim_end(text: &[u8]) -> &[u8]
     left
 }
 
-/// What stands before the first such byte of the text and what stands after it, or None where there is none.
+/// The text before the first such byte and the text after it, or None if there is no such byte.
 #[inline(always)]
 pub fn cut_once(text: &[u8], byte: u8) -> Option<(&[u8], &[u8])>
     ensures { MatchOption result (cuts.cut_once byte text.now ≡ None)
@@ -66,7 +66,7 @@ pub fn cut_once(text: &[u8], byte: u8) -> Option<(&[u8], &[u8])>
     }
 }
 
-/// What stands before the last such byte of the text, or None where there is none.
+/// The text before the last such byte, or None if there is no such byte.
 pub fn before_last(text: &[u8], byte: u8) -> Option<&[u8]>
     ensures { option_map (λ front. front.now) result ≡ cuts.before_last byte text.now }
 {
@@ -80,7 +80,7 @@ pub fn before_last(text: &[u8], byte: u8) -> Option<&[u8]>
     None
 }
 
-/// The first part of the text between its line feeds, and what stands after it, where more parts come.
+/// The text up to the first line feed, and the text after it if there is one.
 pub fn first_part(text: &[u8]) -> (&[u8], Option<&[u8]>)
     ensures parts { MatchOption result.1 (lines.parts_of text.now ≡ result.0.now ∷ [])
         (λ rest. lines.parts_of text.now ≡ result.0.now ∷ lines.parts_of rest.now) }
@@ -96,7 +96,7 @@ pub fn first_part(text: &[u8]) -> (&[u8], Option<&[u8]>)
     }
 }
 
-/// The level after a byte that stands at this level.
+/// The level after a byte at this level.
 fn next_level(level: usize, byte: u8) -> usize
     requires { level + 1 < 2 ^ 64 }
     ensures { result ≡ levels.next_level level byte }
@@ -108,9 +108,9 @@ fn next_level(level: usize, byte: u8) -> usize
     }
 }
 
-/// What stands before the first such byte outside parentheses and what stands after it, or None where there is none.
+/// The text before the first such byte outside parentheses and the text after it, or None if there is no such byte.
 ///
-/// A `)` with no `(` before it is plain (a choice of this program).
+/// A `)` without a `(` before it is plain (a choice of this program).
 pub fn cut_outside(text: &[u8], byte: u8) -> Option<(&[u8], &[u8])>
     ensures cut { MatchOption result (levels.cut_outside byte text.now ≡ None)
         (λ cut. levels.cut_outside byte text.now ≡ Some (cut.0.now, cut.1.now)) }
@@ -126,7 +126,7 @@ pub fn cut_outside(text: &[u8], byte: u8) -> Option<(&[u8], &[u8])>
     None
 }
 
-/// The text up to its first comma outside parentheses, and what stands after it, where there is such a comma.
+/// The text up to its first comma outside parentheses, and the text after it if there is such a comma.
 pub fn first_argument(text: &[u8]) -> (&[u8], Option<&[u8]>)
     ensures parts { MatchOption result.1 (levels.parts_of text.now ≡ result.0.now ∷ [])
         (λ rest. levels.parts_of text.now ≡ result.0.now ∷ levels.parts_of rest.now) }
@@ -138,9 +138,10 @@ pub fn first_argument(text: &[u8]) -> (&[u8], Option<&[u8]>)
     }
 }
 
-/// The arguments of a text: what its commas outside parentheses part, each without the blanks at its ends.
+/// The arguments of a text: its parts between commas outside parentheses, each without blanks at either end.
 ///
-/// A `)` with no `(` before it is plain, and the empty text has one empty argument (choices of this program).
+/// A `)` without a `(` before it is plain, and the empty text has one empty argument (choices of this program). It fails only if memory
+/// runs out.
 pub fn split_args(alloc: Global, text: &[u8]) -> Result<Vec<&[u8]>, AllocError>
     ensures { IfOk result (λ arguments. map (λ argument. argument.now) arguments.items
         ≡ levels.arguments_of text.now) }

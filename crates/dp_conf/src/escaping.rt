@@ -1,4 +1,4 @@
-//! The text of a line that says what it is given.
+//! Escaping a text, so that a line with it says the text.
 ghost use Rattle.std.specs.Prelude.{◌≡◌, ◌++◌, IfOk, OnOk, codes};
 ghost use Rattle.dp_conf.specs.Blanks.{trim};
 ghost use Rattle.dp_conf.specs.Escape as spec;
@@ -7,7 +7,7 @@ ghost use Rattle.dp_conf.specs.Lines.{content_of};
 use crate::cut::cut_once;
 use std::alloc::{AllocError, Global};
 
-/// Adds a part of a text with no `;`, and the `;` after it as a line writes it.
+/// Adds a part of a text without a `;`, and the `;` after it as it is written in a line.
 fn push_part(out: &mut Vec<u8>, part: &[u8]) -> Result<(), AllocError>
     ensures { OnOk result (out.new.items ≡ out.old.items ++ (part.now ++ codes "\\;")) }
 {
@@ -16,7 +16,8 @@ fn push_part(out: &mut Vec<u8>, part: &[u8]) -> Result<(), AllocError>
     Ok(())
 }
 
-/// Adds a text as a line writes it: each `;` as `\;`, and all else as it stands.
+/// Adds a text as it is written in a line: each `;` as `\;`, and everything else unchanged. If memory runs out a part
+/// of it may have been added.
 pub fn push_escaped(out: &mut Vec<u8>, text: &[u8]) -> Result<(), AllocError>
     ensures { OnOk result (out.new.items ≡ out.old.items ++ spec.escape_text text.now) }
 {
@@ -29,8 +30,8 @@ pub fn push_escaped(out: &mut Vec<u8>, text: &[u8]) -> Result<(), AllocError>
     Ok(())
 }
 
-/// A text as a line writes it: each `;` as `\;`, and all else as it stands. What such a line says is the text, without
-/// the blanks at its ends; a text with a line feed makes two lines.
+/// The text as it is written in a line: each `;` as `\;`, and everything else unchanged. Such a line says the text
+/// without the blanks at its ends; a text with a line feed makes two lines. It fails only if memory runs out.
 pub fn escape(alloc: Global, text: &[u8]) -> Result<Vec<u8>, AllocError>
     ensures ok { IfOk result (λ line. line.items ≡ spec.escape_text text.now) }
     ensures content { IfOk result (λ line. content_of line.items ≡ trim text.now) }

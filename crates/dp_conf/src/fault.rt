@@ -1,4 +1,4 @@
-//! What a configuration text, a reader or a writer is refused for, with the numbers and the names that are printed.
+//! The faults of a configuration text, a reader or a writer, with their numbers and their printed names.
 ghost use Rattle.std.specs.Prelude.{◌≡◌, Some};
 ghost use Rattle.dp_conf.specs.Codes.{line_code, line_name, conf_fault_text, read_code, read_name, write_code, write_name};
 
@@ -9,17 +9,17 @@ use std::fmt;
 /// Why one line of a configuration text is refused.
 #[derive(Clone, Copy, Debug, PartialEq, Eq)]
 pub enum LineKind {
-    /// A comment that begins with `;--` and no third dash: block comments are left out.
+    /// A comment that begins with `;--` but no third dash: block comments are not supported.
     BlockComment,
-    /// A pair before any section's header.
+    /// A pair before the header of any section.
     NoSection,
-    /// A header with no `]`, with an empty name, or with text after the `]` that begins with no `(`.
+    /// A header without a `]`, with an empty name, or with text after the `]` that does not begin with `(`.
     BadHeader,
-    /// A line of a section that is no header and has no `=`.
+    /// A line of a section that is not a header and has no `=`.
     NoEquals,
-    /// A line that begins with `#`, as `#include`.
+    /// A line that begins with `#`, such as `#include`.
     Directive,
-    /// A header with a `(` after its `]`: templates are left out.
+    /// A header with a `(` after its `]`: templates are not supported.
     Template,
 }
 
@@ -38,7 +38,7 @@ impl LineKind {
         }
     }
 
-    /// The name of the fault, as it is printed beside its number.
+    /// The name of the fault, as it is printed next to its number.
     pub fn name(self) -> &'static str
         ensures { result.now ≡ line_name self }
     {
@@ -56,9 +56,9 @@ impl LineKind {
 /// Why a configuration text could not be read as lines.
 #[derive(Clone, Copy, Debug, PartialEq, Eq)]
 pub enum ConfFault {
-    /// The line, counted from 1, is the first that is refused.
+    /// The first refused line, counted from 1, and the reason.
     At { line: usize, kind: LineKind },
-    /// The allocator had no memory.
+    /// Memory ran out.
     NoMemory,
 }
 
@@ -97,19 +97,19 @@ impl fmt::Display for ConfFault {
 
 impl Error for ConfFault {}
 
-/// Why a reader could not be read whole.
+/// Why a reader could not be read to its end.
 #[derive(Clone, Copy, Debug, PartialEq, Eq)]
 pub enum ReadFault {
-    /// A read answered an error.
+    /// A read returned an error.
     ReadFailed,
     /// More bytes came than a file may have.
     TooLong,
-    /// The allocator had no memory.
+    /// Memory ran out.
     NoMemory,
 }
 
 impl ReadFault {
-    /// The number of the fault, 7 or 8; out of memory has none.
+    /// The number of the fault, 7 or 8; out-of-memory has none.
     pub fn code(self) -> Option<u8>
         ensures { result ≡ read_code self }
     {
@@ -153,7 +153,7 @@ impl fmt::Display for ReadFault {
 
 impl Error for ReadFault {}
 
-/// A write answered an error, or took nothing of what was left to write.
+/// A write returned an error, or took none of the remaining bytes.
 #[derive(Clone, Copy, Debug, PartialEq, Eq)]
 pub struct WriteFailed;
 

@@ -1,11 +1,11 @@
-//! The first line of a text that is refused by what takes its lines.
+//! The first line of a text that the taker of its lines refuses.
 ghost use Rattle.std.specs.Prelude.{◌≡◌, is_err, is_some, MatchOption, None, Ok, Err};
 ghost use Rattle.dp_conf.specs.FirstFaults as spec;
 
 use std::alloc::AllocError;
 use std::marker::Model;
 
-/// A line that is refused, and why. Lines are counted from 1.
+/// A refused line, counted from 1, and the reason.
 #[derive(Clone, Copy, Debug, PartialEq, Eq, Drop)]
 pub struct FaultyLine<K> {
     pub line: usize,
@@ -15,9 +15,9 @@ pub struct FaultyLine<K> {
 /// Why a line was not taken.
 #[derive(Clone, Copy, Debug, PartialEq, Eq, Drop)]
 pub enum TakeFault<K> {
-    /// The line is refused.
+    /// The line was refused.
     Line(FaultyLine<K>),
-    /// The allocator had no memory.
+    /// Memory ran out.
     NoMemory,
 }
 
@@ -32,7 +32,7 @@ impl<K> From<AllocError> for TakeFault<K> {
     }
 }
 
-/// The first of the faults that it was given, where it was given one.
+/// The first of the faults that it was given, if any.
 #[derive(Drop)]
 pub struct FirstFault<K> {
     first: Option<FaultyLine<K>>,
@@ -48,7 +48,7 @@ impl<K> Model for FirstFault<K> {
 }
 
 impl<K: Drop> FirstFault<K> {
-    /// No fault was given.
+    /// One that was given no fault.
     pub fn none() -> Self
         ensures { result ≡ None }
     {
@@ -62,7 +62,7 @@ impl<K: Drop> FirstFault<K> {
         self.first.is_some()
     }
 
-    /// Keeps the fault of a line, unless one is kept already. Out of memory is passed on.
+    /// Keeps the fault of a line, unless one is kept already. Out-of-memory is passed on.
     pub fn keep(&mut self, taken: Result<(), TakeFault<K>>) -> Result<(), AllocError>
         ensures kept { self.new ≡ spec.first_fault self.old taken }
         ensures memory { is_err result ≡ spec.wants_memory taken }
@@ -79,7 +79,7 @@ impl<K: Drop> FirstFault<K> {
         }
     }
 
-    /// The first fault, where one was given.
+    /// The first fault, if one was given.
     pub fn into_result(self) -> Result<(), FaultyLine<K>>
         ensures { MatchOption self (result ≡ Ok tt) (λ fault. result ≡ Err fault) }
     {

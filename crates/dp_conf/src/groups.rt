@@ -1,21 +1,21 @@
-//! The groups of a text, after the Asterisk documentation's pages on variables and on expressions.
+//! The groups of a text, after the Asterisk documentation's pages on variables and expressions.
 //!
-//! A group is `${` up to its `}`, or `$[` up to its `]`. Openings stack: a byte that is the end of the innermost opening
-//! closes it, and brackets with no `$` before them are plain. An opening without its end is two plain bytes, and
+//! A group is `${` up to its `}`, or `$[` up to its `]`. Openings nest: a byte that is the end of the innermost opening
+//! closes it, and brackets without a `$` before them are plain. An opening without an end is two plain bytes, and
 //! reading goes on after them (choices of this program).
 ghost use Rattle.std.specs.Prelude.{◌≡◌, ◌↔◌, ◌<◌, ℕ, List, [], IfSome, MatchOption, Some, length};
 ghost use Rattle.dp_conf.specs.Groups as groups;
 ghost use Rattle.dp_conf.specs.Groups.{Reading, IsReading};
 ghost use Rattle.dp_conf.specs.GroupsRead.{reading_of, is_end_of, IsMarked};
 
-/// What a group is: a variable or a function in `${..}`, or an expression in `$[..]`.
+/// The kind of a group: a variable or a function in `${..}`, or an expression in `$[..]`.
 #[derive(Clone, Copy, Debug)]
 pub enum GroupKind {
     Braces,
     Brackets,
 }
 
-/// What stands at a place of a text.
+/// The mark at a place in a text.
 #[derive(Clone, Copy)]
 pub enum Mark {
     /// The end of the innermost group.
@@ -31,7 +31,7 @@ pub fn one_reading()
     ensures { (text : List ℕ) (reading : Reading) → IsReading text reading ↔ (reading ≡ reading_of text) }
 {}
 
-/// Whether the byte ends a group of this kind, where there is one.
+/// Whether the byte ends the innermost group, if there is one.
 fn is_end(innermost: Option<GroupKind>, byte: u8) -> bool
     ensures { result ≡ is_end_of innermost byte }
 {
@@ -42,7 +42,7 @@ fn is_end(innermost: Option<GroupKind>, byte: u8) -> bool
     }
 }
 
-/// The kind of group that a `$` with this byte after it opens.
+/// The kind of group that a `$` opens if this byte comes after it.
 fn kind_of(byte: u8) -> Option<GroupKind>
     ensures { result ≡ groups.kind_of byte }
 {
@@ -53,7 +53,7 @@ fn kind_of(byte: u8) -> Option<GroupKind>
     }
 }
 
-/// The kind of group that a byte opens, by the bytes after it.
+/// The kind of group that a byte opens, given the bytes after it.
 fn opening(byte: u8, after: &[u8]) -> Option<GroupKind>
     ensures kind { result ≡ groups.opening byte after.now }
     ensures two { IfSome result (λ _. 0 < length after.now) }
@@ -64,8 +64,7 @@ fn opening(byte: u8, after: &[u8]) -> Option<GroupKind>
     }
 }
 
-/// The first mark of a text, and what stands after it, where this is the innermost group that is open; None for the
-/// empty text.
+/// The first mark of a text and the text after it, given the innermost open group, if any; None for the empty text.
 pub fn next_mark(text: &[u8], innermost: Option<GroupKind>) -> Option<(Mark, &[u8])>
     ensures marked { MatchOption result (text.now ≡ []) (λ cut. IsMarked innermost text.now cut.0 cut.1.now) }
     ensures shorter { IfSome result (λ cut. length cut.1.now < length text.now) }

@@ -1,4 +1,4 @@
-//! The text layer of the dialplan machine: lines of a configuration text, its byte texts, and what is read and written.
+//! The text layer of the dialplan machine: lines of a configuration text, byte texts, and checked reading and writing.
 #![tactic(auto)]
 
 mod conf_line;

@@ -12,15 +12,15 @@ use crate::cut::{cut_once, trim, trim_start};
 use crate::fault::{ConfFault, LineKind};
 use std::alloc::{AllocError, Global};
 
-/// One item of a configuration text, with the number of its line, counted from 1, as its texts stand in the line.
+/// One item of a configuration text, with the number of its line, counted from 1. Its texts borrow from the line.
 #[derive(Clone, Copy)]
 pub enum Line<'a> {
-    /// A section's header, `[name]`, by its name without blanks at its ends.
+    /// A section's header, `[name]`, with its name without blanks at either end.
     Header {
         line: usize,
         name: &'a [u8],
     },
-    /// A line `key = value` or `key => value`, without blanks at the ends of both.
+    /// A line `key = value` or `key => value`, with both texts without blanks at either end.
     Pair {
         line: usize,
         key: &'a [u8],
@@ -28,12 +28,12 @@ pub enum Line<'a> {
     },
 }
 
-/// What a line says before its comment.
+/// The content of a line: what comes before its comment.
 #[derive(Drop)]
 pub enum Content<'a> {
     /// The bytes of the line itself.
     AsWritten(&'a [u8]),
-    /// The bytes of a line that has a `\`, with each `\;` written `;`.
+    /// The bytes of a line that contains a `\`, with each `\;` replaced by `;`.
     Unescaped(Vec<u8>),
 }
 
@@ -41,7 +41,7 @@ impl Content<'_> {
     ghost use Rattle.std.specs.Prelude.{◌≡◌};
     ghost use Rattle.dp_conf.specs.Borrowed as borrowed;
 
-    /// The bytes without the blanks at their ends.
+    /// The bytes without blanks at either end.
     pub fn bytes(&self) -> &[u8]
         ensures { result.now ≡ borrowed.content_now self.now }
     {
@@ -52,7 +52,7 @@ impl Content<'_> {
     }
 }
 
-/// The text without the byte order mark `EF BB BF` at its front.
+/// The text without the byte order mark `EF BB BF` at its start.
 pub fn without_mark(text: &[u8]) -> &[u8]
     ensures { result.now ≡ spec.without_mark text.now }
 {
@@ -63,12 +63,12 @@ pub fn without_mark(text: &[u8]) -> &[u8]
     }
 }
 
-/// How many bytes stand before the comment of a line: before its first `;` with no `\` directly before it.
+/// The number of bytes before the comment of a line, that is, before its first `;` without a `\` directly before it.
 fn comment_start(part: &[u8]) -> usize
     ensures start { result ≡ spec.comment_start 10 part.now }
     ensures within { result ≤ length part.now }
 {
-    // Most lines have no comment, and the search for one byte is the faster.
+    // Most lines have no comment, and the search for a single byte is faster.
     if !part.contains(&b';') {
         return part.len();
     }
@@ -82,7 +82,7 @@ fn comment_start(part: &[u8]) -> usize
     part.len()
 }
 
-/// Whether a comment, with its `;`, begins a block comment: `;--` and no third dash, after the Asterisk documentation's page on its
+/// Whether a comment, given with its `;`, begins a block comment: `;--` but no third dash, after the Asterisk documentation's page on its
 /// configuration files.
 pub fn opens_block(comment: &[u8]) -> bool
     ensures { result ≡ spec.opens_block comment.now }
@@ -90,7 +90,7 @@ pub fn opens_block(comment: &[u8]) -> bool
     comment.starts_with(b";--") && !comment.starts_with(b";---")
 }
 
-/// The bytes with each `\;` written `;`.
+/// The bytes with each `\;` replaced by `;`.
 fn unescape(alloc: Global, bytes: &[u8]) -> Result<Vec<u8>, AllocError>
     ensures { IfOk result (λ plain. plain.items ≡ spec.without_escapes bytes.now) }
 {
@@ -105,7 +105,7 @@ fn unescape(alloc: Global, bytes: &[u8]) -> Result<Vec<u8>, AllocError>
     Ok(plain)
 }
 
-/// What stands before a comment, with each `\;` written `;`. It never allocates where there is no `\`.
+/// The bytes before a comment, with each `\;` replaced by `;`. It does not allocate if there is no `\`.
 fn plain_text(alloc: Global, before: &[u8]) -> Result<Content<'_>, AllocError>
     ensures { IfOk result (λ content. borrowed.content_now content ≡ trim_spec (spec.without_escapes before.now)) }
 {
@@ -116,18 +116,17 @@ fn plain_text(alloc: Global, before: &[u8]) -> Result<Content<'_>, AllocError>
     Ok(Content::Unescaped(plain))
 }
 
-/// What a line of a configuration text says: what stands before its comment, without the blanks at its ends and with each `\;` written
-/// `;`.
+/// The content of a line of a configuration text: what comes before its comment, without blanks at either end and with each `\;` replaced
+/// by `;`.
 ///
-/// A line is what stands between two line feeds. A block comment is a comment like any other here. It allocates only for a line with a
-/// `\`.
+/// A line is the text between two line feeds. A block comment is like any other comment here. It allocates only for a line with a `\`.
 pub fn line_content(alloc: Global, part: &[u8]) -> Result<Content<'_>, AllocError>
     ensures { IfOk result (λ content. borrowed.content_now content ≡ spec.content_of part.now) }
 {
     plain_text(alloc, &part[..comment_start(part)])
 }
 
-/// What a line says: what stands before its comment, without the blanks at its ends and with each `\;` written `;`.
+/// The content of a line: what comes before its comment, without blanks at either end and with each `\;` replaced by `;`.
 ///
 /// A block comment is refused. It allocates only for a line with a `\`.
 pub(crate) fn read_content(
@@ -148,7 +147,7 @@ pub(crate) fn read_content(
     Ok(content)
 }
 
-/// The header of a section, by what stands after its `[`.
+/// The header of a section, given the text after its `[`.
 fn read_header(line: usize, inside: &[u8]) -> Result<Line<'_>, ConfFault>
     ensures { Answers (λ item. borrowed.line_now item ∷ []) spec.line_fault result
         (spec.at_line line (spec.header_of line (cut.cut_once 93 inside.now))) }
@@ -179,7 +178,7 @@ fn read_header(line: usize, inside: &[u8]) -> Result<Line<'_>, ConfFault>
     }
 }
 
-/// What stands after the `=`, without the `>` that belongs to the sign.
+/// The text after the `=`, without the `>` that belongs to the sign.
 fn after_sign(text: &[u8]) -> &[u8]
     ensures { result.now ≡ spec.after_sign text.now }
 {
@@ -189,7 +188,7 @@ fn after_sign(text: &[u8]) -> &[u8]
     }
 }
 
-/// A key and a value, by the content of their line.
+/// A key and a value, given the content of their line.
 fn read_pair(line: usize, content: &[u8]) -> Result<Line<'_>, ConfFault>
     ensures { Answers (λ item. borrowed.line_now item ∷ []) spec.line_fault result
         (spec.at_line line (spec.pair_of line (cut.cut_once 61 content.now))) }
@@ -205,7 +204,7 @@ fn read_pair(line: usize, content: &[u8]) -> Result<Line<'_>, ConfFault>
     Ok(Line::Pair { line, key, value })
 }
 
-/// The item of a line, by its content, where it has one: whether a section has begun says if a pair may stand there.
+/// The item of a line, if it has one, given its content and whether a section has begun; a pair is allowed only in a section.
 ///
 /// A line is refused, in this order, for a bad header, a template, a directive, a pair before any header, and a missing
 /// `=`: see [`LineKind`].

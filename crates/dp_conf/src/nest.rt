@@ -1,4 +1,4 @@
-//! How deep groups stand inside each other.
+//! The nesting of groups in a text.
 ghost use Rattle.std.specs.Prelude.{◌≡◌, ◌+◌, ◌^◌, ◌<◌, [], IfOk, OnErr, OnOk};
 ghost use Rattle.dp_conf.specs.Groups.{Reading, IsReading, depth_of};
 ghost use Rattle.dp_conf.specs.GroupsRead.{first_of, nesting_of};
@@ -8,14 +8,14 @@ use crate::groups::{GroupKind, Mark, next_mark};
 use std::alloc::{AllocError, Global};
 use std::marker::Model;
 
-/// An opening that waits for its end, with the nesting of what stands before it on its level.
+/// An opening that waits for its end, with the nesting of the text before it on its level.
 #[derive(Clone, Copy)]
 pub(crate) struct WaitingGroup {
     kind: GroupKind,
     deepest: usize,
 }
 
-/// The openings that wait, and the nesting of what stands after the innermost.
+/// The openings that wait, and the nesting of the text after the innermost one.
 #[derive(Drop)]
 struct Nest {
     waiting: Vec<WaitingGroup>,
@@ -41,7 +41,7 @@ impl Nest {
         }
     }
 
-    /// The kind of the innermost opening that waits.
+    /// The kind of the innermost waiting opening.
     fn innermost(&self) -> Option<GroupKind>
         ensures { result ≡ first_of (nests.kinds_of self.now.waiting) }
     {
@@ -61,7 +61,7 @@ impl Nest {
         }
     }
 
-    /// A group opens. After a refused growth all is as before.
+    /// A group opens. If memory runs out nothing changes.
     fn open(&mut self, kind: GroupKind) -> Result<(), AllocError>
         ensures ok { OnOk result (self.new ≡ nests.nest_after (Mark.Opening kind) self.old) }
         ensures err { OnErr result (self.new ≡ self.old) }
@@ -72,7 +72,7 @@ impl Nest {
         Ok(())
     }
 
-    /// Takes a mark. After a refused growth all is as before.
+    /// Takes a mark. If memory runs out nothing changes.
     fn take(&mut self, mark: Mark) -> Result<(), AllocError>
         requires { self.old.deepest + 1 < 2 ^ 64 }
         ensures ok { OnOk result (self.new ≡ nests.nest_after mark self.old) }
@@ -88,7 +88,7 @@ impl Nest {
         }
     }
 
-    /// The nesting, where the text ends.
+    /// The nesting at the end of the text.
     fn finish(self) -> usize
         ensures { result ≡ nests.deepest_in self.waiting self.deepest }
     {
@@ -103,15 +103,15 @@ impl Nest {
     }
 }
 
-/// The greatest number of groups inside each other in the text.
+/// The nesting of groups in the text: the greatest number of groups inside each other.
 ///
-/// It takes one pass. An opening without its end is no group, whatever stands after it.
+/// It reads the text once. An opening without an end is not a group, whatever comes after it.
 ///
-/// The error comes only where a growth was refused.
+/// It fails only if memory runs out.
 pub fn nesting(alloc: Global, text: &[u8]) -> Result<usize, AllocError>
     // The depth of the text's one reading.
     ensures reading { (reading : Reading) → IsReading text.now reading → IfOk result (λ depth. depth ≡ depth_of reading) }
-    // The same by a function.
+    // The same, given by a function.
     ensures exact { IfOk result (λ depth. depth ≡ nesting_of text.now) }
 {
     // Only a `$` opens a group.

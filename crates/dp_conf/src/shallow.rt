@@ -1,4 +1,4 @@
-//! Texts that may be expanded: groups do not stand too deep inside each other in them.
+//! Texts that may be expanded: their groups are not nested too deeply.
 ghost use Rattle.std.specs.Prelude.{◌≡◌, IfOk, nat_eq, Some};
 ghost use Rattle.std.specs.Cmp.Lexicographic.{pointwise, nat_list_eq_equiv};
 ghost use Rattle.std.specs.Cmp.{partial_equiv_from_equiv};
@@ -11,13 +11,12 @@ use std::alloc::{AllocError, Global};
 use std::fmt;
 use std::marker::Model;
 
-/// The greatest number of groups that may stand inside each other in a text that is expanded (a choice of this
-/// program).
+/// The greatest nesting of groups in a text that is expanded (a choice of this program).
 pub const MOST_NESTING: usize = 32;
 
-/// A text of any bytes in which at most 32 groups stand inside each other, such as the arguments of an application.
+/// A text of any bytes whose groups are nested at most 32 deep, such as the arguments of an application.
 ///
-/// A contract sees it as its bytes. Two texts are equal where their bytes are.
+/// A contract sees it as its bytes. Two texts are equal if their bytes are equal.
 pub struct ShallowText {
     text: Text,
 }
@@ -43,9 +42,9 @@ impl Model for ShallowText {
 impl ShallowText {
     ghost use Rattle.dp_conf.specs.Shallow.{IsShallow, unless_too_deep};
 
-    /// A text of these bytes, or None where more than 32 groups stand inside each other in them.
+    /// A text of these bytes, or None if their groups are nested more than 32 deep.
     ///
-    /// The error comes only where a growth was refused.
+    /// It fails only if memory runs out.
     pub fn read(alloc: Global, bytes: &[u8]) -> Result<Option<Self>, AllocError>
         ensures { IfOk result (λ text. text ≡ unless_too_deep bytes.now) }
     {

@@ -10,17 +10,17 @@ use crate::fault::ConfFault;
 use crate::lines::{Line, has_begun, read_content, read_line, without_mark};
 use std::alloc::{AllocError, Global};
 
-/// What takes the lines of a text, one after another.
+/// A taker of the lines of a text, which takes one after another.
 pub trait TakeLine {
-    // What it is after a line.
+    // The taker after a line.
     ghost after_line: { Self → LineOf → Self };
 
-    /// Takes a line.
+    /// Takes a line. It fails only if memory runs out.
     fn take(&mut self, alloc: Global, line: Line<'_>) -> Result<(), AllocError>
         ensures { OnOk result (self.new ≡ after_line self.old (line_now line.entry)) };
 }
 
-/// Takes the line of a content, and says whether a section has begun after it.
+/// Takes the line with a content, and returns whether a section has begun after it.
 fn take_content<T: TakeLine>(
     alloc: Global,
     taker: &mut T,
@@ -39,7 +39,7 @@ fn take_content<T: TakeLine>(
     Ok(has_begun(in_section, item))
 }
 
-/// Takes a part of the text, and says whether a section has begun after it.
+/// Takes a part of the text, and returns whether a section has begun after it.
 fn take_part<T: TakeLine>(
     alloc: Global,
     taker: &mut T,
@@ -51,7 +51,7 @@ fn take_part<T: TakeLine>(
     ensures taken { Answers (λ begun. (begun, taker.new)) line_fault result
         (spec.part_taken T.after_line in_section taker.old (at_line line (part_item in_section line part.now))) }
 {
-    // An empty part says nothing.
+    // An empty part has no item.
     if part.is_empty() {
         return Ok(in_section);
     }
@@ -61,15 +61,15 @@ fn take_part<T: TakeLine>(
 
 /// Takes the lines of a configuration text in order, with their numbers, up to the first faulty one.
 ///
-/// Lines end at line feeds; a byte order mark at the front is skipped, and blanks are bytes of 32 or less (choices of
-/// this program). A `;` begins a comment unless a `\` stands directly before it, and `\;` is a `;`. What is left of
-/// a line, without the blanks at its ends, is nothing, a header `[name]`, or a pair `key = value` or `key => value`.
+/// Lines end at line feeds; a byte order mark at the start is skipped, and blanks are bytes of 32 or less (choices of
+/// this program). A `;` begins a comment unless a `\` comes directly before it, and `\;` is a `;`. The rest of a line,
+/// without blanks at either end, is empty, a header `[name]`, or a pair `key = value` or `key => value`.
 ///
 /// A line is refused, in this order, for a block comment, a bad header, a template, a directive, a pair before any
 /// header, and a missing `=`: see [`LineKind`](crate::LineKind). It allocates only for lines with a `\`.
 ///
-/// After a faulty line the taker has gone after the lines before it, and no others. After out-of-memory it is what its
-/// own [`take`](TakeLine::take) left, which its type says.
+/// After a faulty line the taker has taken the lines before it, and no others. If memory runs out it is as its own
+/// [`take`](TakeLine::take) left it; its type says how.
 pub fn take_lines<T: TakeLine>(alloc: Global, text: &[u8], taker: &mut T) -> Result<(), ConfFault>
     ensures taken { Answers (λ done. taker.new) line_fault result (spec.all_taken T.after_line taker.old (lines_of text.now)) }
     ensures left { spec.AtFault (taker.new ≡ fold T.after_line taker.old (items_before_fault text.now)) result }

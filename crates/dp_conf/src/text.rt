@@ -16,7 +16,7 @@ use std::marker::Model;
 
 /// A text of any bytes, such as a name, a key or a value.
 ///
-/// A contract sees it as its bytes. Two texts are equal where their bytes are.
+/// A contract sees it as its bytes. Two texts are equal if their bytes are equal.
 pub struct Text {
     bytes: Vec<u8>,
 }
@@ -37,14 +37,14 @@ impl Model for Text {
 }
 
 impl Text {
-    /// The text of these bytes. It never allocates.
+    /// The text with these bytes. It never allocates.
     pub fn new(bytes: Vec<u8>) -> Self
         ensures { result ≡ bytes.items }
     {
         Text { bytes }
     }
 
-    /// A text of the same bytes.
+    /// A text with the same bytes. It fails only if memory runs out.
     pub fn copy_of(alloc: Global, bytes: &[u8]) -> Result<Self, AllocError>
         ensures { IfOk result (λ text. text ≡ bytes.now) }
     {
@@ -52,7 +52,7 @@ impl Text {
         Ok(Text::new(bytes))
     }
 
-    /// Adds a byte after the others. After a refused growth all is as before.
+    /// Adds a byte at the end. If memory runs out nothing changes.
     pub fn push(&mut self, byte: u8) -> Result<(), AllocError>
         ensures ok { OnOk result (self.new ≡ self.old ++ byte ∷ []) }
         ensures err { OnErr result (self.new ≡ self.old) }

@@ -1,4 +1,4 @@
-//! Readers and writers that tell whether one of their calls failed.
+//! Readers and writers that report whether one of their calls failed.
 ghost use Rattle.std.specs.Prelude.{◌≡◌, ℕ, Bool, ◌||◌, List, Option, OnOk, OnErr, IfOk, false};
 ghost use Rattle.std.specs.Result.{is_err};
 ghost use Rattle.std.specs.Io.{ReadsAtMost};
@@ -10,7 +10,7 @@ use crate::fault::WriteFailed;
 use std::io;
 use std::io::{Read, Write};
 
-/// A reader or a writer that remembers whether one of its calls has failed, and how often it was read.
+/// A reader or a writer that remembers whether one of its calls has failed, and how many times it was read.
 #[derive(Drop)]
 pub struct Told<T> {
     inner: T,
@@ -21,7 +21,7 @@ pub struct Told<T> {
 impl<T> Told<T> {
     ghost use Rattle.dp_conf.specs.Told.{told_inner, told_failed, told_reads};
 
-    /// The reader or the writer, of which no call has been made yet.
+    /// The reader or the writer, before any call.
     pub fn new(inner: T) -> Self
         ensures inner { told_inner result ≡ inner }
         ensures failed { told_failed result ≡ false }
@@ -54,18 +54,18 @@ impl<T> Told<T> {
     }
 }
 
-/// A reader whose contract says when one of its reads has failed.
+/// A reader whose contract says whether one of its reads has failed.
 pub trait ReadTold {
-    // The bytes that reads will give from here on, where they are known.
+    // The bytes that reads will give from here on, if they are known.
     ghost remaining: { Self → Option (List ℕ) };
 
     // Whether a read has failed.
     ghost has_failed: { Self → Bool };
 
-    // How many reads were made, counted up to the greatest number of 64 bits.
+    // The number of reads so far, counted up to the greatest number of 64 bits.
     ghost reads: { Self → ℕ };
 
-    /// Reads some bytes into the buffer and says how many, none only at the end or with no room.
+    /// Reads some bytes into the buffer and returns their number, which is zero only at the end or if the buffer is empty.
     fn read_told(&mut self, buffer: &mut [u8]) -> io::Result<usize>
         ensures bound { ReadsAtMost result buffer.new }
         ensures bytes { ReadConsumes (remaining self.old) (remaining self.new) result buffer.new }
@@ -93,22 +93,22 @@ impl<R: Read> ReadTold for Told<R> {
     }
 }
 
-/// A writer whose contract says when one of its writes has failed.
+/// A writer whose contract says whether one of its writes has failed.
 pub trait WriteTold {
-    // The bytes that the writer holds, where they are known.
+    // The bytes that the writer contains, if they are known.
     ghost contents: { Self → Option (List ℕ) };
 
     // Whether a write has failed.
     ghost has_failed: { Self → Bool };
 
-    /// Writes all the bytes, or says that a write failed. What was written up to then is a front of them.
+    /// Writes all the bytes, or fails if a write failed. What was written until then is a prefix of them.
     fn write_told(&mut self, bytes: &[u8]) -> Result<(), WriteFailed>
         ensures ok { OnOk result (Appends (contents self.old) (contents self.new) bytes.now) }
         ensures err { OnErr result (AppendsFront (contents self.old) (contents self.new) bytes.now) }
         ensures told { has_failed self.new ≡ (has_failed self.old || is_err result) };
 }
 
-/// Writes all the bytes, unless a write answers an error or takes none of them.
+/// Writes all the bytes, unless a write returns an error or takes none of them.
 fn write_left<W: Write>(writer: &mut W, bytes: &[u8]) -> Result<(), WriteFailed>
     ensures ok { OnOk result (Appends (W.contents writer.old) (W.contents writer.new) bytes.now) }
     ensures err { OnErr result (AppendsFront (W.contents writer.old) (W.contents writer.new) bytes.now) }

@@ -1,4 +1,4 @@
-//! A reader read whole, up to the most bytes that a file may have.
+//! Reading a reader to its end, up to the greatest size of a file.
 ghost use Rattle.std.specs.Prelude.{◌≡◌, ◌+◌, ◌≤◌, ◌||◌, IfSome};
 ghost use Rattle.dp_conf.specs.Answers.{Answers};
 ghost use Rattle.dp_conf.specs.Whole.{most_bytes, whole_of, length_fault, is_read_failed};
@@ -7,17 +7,17 @@ use crate::fault::ReadFault;
 use crate::told::ReadTold;
 use std::alloc::Global;
 
-/// How many bytes a file may have.
+/// The greatest number of bytes in a file.
 pub const MOST_BYTES: usize = 16_777_216;
 
-/// How many bytes are asked of a reader at once.
+/// The number of bytes requested from a reader at once.
 const CHUNK: usize = 8192;
 
-/// All bytes of the reader, where it has at most 16,777,216 of them.
+/// All bytes of the reader, if it has at most 16,777,216 of them.
 ///
-/// The fault is `ReadFailed` where a read answered an error of any kind, and `TooLong` where more bytes came. Each
-/// read but the last brings a byte, so the reader is read at most 16,777,217 times. After a fault the reader has given
-/// some of its bytes.
+/// The fault is `ReadFailed` if a read returned an error of any kind, `TooLong` if more bytes came, and `NoMemory` if memory ran out. Each
+/// read except the last brings a byte, so the reader is read at most 16,777,217 times. After a fault some of the reader's bytes have been
+/// read.
 pub fn read_whole<R: ReadTold>(alloc: Global, reader: &mut R) -> Result<Vec<u8>, ReadFault>
     ensures whole { IfSome (R.remaining reader.old)
         (λ bytes. Answers (λ read. read.items) length_fault result (whole_of bytes)) }

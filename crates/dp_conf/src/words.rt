@@ -1,18 +1,18 @@
-//! Words without regard to case, and numbers.
+//! Words compared without regard to case, and numbers.
 ghost use Rattle.std.specs.Prelude.{◌≡◌, ◌+◌, ◌-◌, ◌^◌, ◌≤◌, min};
 ghost use Rattle.std.specs.Option.{option_map};
 ghost use Rattle.dp_conf.specs.Numbers as numbers;
 ghost use Rattle.dp_conf.specs.Words as words;
 
-/// Whether the words are the same but for the case of ASCII letters.
+/// Whether the words are the same except for the case of ASCII letters.
 pub fn same_word(a: &[u8], b: &[u8]) -> bool
     ensures { result ≡ words.same_word a.now b.now }
 {
-    // Most words are written as they are asked for, and equal bytes are compared in groups.
+    // Most words are written as requested, and equal bytes are compared in groups.
     a == b || a.eq_ignore_ascii_case(b)
 }
 
-/// The number of some digits with one more after it, or the greatest number of a u64 where it is above that.
+/// The number of some digits with one more after it, or the greatest u64 if it is above that.
 fn with_digit(number: u64, byte: u8) -> u64
     requires { 48 ≤ byte }
     ensures { result ≡ min (numbers.with_digit number byte) (2 ^ 64 - 1) }
@@ -22,8 +22,8 @@ fn with_digit(number: u64, byte: u8) -> u64
         .saturating_add(u64::from(byte - b'0'))
 }
 
-/// The number that the text writes in decimal, however many digits it has, or None where it is not one or more
-/// digits. A number above the greatest of a u64 is given as that one.
+/// The decimal number that the text writes, however many digits it has, or None if it is not one or more digits. A number above the
+/// greatest u64 is returned as the greatest u64.
 pub fn read_number(text: &[u8]) -> Option<u64>
     ensures { result ≡ option_map (λ number. min number (2 ^ 64 - 1)) (numbers.number_of text.now) }
 {

@@ -1,4 +1,4 @@
--- How Asterisk reads a text, by its tree and by two walks over values.
+-- The value of a text in Asterisk, given its tree and given two walks over values.
 use Rattle.std.proofs.Common.{◌≡◌, ℕ, Bool, true, false, ◌||◌, cond, List, [], ◌∷◌, Option, Some, None, refl, ap, sym, ◌∙◌, option_map}
 use Rattle.std.specs.Prelude.{is_some, unwrap_or}
 use Rattle.std.specs.List.{list_any}
@@ -20,7 +20,7 @@ use Rattle.dp_expr.proofs.MarksLemmas.{has_foreign_mark-reading}
 use Rattle.dp_expr.proofs.QuotientsLemmas.{exact_value_of-cut, made_of-exact}
 use Rattle.dp_expr.proofs.Readings.{walk-tree, walk-no_tree, made_of-values}
 
--- nothing more stands after the operand
+-- nothing more comes after the operand
 or-false : (t : Bool) → (t || false) ≡ t
 or-false true = refl
 or-false false = refl
@@ -37,31 +37,31 @@ has_fraction-spelling (Between operator left right) =
     list_any-append is_fraction_token (spelling left) (Sign operator ∷ spelling right)
     ∙ (λ i. has_fraction-spelling left i || has_fraction-spelling right i)
 
--- tokens with a reading are read by its tree
+-- the reading of tokens with a tree is that of the tree
 tokens_reading-tree : (tokens : List Token) (tree : Tree) → IsReading tokens tree → tokens_reading tokens ≡ tree_reading (Some tree)
 unfolding walk ending
 tokens_reading-tree [] tree reading = let e = walk-tree [] tree reading in cc
 tokens_reading-tree (token ∷ tokens) tree reading = ap tree_reading (walk-tree (token ∷ tokens) tree reading)
 
--- so is a text
+-- and so is that of a text
 pub asterisk_reading-tree : (text : List ℕ) (tree : Tree) → IsReading (tokens_of text) tree → asterisk_reading text ≡ reading_of tree
 unfolding asterisk_reading
 asterisk_reading-tree text tree reading =
     let fractions = ap (list_any is_fraction_token) reading.spelling ∙ has_fraction-spelling tree in
     (λ i. cond (has_foreign_mark-reading text tree reading i || fractions i) Unknown (tokens_reading-tree (tokens_of text) tree reading i))
 
--- tokens without a reading are a fault, but for none at all
+-- tokens without a tree are a fault, unless there are none at all
 tokens_reading-none : (tokens : List Token) → ((tree : Tree) → ¬ (IsReading tokens tree)) → tokens_reading tokens ≡ fault_reading tokens
 tokens_reading-none [] none = refl
 tokens_reading-none (token ∷ tokens) none = ap tree_reading (walk-no_tree (token ∷ tokens) none)
 
--- so is a text
+-- and so is a text
 pub asterisk_reading-none : (text : List ℕ) → ((tree : Tree) → ¬ (IsReading (tokens_of text) tree)) → asterisk_reading text ≡ reading_without_tree text
 unfolding asterisk_reading
 asterisk_reading-none text none =
     ap (λ r. cond (is_unknown_text text) Unknown r) (tokens_reading-none (tokens_of text) none)
 
--- a text whose reading is unknown whatever it comes to
+-- a text whose reading is unknown whatever its value is
 pub asterisk_reading-unknown : (text : List ℕ) → is_unknown_text text ≡ true → asterisk_reading text ≡ Unknown
 unfolding asterisk_reading
 asterisk_reading-unknown text unknown = ap (λ t. cond t Unknown (tokens_reading (tokens_of text))) unknown
@@ -78,25 +78,25 @@ asterisk_reading-tokens text token tokens known some =
     (λ i. cond (known i) Unknown (tokens_reading (some i)))
     ∙ sym (ap (λ l. tree_reading (walk trees (Wanting []) l)) some)
 
--- the reading by whether there is an exact value, and by whether there is a value
+-- the reading, given whether there is an exact value and whether there is a value
 abbrev pub reading_by : Bool → Bool → ExpressionReading
 reading_by exact cut = cond exact Value (cond cut Unknown Zero)
 
--- a value counts where there is one though each quotient must be whole
+-- the value counts if there is one even though each quotient must be whole
 outcome_reading-by : (outcome : Outcome) (cut : Bool) → outcome_reading outcome cut ≡ reading_by (is_some (cond cut None outcome)) (is_some outcome)
 outcome_reading-by None true = refl
 outcome_reading-by None false = refl
 outcome_reading-by (Some text) true = refl
 outcome_reading-by (Some text) false = refl
 
--- the same of a tree, by what walks make of it
+-- the same for a tree, given what walks make of it
 tree_reading-by : (o : Option Tree) → tree_reading o ≡ reading_by (is_some (unwrap_or (option_map (made_of (values_by Exact)) o) None)) (is_some (unwrap_or (option_map (made_of values) o) None))
 tree_reading-by None = refl
 tree_reading-by (Some tree) =
     outcome_reading-by (value_of tree) (has_cut_quotient tree)
     ∙ sym (λ i. reading_by (is_some ((made_of-exact tree ∙ exact_value_of-cut tree) i)) (is_some (made_of-values tree i)))
 
--- the same of tokens, by two walks
+-- the same for tokens, given two walks
 pub tree_reading-walk : (tokens : List Token) → tree_reading (walk trees (Wanting []) tokens) ≡ reading_by (is_some (unwrap_or (walk (values_by Exact) (Wanting []) tokens) None)) (is_some (unwrap_or (walk (values_by Cut) (Wanting []) tokens) None))
 tree_reading-walk tokens =
     tree_reading-by (walk trees (Wanting []) tokens)

@@ -1,4 +1,4 @@
--- Stacks of frames as definitions see them.
+-- Stacks of frames in terms of definitions.
 use Rattle.std.proofs.Common.{◌≡◌, ℕ, ◌+◌, ◌-◌, Bool, true, false, cond, List, [], ◌∷◌, ◌++◌, length, Option, Some, None, refl, ap, sym, ◌∙◌, arith}
 use Rattle.std.specs.Prelude.{slice_get}
 use Rattle.dp_expr.specs.declared.frame.Frame.{Frame as OpenFrame}
@@ -27,13 +27,13 @@ due_last : ℕ → Option OpenFrame → Bool
 due_last level None = false
 due_last level (Some frame) = is_due level (frame_seen frame)
 
--- whether the top is due, asked of the last frame
+-- whether the top is due depends on the last frame
 above_last : (below : List (Frame Outcome)) (level : ℕ) (frame : OpenFrame) (frames : List OpenFrame) → is_top_due level (frames_above below (frame ∷ frames)) ≡ due_last level (slice_get (frame ∷ frames) (length frames))
 unfolding frames_above due_last
 above_last below level frame [] = refl
 above_last below level frame (next ∷ frames) = above_last (frame_seen frame ∷ below) level next frames
 
--- without a last frame nothing is due
+-- without a last frame none is due
 pub is_top_due-none : (level : ℕ) (frames : List OpenFrame) → slice_get frames (length frames - 1) ≡ None → is_top_due level (frames_seen frames) ≡ false
 unfolding frames_seen frames_above due_last
 is_top_due-none level [] e = refl
@@ -49,7 +49,7 @@ is_top_due-some level (frame ∷ frames) top e =
     let p : slice_get (frame ∷ frames) (length frames) ≡ Some top = ap (slice_get (frame ∷ frames)) (omega arith) ∙ e in
     above_last [] level frame frames ∙ ap (due_last level) p
 
--- what is due takes its operand, and what isn't stays
+-- a frame that is due takes its operand, and one that is not stays
 pub reduction-top : {X : Type 0} (make : Making X) (level : ℕ) (frames more : List (Frame X)) (frame : Frame X) (x : X) → frames ≡ frame ∷ more → is_top_due level frames ≡ true → reduction make level frames x ≡ reduction make level more (value_under make frame x)
 unfolding reduction
 reduction-top make level frames more frame x e due =
@@ -57,19 +57,19 @@ reduction-top make level frames more frame x e due =
     ap (λ l. reduction make level l x) e
     ∙ ap (λ b. cond b (reduction make level more (value_under make frame x)) (record { frames = frame ∷ more; value = x })) here
 
--- where the top is not due all stays
+-- if the top is not due everything stays
 pub reduction-settled : {X : Type 0} (make : Making X) (level : ℕ) (frames : List (Frame X)) (x : X) → is_top_due level frames ≡ false → reduction make level frames x ≡ record { frames = frames; value = x }
 unfolding reduction
 reduction-settled make level [] x due = refl
 reduction-settled make level (frame ∷ frames) x due =
     ap (λ b. cond b (reduction make level frames (value_under make frame x)) (record { frames = frame ∷ frames; value = x })) due
 
--- no frames nest by nothing
+-- no frames have no nesting
 pub nesting-nil : nesting (frames_seen []) ≡ 0
 unfolding frames_seen frames_above nesting
 nesting-nil = refl
 
--- a frame on top nests by its own depth
+-- a frame on top adds its own depth to the nesting
 pub nesting-push : (frames : List OpenFrame) (frame : OpenFrame) (depth : ℕ) → ((n : ℕ) → depth_with (frame_seen frame) n ≡ n + depth) → nesting (frames_seen (frames ++ (frame ∷ []))) ≡ nesting (frames_seen frames) + depth
 unfolding nesting
 nesting-push frames frame depth deeper =

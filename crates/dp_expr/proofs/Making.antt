@@ -1,4 +1,4 @@
--- Whatever a walk makes, it makes of the tree that the same walk makes of trees.
+-- Whatever a walk makes is made from the tree that the same walk over trees makes.
 use Rattle.std.proofs.Common.{◌≡◌, ℕ, suc, true, false, cond, List, [], ◌∷◌, refl, ◌∙◌, ap, nat_le, nat_lt, option_map}
 use Rattle.dp_expr.specs.declared.operator.Operator.TheVariants.{Or, And, Equal, NotEqual, LessThan, AtMost, MoreThan, AtLeast, Plus, Minus, Times, Over, Remainder}
 use Rattle.dp_expr.specs.declared.operator.Prefix.TheVariants.{Negate, Not}
@@ -25,7 +25,7 @@ module _ {X : Type 0} (make : Making X) where
   held_made : Held Tree → Held X
   held_made held = record { frames = frames_made held.frames; value = made_of make held.value }
 
-  -- what frames hold does not count for their nesting
+  -- the values in frames do not affect their nesting
   nesting-made_of : (frames : List (Frame Tree)) → nesting (frames_made frames) ≡ nesting frames
   unfolding nesting frames_made frame_made
   nesting-made_of [] = refl
@@ -33,7 +33,7 @@ module _ {X : Type 0} (make : Making X) where
   nesting-made_of (Front prefix ∷ frames) = ap suc (nesting-made_of frames)
   nesting-made_of (Paren ∷ frames) = ap suc (nesting-made_of frames)
 
-  -- frames take their operands alike
+  -- frames take their operands in the same way
   reduction-made_of : (level : ℕ) (frames : List (Frame Tree)) (tree : Tree) → reduction make level (frames_made frames) (made_of make tree) ≡ held_made (reduction trees level frames tree)
   unfolding reduction frames_made frame_made held_made
   reduction-made_of level [] tree = refl
@@ -45,7 +45,7 @@ module _ {X : Type 0} (make : Making X) where
   reduction-made_of level (Front prefix ∷ frames) tree = reduction-made_of level frames (trees.before prefix tree)
   reduction-made_of level (Paren ∷ frames) tree = refl
 
-  -- a frame opens alike
+  -- a frame opens in the same way
   entry-made_of : (frame : Frame Tree) (frames : List (Frame Tree)) → entry (frame_made frame) (frames_made frames) ≡ state_made (entry frame frames)
   unfolding state_made frames_made
   entry-made_of frame frames =
@@ -55,7 +55,7 @@ module _ {X : Type 0} (make : Making X) where
         | false ↦ refl
       ])
 
-  -- a parenthesis is closed alike
+  -- a parenthesis is closed in the same way
   closing-made_of : (frames : List (Frame Tree)) (tree : Tree) → closing make (frames_made frames) (made_of make tree) ≡ state_made (closing trees frames tree)
   unfolding state_made frames_made frame_made
   closing-made_of [] tree = refl
@@ -63,7 +63,7 @@ module _ {X : Type 0} (make : Making X) where
   closing-made_of (Front prefix ∷ frames) tree = refl
   closing-made_of (Paren ∷ frames) tree = refl
 
-  -- a token where an operand is wanted
+  -- a token where an operand is needed
   first_step-made_of : (frames : List (Frame Tree)) (token : Token) → first_step make (frames_made frames) token ≡ state_made (first_step trees frames token)
   unfolding state_made frame_made
   first_step-made_of frames (Operand bytes) = refl
@@ -105,7 +105,7 @@ module _ {X : Type 0} (make : Making X) where
   step-made_of (Holding frames tree) token = next_step-made_of frames tree token
   step-made_of Failed token = refl
 
-  -- what is held is the whole alike
+  -- the operand is the whole in the same way
   whole-made_of : (frames : List (Frame Tree)) (tree : Tree) → whole (frames_made frames) (made_of make tree) ≡ option_map (made_of make) (whole frames tree)
   unfolding frames_made
   whole-made_of [] tree = refl
@@ -120,7 +120,7 @@ module _ {X : Type 0} (make : Making X) where
       ap whole_of (reduction-made_of 0 frames tree) ∙ whole-made_of held.frames held.value
   ending-made_of Failed = refl
 
-  -- all tokens from a state on
+  -- all tokens, starting in a state
   walk-made_of : (state : State Tree) (tokens : List Token) → walk make (state_made state) tokens ≡ option_map (made_of make) (walk trees state tokens)
   unfolding walk
   walk-made_of state [] = ending-made_of state

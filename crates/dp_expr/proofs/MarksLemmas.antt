@@ -1,4 +1,4 @@
--- Marks that mean something in Asterisk alone, one step on, and that no tree has one.
+-- Marks that have a meaning only in Asterisk: one step of the search, and that no tree contains one.
 use Rattle.std.proofs.Common.{◌≡◌, ℕ, zero, suc, ◌<◌, Bool, true, false, ◌||◌, List, [], ◌∷◌, length, drop, refl, ap, sym, subst, ◌∙◌, arith, eqb-true}
 use Rattle.std.specs.Prelude.{◌==◌}
 use Rattle.std.specs.List.{list_any}
@@ -10,7 +10,7 @@ use Rattle.dp_expr.specs.AsteriskReading.{is_foreign_mark, has_foreign_mark_afte
 use Rattle.dp_expr.specs.Tokens.{Token, Operand, Sign, Bang, Opening, Closing, Stray, is_blank, is_word_byte, mark_cut, cut_at, begin_token, tokens_after, tokens_of}
 use Rattle.dp_expr.specs.Trees.{Tree, Leaf, Group, Before, Between, IsReading, spelling}
 
--- bytes that a token takes are left out
+-- bytes of a token are skipped
 has_foreign_mark_after-drop : (bytes : List ℕ) (n : ℕ) → has_foreign_mark_after bytes n ≡ has_foreign_mark_after (drop n bytes) 0
 unfolding has_foreign_mark_after
 has_foreign_mark_after-drop [] zero = refl
@@ -18,19 +18,19 @@ has_foreign_mark_after-drop [] (suc n) = refl
 has_foreign_mark_after-drop (b ∷ bytes) zero = refl
 has_foreign_mark_after-drop (b ∷ bytes) (suc n) = has_foreign_mark_after-drop bytes n
 
--- a byte is such a mark, or the rest after its token has one
+-- a byte is such a mark, or the rest after its token contains one
 pub has_foreign_mark-cut : (b : ℕ) (bytes : List ℕ) → has_foreign_mark (b ∷ bytes) ≡ (is_foreign_mark b || has_foreign_mark (drop (cut_at b bytes).more bytes))
 unfolding has_foreign_mark has_foreign_mark_after
 has_foreign_mark-cut b bytes =
     ap (λ t. is_foreign_mark b || t) (has_foreign_mark_after-drop bytes (cut_at b bytes).more)
 
--- a text without length has none
+-- a text of length zero contains none
 pub has_foreign_mark-empty : (text : List ℕ) → length text ≡ 0 → has_foreign_mark text ≡ false
 unfolding has_foreign_mark has_foreign_mark_after
 has_foreign_mark-empty [] e = refl
 has_foreign_mark-empty (b ∷ bytes) e = absurd (omega arith)
 
--- what stands in no expression
+-- a token that no expression contains
 is_stray : Token → Bool
 is_stray (Operand bytes) = false
 is_stray (Sign operator) = false
@@ -39,7 +39,7 @@ is_stray Opening = false
 is_stray Closing = false
 is_stray Stray = true
 
--- a blank takes no other byte
+-- no other byte belongs to a blank
 cut_at-blank : (b : ℕ) (bytes : List ℕ) → is_blank b ≡ true → (cut_at b bytes).more ≡ 0
 unfolding cut_at is_word_byte mark_cut
 cut_at-blank b bytes blank =
@@ -79,7 +79,7 @@ or-true : (t : Bool) → (t || true) ≡ true
 or-true true = refl
 or-true false = refl
 
--- so a text that has one has a stray
+-- so a text that contains one has a stray
 tokens_after-foreign : (bytes : List ℕ) (n : ℕ) → has_foreign_mark_after bytes n ≡ true → list_any is_stray (tokens_after bytes n) ≡ true
 unfolding has_foreign_mark_after tokens_after
 tokens_after-foreign [] n has = cc
@@ -87,7 +87,7 @@ tokens_after-foreign (b ∷ bytes) (suc n) has = tokens_after-foreign bytes n ha
 tokens_after-foreign (b ∷ bytes) zero has =
     by_foreign (is_foreign_mark b) refl (λ n. tokens_after-foreign bytes n) has
   where
-    -- it stands further on
+    -- it is further on
     by_blank : (blank : Bool) → is_blank b ≡ blank → ((n : ℕ) → has_foreign_mark_after bytes n ≡ true → list_any is_stray (tokens_after bytes n) ≡ true) → has_foreign_mark_after bytes (cut_at b bytes).more ≡ true → list_any is_stray (begin_token blank (cut_at b bytes) (tokens_after bytes)) ≡ true
     by_blank true p after has =
         after 0 (ap (has_foreign_mark_after bytes) (sym (cut_at-blank b bytes p)) ∙ has)
@@ -95,12 +95,12 @@ tokens_after-foreign (b ∷ bytes) zero has =
         ap (λ t. is_stray (cut_at b bytes).token || t) (after (cut_at b bytes).more has)
         ∙ or-true (is_stray (cut_at b bytes).token)
 
-    -- it stands here or further on
+    -- it is here or further on
     by_foreign : (foreign : Bool) → is_foreign_mark b ≡ foreign → ((n : ℕ) → has_foreign_mark_after bytes n ≡ true → list_any is_stray (tokens_after bytes n) ≡ true) → (foreign || has_foreign_mark_after bytes (cut_at b bytes).more) ≡ true → list_any is_stray (begin_token (is_blank b) (cut_at b bytes) (tokens_after bytes)) ≡ true
     by_foreign true p after has = foreign_stray b bytes (tokens_after bytes) p
     by_foreign false p after has = by_blank (is_blank b) refl after has
 
--- no tree is spelled with a stray
+-- no tree contains a stray
 spelling-stray : (tree : Tree) → list_any is_stray (spelling tree) ≡ false
 unfolding is_stray
 spelling-stray (Leaf bytes) = refl
@@ -112,7 +112,7 @@ spelling-stray (Between operator left right) =
     list_any-append is_stray (spelling left) (Sign operator ∷ spelling right)
     ∙ (λ i. spelling-stray left i || spelling-stray right i)
 
--- a text that reads as a tree has no such mark
+-- a text that reads as a tree contains no such mark
 pub has_foreign_mark-reading : (text : List ℕ) (tree : Tree) → IsReading (tokens_of text) tree → has_foreign_mark text ≡ false
 unfolding has_foreign_mark tokens_of
 has_foreign_mark-reading text tree reading = by (has_foreign_mark_after text 0) refl

@@ -1,4 +1,4 @@
--- Numbers read a digit at a time, and numbers that are printed and read again.
+-- Numbers that are read digit by digit, and numbers that are printed and read again.
 use Rattle.std.proofs.Common.{◌≡◌, ℕ, suc, ◌+◌, ◌*◌, ◌^◌, ◌<◌, ◌≤◌, Bool, true, false, cond, List, [], ◌∷◌, length, get_or, drop, Option, Some, None, refl, ap, sym, ◌∙◌, arith, nat_lt, ℤ, pos, negsuc, neg_ℤ}
 use Rattle.std.specs.Prelude.{◌==◌, ◌&&◌, FitsSigned, option_and_then}
 use Rattle.std.specs.Int.{w64}
@@ -13,7 +13,7 @@ use Rattle.std.proofs.lemmas.Str.Parse.{digit_from_value}
 use Rattle.std.proofs.lemmas.Bool.Decides.{nat_tests}
 use Rattle.dp_expr.specs.Numbers.{natural_of, in_word, in_range, next_value, negative_of, positive_of, number_of}
 
--- the number of digits after others whose number is n, in a word at each step
+-- the number of digits after other digits with the number n, which fits a word at each step
 unfoldable pub read_on : ℕ → List ℕ → Option ℕ
 read_on n [] = Some n
 read_on n (d ∷ ds) = option_and_then (λ m. read_on m ds) (next_value n d)
@@ -24,7 +24,7 @@ unfolding read_on
 read_on-in digits i n m lt e =
     at_drop_more (read_on n) digits i 0 lt ∙ ap (option_and_then (λ k. read_on k (drop (i + 1) digits))) e
 
--- no digit, or one too many, ends the reading
+-- no digit, or a digit that does not fit, ends the reading
 pub read_on-end : (digits : List ℕ) (i n : ℕ) → i < length digits → next_value n (get_or digits i 0) ≡ None → read_on n (drop i digits) ≡ None
 unfolding read_on
 read_on-end digits i n lt e =
@@ -35,12 +35,12 @@ pub read_on-all : (digits : List ℕ) (i n : ℕ) → length digits ≤ i → re
 unfolding read_on
 read_on-all digits i n le = at_drop_all (read_on n) digits i le
 
--- more digits make no smaller number
+-- more digits do not make a smaller number
 value_after-ge : (n : ℕ) (ds : List ℕ) → n ≤ digits_value_after 10 n ds
 value_after-ge n [] = omega arith
 value_after-ge n (d ∷ ds) = omega (arith, value_after-ge (n * 10 + digit_value d) ds)
 
--- a number that fits a word
+-- a number that fits into a word
 in_word-lt : (n : ℕ) → n < 2 ^ 64 → in_word (Some n) ≡ Some n
 in_word-lt n lt = grind (arith, nat_tests)
 
@@ -48,18 +48,18 @@ in_word-lt n lt = grind (arith, nat_tests)
 in_word-ge : (n : ℕ) → 2 ^ 64 ≤ n → in_word (Some n) ≡ None
 in_word-ge n ge = grind (arith, nat_tests)
 
--- the digits' number in a word, or none
+-- the number of the digits in a word, or none
 found : Bool → ℕ → Option ℕ
 found true n = in_word (Some n)
 found false n = None
 
--- a number too large for a word is none
+-- a number that is too large for a word gives none
 found-ge : (b : Bool) (n : ℕ) → 2 ^ 64 ≤ n → found b n ≡ None
 unfolding found
 found-ge true n ge = in_word-ge n ge
 found-ge false n ge = refl
 
--- reading finds the number of the digits
+-- reading gives the number of the digits
 read_on-value : (n : ℕ) (ds : List ℕ) → n < 2 ^ 64 → read_on n ds ≡ found (list_all is_ascii_digit ds) (digits_value_after 10 n ds)
 unfolding read_on found
 read_on-value n [] lt = sym (in_word-lt n lt)
@@ -74,7 +74,7 @@ read_on-value n (d ∷ ds) lt =
       | false ↦ refl
     ]
 
--- the same as a test of all digits first
+-- the same as testing all digits first
 found-in_word : (b : Bool) (n : ℕ) → found b n ≡ in_word (cond b (Some n) None)
 unfolding found
 found-in_word true n = refl
@@ -94,7 +94,7 @@ unfolding natural_of
 natural_of-empty [] e = refl
 natural_of-empty (d ∷ ds) e = absurd (omega arith)
 
--- what a checked operation answers
+-- the result of a checked operation
 pub in_range-checked : (o : Option ℤ) (z : ℤ) → SomeIff o (FitsSigned w64 z) z → o ≡ in_range z
 in_range-checked None (pos n) h =
     let no : ¬ (n < 2 ^ 63) = λ lt. h (record { sfits = lt }) in grind (arith, nat_tests)
@@ -110,14 +110,14 @@ pub in_range-fits : (z : ℤ) → FitsSigned w64 z → in_range z ≡ Some z
 in_range-fits (pos n) fits = let lt : n < 2 ^ 63 = fits.sfits in grind (arith, nat_tests)
 in_range-fits (negsuc n) fits = let lt : n < 2 ^ 63 = fits.sfits in grind (arith, nat_tests)
 
--- what has a digit's value is one
+-- a byte with the value of a digit is a digit
 is_digit : (d : ℕ) → digit_value d < 10 → is_ascii_digit d ≡ true
 is_digit d small =
     let low = (digit_from_value d small).0 in
     let high = (digit_from_value d small).1 in
     grind (arith, nat_tests)
 
--- the same of a list
+-- the same for a list
 list_all-digits : (ds : List ℕ) → AllDigits 10 ds → list_all is_ascii_digit ds ≡ true
 list_all-digits [] h = refl
 list_all-digits (d ∷ ds) h = rw (is_digit d h.0) (list_all-digits ds h.1)
@@ -135,7 +135,7 @@ natural_of-decimal n lt =
     let k = decimal_is_IsNumeral n lt in
     natural_of-digits (decimal n) k.0.0 k.0.1 ∙ ap Some k.1
 
--- digits have no minus
+-- digits contain no minus
 number_of-digits : (ds : List ℕ) → 0 < length ds → AllDigits 10 ds → number_of ds ≡ positive_of ds
 unfolding number_of
 number_of-digits [] some h = absurd (omega arith)
@@ -144,7 +144,7 @@ number_of-digits (d ∷ ds) some h =
     let other : (d == 45) ≡ false = grind (arith, nat_tests) in
     ap (λ b. cond b (negative_of ds) (positive_of (d ∷ ds))) other
 
--- a number that is printed is read again
+-- a number that is printed is read as the same number
 pub number_of-decimal_text : (z : ℤ) → FitsSigned w64 z → number_of (signed_decimal z) ≡ Some z
 unfolding number_of
 number_of-decimal_text (pos n) fits =

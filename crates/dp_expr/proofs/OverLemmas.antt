@@ -1,4 +1,4 @@
--- Where a walk is over: it has failed, or no token is left.
+-- When a walk is over: it has failed, or no token is left.
 use Rattle.std.proofs.Common.{◌≡◌, ℕ, List, [], ◌∷◌, refl, ap}
 use Rattle.dp_expr.specs.declared.walk_place.WalkPlace.{WalkPlace}
 use Rattle.dp_expr.specs.declared.walk_place.WalkPlace.TheVariants as places
@@ -6,7 +6,7 @@ use Rattle.dp_expr.specs.steps.Places.{IsOver, place_seen}
 use Rattle.dp_expr.specs.Tokens.{Token, tokens_of}
 use Rattle.dp_expr.specs.Walk.{Making, Failed, ending, step, walk}
 
--- no tokens make anything of a walk that has failed
+-- after a failed walk nothing is made of any tokens
 walk_failed : {X : Type 0} (make : Making X) (tokens : List Token) → walk make Failed tokens ≡ ending make Failed
 unfolding walk step
 walk_failed make [] = refl
@@ -17,7 +17,7 @@ pub over_failed : (text : List ℕ) → IsOver places.Failed text
 unfolding IsOver
 over_failed text make frames = walk_failed make (tokens_of text)
 
--- a walk with no token left is over
+-- a walk without a token left is over
 pub over_empty : (place : WalkPlace) (text : List ℕ) → tokens_of text ≡ [] → IsOver place text
 unfolding IsOver walk
 over_empty place text none make frames = ap (walk make (place_seen place frames)) none

@@ -1,4 +1,4 @@
--- What a tree comes to where a quotient that is not whole is a fault.
+-- The value of a tree if a quotient that is not whole is a fault.
 use Rattle.std.proofs.Common.{◌≡◌, true, false, cond, Bool, ◌||◌, Some, None, refl, ap, ◌∙◌}
 use Rattle.dp_expr.specs.declared.division.Division.TheVariants.{Exact}
 use Rattle.dp_expr.specs.declared.operator.Operator.{Operator}
@@ -10,7 +10,7 @@ use Rattle.dp_expr.specs.Values.{Outcome, value_before, value_between, value_of}
 use Rattle.dp_expr.specs.steps.Exact.{exact_between, values_by, exact_value_of}
 use Rattle.dp_expr.proofs.Completeness.{made_of}
 
--- a fault on the left side stays one
+-- a fault on the left side stays a fault
 exact_between-left : (operator : Operator) (b : Outcome) → exact_between operator None b ≡ None
 exact_between-left Or b = refl
 exact_between-left And b = refl
@@ -26,7 +26,7 @@ exact_between-left Times b = refl
 exact_between-left Over b = refl
 exact_between-left Remainder b = refl
 
--- so does one on the right side
+-- and so does one on the right side
 exact_between-right : (operator : Operator) (a : Outcome) → exact_between operator a None ≡ None
 exact_between-right operator None = exact_between-left operator None
 exact_between-right Or (Some a) = refl
@@ -43,7 +43,7 @@ exact_between-right Times (Some a) = refl
 exact_between-right Over (Some a) = refl
 exact_between-right Remainder (Some a) = refl
 
--- a unary operator asks nothing of quotients
+-- a unary operator does not depend on quotients
 before_by : (prefix : Prefix) (cut : Bool) (a : Outcome) → value_before prefix (cond cut None a) ≡ cond cut None (value_before prefix a)
 before_by prefix true a = refl
 before_by prefix false a = refl

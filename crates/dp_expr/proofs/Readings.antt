@@ -41,16 +41,16 @@ made_of-values (Between operator left right) = cc (made_of-values left, made_of-
 pub walk-value : (tokens : List Token) (tree : Tree) → IsReading tokens tree → walk values (Wanting []) tokens ≡ Some (value_of tree)
 walk-value tokens tree reading = walk-reading values tokens tree reading ∙ ap Some (made_of-values tree)
 
--- a walk makes no tree where nothing is a reading
+-- a walk makes no tree if there is no reading
 no_tree : (tokens : List Token) (o : Option Tree) → walk trees (Wanting []) tokens ≡ o → ((tree : Tree) → ¬ (IsReading tokens tree)) → option_map (made_of values) o ≡ None
 no_tree tokens None e none = refl
 no_tree tokens (Some tree) e none = absurd (none tree (reading-walk tokens tree e))
 
--- where nothing is a reading, it gives none
+-- and it gives no value if there is no reading
 pub walk-none : (tokens : List Token) → ((tree : Tree) → ¬ (IsReading tokens tree)) → walk values (Wanting []) tokens ≡ None
 walk-none tokens none = walk-trees values tokens ∙ no_tree tokens (walk trees (Wanting []) tokens) refl none
 
--- nor does a walk over trees find one there
+-- nor does a walk over trees find one then
 pub walk-no_tree : (tokens : List Token) → ((tree : Tree) → ¬ (IsReading tokens tree)) → walk trees (Wanting []) tokens ≡ None
 walk-no_tree tokens none = by (walk trees (Wanting []) tokens) refl
   where
@@ -58,13 +58,13 @@ walk-no_tree tokens none = by (walk trees (Wanting []) tokens) refl
     by None e = refl
     by (Some tree) e = absurd (none tree (reading-walk tokens tree e))
 
--- the value of a text with a reading, and of one without
+-- the value of a text with a reading
 pub expression_value-reading : (text : List ℕ) (tree : Tree) → IsReading (tokens_of text) tree → expression_value text ≡ answer (value_of tree)
 unfolding expression_value
 expression_value-reading text tree reading =
     ap (λ o. answer (unwrap_or o None)) (walk-value (tokens_of text) tree reading)
 
--- and of one without
+-- the value of a text without a reading
 pub expression_value-none : (text : List ℕ) → ((tree : Tree) → ¬ (IsReading (tokens_of text) tree)) → expression_value text ≡ []
 unfolding expression_value
 expression_value-none text none =
@@ -75,7 +75,7 @@ pub IsValue-expression_value : (text : List ℕ) → IsValue text (expression_va
 IsValue-expression_value text =
     record { tree = expression_value-reading text; none = expression_value-none text }
 
--- nothing else is a value: either the walk over trees makes one, or there is none
+-- nothing else is a value: either the walk over trees makes a tree, or it makes none
 value_by : (text bytes : List ℕ) (o : Option Tree) → walk trees (Wanting []) (tokens_of text) ≡ o → IsValue text bytes → bytes ≡ expression_value text
 value_by text bytes None e is =
     let none : (tree : Tree) → ¬ (IsReading (tokens_of text) tree) = λ tree reading. absurd_walk tree reading in
@@ -87,6 +87,6 @@ value_by text bytes (Some tree) e is =
     let reading = reading-walk (tokens_of text) tree e in
     is.tree tree reading ∙ sym (expression_value-reading text tree reading)
 
--- and the only one
+-- and it is the only one
 pub value_unique : (text bytes : List ℕ) → IsValue text bytes → bytes ≡ expression_value text
 value_unique text bytes is = value_by text bytes (walk trees (Wanting []) (tokens_of text)) refl is

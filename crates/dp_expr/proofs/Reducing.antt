@@ -1,4 +1,4 @@
--- How far pending frames take their operand.
+-- How far waiting frames take their operand.
 use Rattle.std.proofs.Common.{◌≡◌, ℕ, ◌<◌, ◌≤◌, true, false, List, [], ◌∷◌, refl, ap, arith}
 use Rattle.std.specs.Prelude.{⊤}
 use Rattle.std.proofs.lemmas.Bool.Decides.{nat_tests}
@@ -15,7 +15,7 @@ IsBelow n (Left operator left ∷ frames) = level_of operator < n
 IsBelow n (Front prefix ∷ frames) = unary_level ≤ n
 IsBelow n (Paren ∷ frames) = ⊤
 
--- what may follow an operand of that level
+-- what may come after an operand of that level
 abbrev pub Follows : ℕ → List Token → Type 0
 Follows n [] = ⊤
 Follows n (Operand bytes ∷ rest) = ⊥
@@ -41,14 +41,14 @@ level_of-le Times = omega arith
 level_of-le Over = omega arith
 level_of-le Remainder = omega arith
 
--- what is not due before a level is not due before a tighter one
+-- a frame that is not due before a level is not due before a tighter one
 pub IsBelow-le : {X : Type 0} (m n : ℕ) (frames : List (Frame X)) → m ≤ n → IsBelow m frames → IsBelow n frames
 IsBelow-le m n [] le below = tt
 IsBelow-le m n (Left operator left ∷ frames) le below = omega arith
 IsBelow-le m n (Front prefix ∷ frames) le below = omega arith
 IsBelow-le m n (Paren ∷ frames) le below = tt
 
--- what may follow a level may follow a tighter one
+-- what may come after a level may come after a tighter one
 pub Follows-le : (m n : ℕ) (rest : List Token) → m ≤ n → Follows m rest → Follows n rest
 Follows-le m n [] le follows = tt
 Follows-le m n (Operand bytes ∷ rest) le follows = follows
@@ -58,7 +58,7 @@ Follows-le m n (Opening ∷ rest) le follows = follows
 Follows-le m n (Closing ∷ rest) le follows = tt
 Follows-le m n (Stray ∷ rest) le follows = follows
 
--- the levels of operators are below that of unary operators, so whatever may follow may follow a unary
+-- the levels of operators are below that of unary operators, so whatever may come after may come after a unary
 pub Follows-unary : (n : ℕ) (rest : List Token) → Follows n rest → Follows unary_level rest
 Follows-unary n [] follows = tt
 Follows-unary n (Operand bytes ∷ rest) follows = follows
@@ -68,7 +68,7 @@ Follows-unary n (Opening ∷ rest) follows = follows
 Follows-unary n (Closing ∷ rest) follows = tt
 Follows-unary n (Stray ∷ rest) follows = follows
 
--- an operator is due before a looser one and its own kind
+-- an operator is due before a looser one and one of its own level
 pub is_due-le : {X : Type 0} (level : ℕ) (operator : Operator) (left : X) → level ≤ level_of operator → is_due level (Left operator left) ≡ true
 is_due-le level operator left le = grind (arith, nat_tests)
 
@@ -96,7 +96,7 @@ module _ {X : Type 0} (make : Making X) where
   reduction-below operator (Front prefix ∷ frames) x below = absurd (omega (arith, level_of-le operator))
   reduction-below operator (Paren ∷ frames) x below = refl
 
-  -- a frame that is due before whatever follows takes the operand
+  -- a frame that is due before whatever comes next takes the operand
   pub walk-due : (n : ℕ) (frame : Frame X) (frames : List (Frame X)) (x : X) (rest : List Token) → ((level : ℕ) → level ≤ n → is_due level frame ≡ true) → Follows n rest → walk make (Holding (frame ∷ frames) x) rest ≡ walk make (Holding frames (value_under make frame x)) rest
   unfolding walk step ending
   walk-due n frame frames x [] due follows =

@@ -24,7 +24,7 @@ record IsOperand (n : ℕ) (frames : List (Frame Tree)) (tree : Tree) : Type 0 w
   below : IsBelow n frames
   shallow : nesting frames + depth_of tree ≤ most_depth
 
--- each left side is an operand of its operator's level, and no more than the most stand inside one another
+-- each left side is an operand of its operator's level, and no more than the greatest number are nested
 AreSound : List (Frame Tree) → Type 0
 AreSound [] = ⊤
 AreSound (Left operator left ∷ frames) = IsOperand (level_of operator) frames left × AreSound frames
@@ -38,12 +38,12 @@ IsSound tokens (Holding frames tree) =
     (tokens ≡ frames_spelling frames ++ spelling tree) × IsOperand unary_level frames tree × AreSound frames
 IsSound tokens Failed = ⊤
 
--- nothing on top is due
+-- no frame on top is due
 IsSettled : ℕ → List (Frame Tree) → Type 0
 IsSettled level [] = ⊤
 IsSettled level (frame ∷ frames) = is_due level frame ≡ false
 
--- no more frames stand inside one another than may
+-- no more frames are nested than allowed
 AreSound-nesting : (frames : List (Frame Tree)) → AreSound frames → nesting frames ≤ most_depth
 unfolding nesting AreSound
 AreSound-nesting [] sound = omega arith
@@ -88,7 +88,7 @@ IsGrouped-any n (Group inner) grouped = grouped
 IsGrouped-any n (Before prefix operand) grouped = grouped
 IsGrouped-any n (Between operator left right) grouped = (level_of-ge operator, grouped.1, grouped.2)
 
--- what stays when all that are due have taken their operand
+-- the frames that stay after all that are due have taken their operand
 record Settles (level : ℕ) (frames : List (Frame Tree)) (tree : Tree) (held : Held Tree) : Type 0 where
   at : ℕ
   at_least : level ≤ at
@@ -97,7 +97,7 @@ record Settles (level : ℕ) (frames : List (Frame Tree)) (tree : Tree) (held : 
   settled : IsSettled level held.frames
   spells : frames_spelling held.frames ++ spelling held.value ≡ frames_spelling frames ++ spelling tree
 
--- where nothing is due all stays
+-- if none is due everything stays
 stays : (level n : ℕ) (frames : List (Frame Tree)) (tree : Tree) → level ≤ n → IsOperand n frames tree → AreSound frames → IsSettled level frames → Settles level frames tree (record { frames = frames; value = tree })
 stays level n frames tree le operand sound settled =
     record { at = n; at_least = le; operand = operand; sound = sound; settled = settled; spells = refl }
@@ -122,7 +122,7 @@ front_operand n prefix frames tree operand =
       shallow = omega (arith, operand.shallow);
     }
 
--- the same, where the tree that was made spells what stood there
+-- the same, if the tree that was made spells what was there
 respelled : (level : ℕ) (more frames : List (Frame Tree)) (tree other : Tree) (held : Held Tree) → Settles level frames other held → frames_spelling frames ++ spelling other ≡ frames_spelling more ++ spelling tree → Settles level more tree held
 respelled level more frames tree other held s e =
     record { at = s.at; at_least = s.at_least; operand = s.operand; sound = s.sound; settled = s.settled; spells = s.spells ∙ e }
@@ -145,7 +145,7 @@ settles level n (Front prefix ∷ frames) tree le small operand sound =
 settles level n (Paren ∷ frames) tree le small operand sound =
     stays level n (Paren ∷ frames) tree le operand sound refl
 
--- what is settled at an operator's level is below it
+-- frames settled at an operator's level are below it
 below_settled : (operator : Operator) (frames : List (Frame Tree)) → IsSettled (level_of operator) frames → IsBelow (level_of operator) frames
 unfolding IsSettled
 below_settled operator [] settled = tt
@@ -153,7 +153,7 @@ below_settled operator (Left other left ∷ frames) settled = grind (arith, nat_
 below_settled operator (Front prefix ∷ frames) settled = cc
 below_settled operator (Paren ∷ frames) settled = tt
 
--- a frame is opened only where one more may be
+-- a frame is opened only if one more is allowed
 sound_entry : (tokens : List Token) (frame : Frame Tree) (frames : List (Frame Tree)) → (nesting frames < most_depth → IsSound tokens (Wanting (frame ∷ frames))) → IsSound tokens (entry frame frames)
 unfolding IsSound
 sound_entry tokens frame frames h =
@@ -168,7 +168,7 @@ unfolding IsSound AreSound frames_spelling
 sound_front tokens prefix frames s =
     sound_entry _ (Front prefix) frames (λ lt. (ap (λ l. l ++ (prefix_token prefix ∷ [])) s.0, (lt, s.1)))
 
--- a token where an operand is wanted
+-- a token where an operand is needed
 sound_first_step : (tokens : List Token) (frames : List (Frame Tree)) (token : Token) → IsSound tokens (Wanting frames) → IsSound (tokens ++ (token ∷ [])) (first_step trees frames token)
 unfolding IsSound AreSound frames_spelling
 sound_first_step tokens frames (Operand bytes) s =
@@ -241,7 +241,7 @@ sound_step tokens (Wanting frames) token s = sound_first_step tokens frames toke
 sound_step tokens (Holding frames tree) token s = sound_next_step tokens frames tree token s
 sound_step tokens Failed token s = tt
 
--- what is held above no frame is a reading
+-- an operand without a frame is a reading
 sound_whole : (tokens : List Token) (frames : List (Frame Tree)) (tree made : Tree) (n : ℕ) → tokens ≡ frames_spelling frames ++ spelling tree → IsOperand n frames tree → whole frames tree ≡ Some made → IsReading tokens made
 unfolding frames_spelling nesting
 sound_whole tokens [] tree made n e operand is =
@@ -260,7 +260,7 @@ sound_ending tokens (Holding frames tree) made s is =
     sound_whole tokens held.frames held.value made h.at (s.0 ∙ sym h.spells) h.operand is
 sound_ending tokens Failed made s is = cc
 
--- what is made of tokens is a reading of all of them
+-- what is made from tokens is a reading of all of them
 sound_walk : (done : List Token) (state : State Tree) (rest : List Token) (made : Tree) → IsSound done state → walk trees state rest ≡ Some made → IsReading (done ++ rest) made
 unfolding walk
 sound_walk done state [] made s is =

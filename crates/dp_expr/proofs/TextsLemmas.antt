@@ -1,4 +1,4 @@
--- Texts of the code as definitions see them.
+-- Texts of the code in terms of definitions.
 use Rattle.std.proofs.Common.{◌≡◌, ℕ, ◌<◌, true, false, List, length, Some, None, arith, ℤ, pos, negsuc}
 use Rattle.std.specs.Prelude.{FitsSigned}
 use Rattle.std.specs.Int.{w64}
@@ -25,7 +25,7 @@ length-decimal_text : (z : ℤ) → FitsSigned w64 z → 0 < length (signed_deci
 length-decimal_text (pos n) fits = decimal_nonempty n (omega (arith, fits.sfits))
 length-decimal_text (negsuc n) fits = omega arith
 
--- a printed number is false where it is zero
+-- a printed number is false exactly if it is zero
 pub is_false-decimal_text : (z : ℤ) → FitsSigned w64 z → is_zero (Some z) ≡ is_false (signed_decimal z)
 unfolding is_false
 is_false-decimal_text z fits =
@@ -38,12 +38,12 @@ pub order_of-numbers : (a b : List ℕ) (m n : ℤ) → number_of a ≡ Some m �
 unfolding order_of
 order_of-numbers a b m n p q = rw (p, q)
 
--- where the left side is no number, bytes are compared
+-- if the left side is not a number, bytes are compared
 pub order_of-first : (a b : List ℕ) → number_of a ≡ None → order_of a b ≡ slice_cmp nat_cmp a b
 unfolding order_of
 order_of-first a b p = rw p
 
--- where the right side is none, too
+-- the same if the right side is not a number
 pub order_of-second : (a b : List ℕ) (m : ℤ) → number_of a ≡ Some m → number_of b ≡ None → order_of a b ≡ slice_cmp nat_cmp a b
 unfolding order_of
 order_of-second a b m p q = rw (p, q)

@@ -1,4 +1,4 @@
--- The bytes that mean something in an expression.
+-- The bytes that have a meaning in an expression.
 use Rattle.std.specs.Prelude.{ℕ}
 
 -- `!`

@@ -5,7 +5,7 @@ use Rattle.dp_expr.specs.Trees.{Tree, IsTree}
 use Rattle.dp_expr.specs.Values.{value_of, answer}
 use Rattle.dp_expr.specs.Walk.{Wanting, walk, values}
 
--- the bytes are the value of the text: that of its tree, and empty where it has none
+-- the bytes are the value of the text: that of its tree, or empty if it has none
 pub record IsValue (text bytes : List ℕ) : Type 0 where
   pub tree : (tree : Tree) → IsTree text tree → bytes ≡ answer (value_of tree)
   pub none : ((tree : Tree) → ¬ (IsTree text tree)) → bytes ≡ []

@@ -6,7 +6,7 @@ use Rattle.std.specs.Str.Parse.{digits_value}
 use Rattle.std.specs.Fmt.{signed_decimal}
 use Rattle.dp_expr.specs.Ascii.{minus_sign}
 
--- the number, if it lies from -2^63 to 2^63 - 1
+-- the number, if it is from -2^63 to 2^63 - 1
 abbrev pub in_range : ℤ → Option ℤ
 in_range (pos n) = if nat_lt n (2 ^ 63) then Some (pos n) else None
 in_range (negsuc n) = if nat_lt n (2 ^ 63) then Some (negsuc n) else None
@@ -35,11 +35,11 @@ abbrev pub decimal_text : Option ℤ → Option (List ℕ)
 decimal_text None = None
 decimal_text (Some z) = Some (signed_decimal z)
 
--- the number, if it fits 64 bits without a sign
+-- the number, if it fits into unsigned 64 bits
 abbrev pub in_word : Option ℕ → Option ℕ
 in_word None = None
 in_word (Some n) = if nat_lt n (2 ^ 64) then Some n else None
 
--- the number with one digit more at its end, if that fits such a word
+-- the number with one more digit at its end, if that fits into such a word
 abbrev pub next_value : ℕ → ℕ → Option ℕ
 next_value value digit = if is_ascii_digit digit then in_word (Some (value * 10 + digit_value digit)) else None

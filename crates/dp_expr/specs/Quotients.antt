@@ -1,16 +1,16 @@
--- Quotients that are not whole, which an evaluation cuts toward zero.
+-- Quotients that are not whole, which an evaluation truncates toward zero.
 use Rattle.std.specs.Prelude.{Bool, false, ◌||◌, not, Some, None}
 use Rattle.dp_expr.specs.declared.operator.Operator.{Operator}
 use Rattle.dp_expr.specs.declared.operator.Operator.TheVariants.{Or, And, Equal, NotEqual, LessThan, AtMost, MoreThan, AtLeast, Plus, Minus, Times, Over, Remainder}
 use Rattle.dp_expr.specs.Trees.{Tree, Leaf, Group, Before, Between}
 use Rattle.dp_expr.specs.Values.{Outcome, is_false, value_between, value_of}
 
--- a remainder that is there, and not zero
+-- there is a remainder that is not zero
 abbrev pub is_rest : Outcome → Bool
 is_rest None = false
 is_rest (Some text) = not (is_false text)
 
--- the operator is a division of two numbers, and leaves a rest
+-- the operator is a division of two numbers with a remainder
 abbrev pub leaves_rest : Operator → Outcome → Outcome → Bool
 leaves_rest Or a b = false
 leaves_rest And a b = false

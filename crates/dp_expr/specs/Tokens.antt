@@ -5,7 +5,7 @@ use Rattle.dp_expr.specs.Ascii.{exclamation, quote, percent, ampersand, opening_
 use Rattle.dp_expr.specs.declared.operator.Operator.{Operator}
 use Rattle.dp_expr.specs.declared.operator.Operator.TheVariants.{Or, And, Equal, NotEqual, LessThan, AtMost, MoreThan, AtLeast, Plus, Minus, Times, Over, Remainder}
 
--- a token; `!` alone is a bang, and what may stand in no expression is a stray
+-- a token; `!` alone is a bang, and a byte that no expression contains is a stray
 pub data Token : Type 0 where
   Operand : (bytes : List ℕ) → Token
   Sign : (operator : Operator) → Token
@@ -14,11 +14,11 @@ pub data Token : Type 0 where
   Closing : Token
   Stray : Token
 
--- a byte that parts tokens
+-- a byte that separates tokens
 abbrev pub is_blank : ℕ → Bool
 is_blank b = nat_lt b 33
 
--- the bytes that end a word, beside the blanks
+-- the bytes that end a word, apart from blanks
 abbrev pub marks : List ℕ
 marks = codes "\"|&=<>+-*/%!():?~"
 
@@ -26,17 +26,17 @@ marks = codes "\"|&=<>+-*/%!():?~"
 unfoldable pub is_word_byte : ℕ → Bool
 is_word_byte b = not (is_blank b) && not (list_any (λ m. m == b) marks)
 
--- how many bytes of a word the text begins with
+-- the number of bytes of a word at the start of the text
 unfoldable pub word_size : List ℕ → ℕ
 word_size [] = 0
 word_size (b ∷ bytes) = if is_word_byte b then suc (word_size bytes) else 0
 
--- one more, where there is a number
+-- one more, if there is a number
 abbrev pub one_more : Option ℕ → Option ℕ
 one_more None = None
 one_more (Some n) = Some (suc n)
 
--- how many bytes the text has up to its first quote and with it, if it has one
+-- the number of bytes of the text up to and including its first quote, if it has one
 unfoldable pub quoted_size : List ℕ → Option ℕ
 quoted_size [] = None
 quoted_size (b ∷ bytes) = if b == quote then Some 1 else one_more (quoted_size bytes)
@@ -46,22 +46,22 @@ abbrev pub begins_with : ℕ → List ℕ → Bool
 begins_with c [] = false
 begins_with c (b ∷ bytes) = b == c
 
--- a token, and how many bytes it takes of those after its first
+-- a token, and the number of bytes after its first byte that belong to it
 pub record Cut : Type 0 where
   pub token : Token
   pub more : ℕ
 
--- a quoted operand, with both its quotes; a quote without its end is a stray
+-- a quoted operand, with both its quotes; a quote without an end is a stray
 abbrev pub quoted_cut : List ℕ → Option ℕ → Cut
 quoted_cut bytes None = record { token = Stray; more = 0 }
 quoted_cut bytes (Some n) = record { token = Operand (quote ∷ take n bytes); more = n }
 
--- the long spelling, of one byte more, where it stands there, else the short one
+-- the long spelling, of one more byte, if it is there, else the short one
 abbrev pub longest : Bool → Token → Token → Cut
 longest true long short = record { token = long; more = 1 }
 longest false long short = record { token = short; more = 0 }
 
--- a token of one byte
+-- a token with one byte
 abbrev pub single : Token → Cut
 single token = record { token = token; more = 0 }
 
@@ -83,7 +83,7 @@ mark_cut b bytes =
     else if b == closing_parenthesis then single Closing
     else single Stray
 
--- the token that begins with a byte that is no blank, before these bytes
+-- the token that begins with a byte that is not a blank, before these bytes
 unfoldable pub cut_at : ℕ → List ℕ → Cut
 cut_at b bytes =
     if b == quote then quoted_cut bytes (quoted_size bytes)
@@ -91,12 +91,12 @@ cut_at b bytes =
     then record { token = Operand (b ∷ take (word_size bytes) bytes); more = word_size bytes }
     else mark_cut b bytes
 
--- the tokens where a byte stands before the rest: a blank gives none
+-- the tokens of a byte and the rest: a blank gives no token
 abbrev pub begin_token : Bool → Cut → (ℕ → List Token) → List Token
 begin_token true cut rest = rest 0
 begin_token false cut rest = cut.token ∷ rest cut.more
 
--- the tokens after the first n bytes, which a token before them takes
+-- the tokens after the first n bytes, which belong to a token before
 unfoldable pub tokens_after : List ℕ → ℕ → List Token
 tokens_after [] n = []
 tokens_after (b ∷ bytes) zero = begin_token (is_blank b) (cut_at b bytes) (tokens_after bytes)

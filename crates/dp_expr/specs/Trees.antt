@@ -1,4 +1,4 @@
--- The readings of a text by the grammar.
+-- Reading a text by the grammar.
 use Rattle.std.specs.Prelude.{◌≡◌, ℕ, suc, ◌≤◌, max, List, [], ◌∷◌, ◌++◌, ⊤}
 use Rattle.dp_expr.specs.declared.operator.Operator.{Operator}
 use Rattle.dp_expr.specs.declared.operator.Operator.TheVariants.{Or, And, Equal, NotEqual, LessThan, AtMost, MoreThan, AtLeast, Plus, Minus, Times, Over, Remainder}
@@ -13,7 +13,7 @@ pub data Tree : Type 0 where
   Before : (prefix : Prefix) (operand : Tree) → Tree
   Between : (operator : Operator) (left right : Tree) → Tree
 
--- the token that a unary operator is
+-- the token of a unary operator
 abbrev pub prefix_token : Prefix → Token
 prefix_token Negate = Sign Minus
 prefix_token Not = Bang
@@ -45,13 +45,13 @@ level_of Remainder = 5
 abbrev pub expression_level : ℕ
 expression_level = 1
 
--- the level of a unary operator with its operand, above all others
+-- the level of a unary operator and its operand, above all others
 abbrev pub unary_level : ℕ
 unary_level = 6
 
--- the tree is what a line of the grammar allows, the lines being counted by levels: an operator of that level or a
--- tighter one, with its own level on its left and the next tighter one on its right, so that operators group to the
--- left; a unary operator before a unary; any expression in parentheses
+-- a line of the grammar allows the tree, where the lines are numbered by levels: an operator of that level or a tighter
+-- one, with its own level on its left and the next tighter one on its right, so that operators group to the left; a
+-- unary operator before a unary; any expression in parentheses
 abbrev pub IsGrouped : ℕ → Tree → Type 0
 IsGrouped n (Leaf bytes) = ⊤
 IsGrouped n (Group inner) = IsGrouped expression_level inner
@@ -59,18 +59,18 @@ IsGrouped n (Before prefix operand) = IsGrouped unary_level operand
 IsGrouped n (Between operator left right) =
     (n ≤ level_of operator) × IsGrouped (level_of operator) left × IsGrouped (suc (level_of operator)) right
 
--- how many parentheses and unary operators stand inside one another
+-- the greatest number of nested parentheses and unary operators
 abbrev pub depth_of : Tree → ℕ
 depth_of (Leaf bytes) = 0
 depth_of (Group inner) = suc (depth_of inner)
 depth_of (Before prefix operand) = suc (depth_of operand)
 depth_of (Between operator left right) = max (depth_of left) (depth_of right)
 
--- how many may
+-- the greatest depth allowed
 abbrev pub most_depth : ℕ
 most_depth = 32
 
--- the tokens are those of the tree, which the grammar allows
+-- the tokens are those of the tree, and the grammar allows it
 pub record IsReading (tokens : List Token) (tree : Tree) : Type 0 where
   pub spelling : tokens ≡ spelling tree
   pub grouped : IsGrouped expression_level tree

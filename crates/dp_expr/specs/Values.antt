@@ -14,7 +14,7 @@ use Rattle.dp_expr.specs.Trees.{Tree, Leaf, Group, Before, Between}
 abbrev pub Outcome : Type 0
 Outcome = Option (List ℕ)
 
--- the number is there and zero
+-- there is a number, and it is zero
 abbrev pub is_zero : Option ℤ → Bool
 is_zero None = false
 is_zero (Some (pos n)) = n == 0
@@ -29,25 +29,25 @@ abbrev pub truth : Bool → List ℕ
 truth true = 49 ∷ []
 truth false = 48 ∷ []
 
--- the order of two texts whose numbers are given: as numbers if both are, else by bytes
+-- the order of two texts whose numbers are given: as numbers if both are numbers, else by bytes
 abbrev pub order_by : Option ℤ → Option ℤ → List ℕ → List ℕ → Ordering
 order_by (Some m) (Some n) a b = int_cmp m n
 order_by (Some m) None a b = slice_cmp nat_cmp a b
 order_by None n a b = slice_cmp nat_cmp a b
 
--- that order, of the texts alone
+-- the same order, given only the texts
 unfoldable pub order_of : List ℕ → List ℕ → Ordering
 order_of a b = order_by (number_of a) (number_of b) a b
 
--- the quotient, cut toward zero, if there is one in range
+-- the quotient, truncated toward zero, if there is one in range
 abbrev pub quotient : ℤ → ℤ → Option ℤ
 quotient m n = if is_zero (Some n) then None else in_range (int_div m n)
 
--- the remainder, which has the sign of its left side, if there is one
+-- the remainder, which has the sign of the left side, if there is one
 abbrev pub remainder : ℤ → ℤ → Option ℤ
 remainder m n = if is_zero (Some n) then None else Some (int_rem m n)
 
--- what an operator of arithmetic gives for two numbers, if it gives one in range
+-- the result of an operator of arithmetic for two numbers, if it is in range
 abbrev pub result_of : Operator → ℤ → ℤ → Option ℤ
 result_of Or m n = None
 result_of And m n = None
@@ -63,7 +63,7 @@ result_of Times m n = in_range (m *ℤ n)
 result_of Over m n = quotient m n
 result_of Remainder m n = remainder m n
 
--- the text of such a result; a side that is no number is a fault
+-- the text of such a result; a side that is not a number is a fault
 abbrev pub result_text : Operator → Option ℤ → Option ℤ → Outcome
 result_text operator None n = None
 result_text operator (Some m) None = None
@@ -73,7 +73,7 @@ result_text operator (Some m) (Some n) = decimal_text (result_of operator m n)
 abbrev pub arithmetic : Operator → List ℕ → List ℕ → Outcome
 arithmetic operator a b = result_text operator (number_of a) (number_of b)
 
--- `a | b`: the first that is not false, else the second
+-- `a | b`: the first if it is not false, else the second
 abbrev pub either : List ℕ → List ℕ → List ℕ
 either a b = if is_false a then b else a
 
@@ -103,7 +103,7 @@ value_between operator None b = None
 value_between operator (Some a) None = None
 value_between operator (Some a) (Some b) = text_between operator a b
 
--- the text of a number with its sign turned; what is no number is a fault
+-- the text of the negated number; a text that is not a number is a fault
 abbrev pub negation : Option ℤ → Outcome
 negation None = None
 negation (Some n) = decimal_text (in_range (neg_ℤ n))
@@ -121,7 +121,7 @@ value_of (Group inner) = value_of inner
 value_of (Before prefix operand) = value_before prefix (value_of operand)
 value_of (Between operator left right) = value_between operator (value_of left) (value_of right)
 
--- what an evaluation answers: the text, which is empty for a fault
+-- the result of an evaluation: the text, which is empty for a fault
 abbrev pub answer : Outcome → List ℕ
 answer None = []
 answer (Some text) = text

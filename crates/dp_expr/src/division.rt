@@ -1,9 +1,9 @@
-//! What division gives where a quotient is not whole.
+//! The result of a division whose quotient is not whole.
 
-/// What division gives where a quotient is not whole.
+/// The result of a division whose quotient is not whole.
 #[derive(Clone, Copy)]
 pub enum Division {
-    /// The quotient, cut toward zero.
+    /// The quotient, truncated toward zero.
     Cut,
     /// A fault.
     Exact,

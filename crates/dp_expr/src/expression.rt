@@ -1,4 +1,4 @@
-//! The value of an expression, and that there is at most one.
+//! The value of an expression. There is at most one.
 
 ghost use Rattle.std.specs.Prelude.{◌≡◌, ◌↔◌, ℕ, List, [], IfOk};
 ghost use Rattle.dp_expr.specs.Tokens.{tokens_of};
@@ -12,25 +12,23 @@ use crate::value::Value;
 use crate::{NoMemory, walk};
 use std::alloc::Global;
 
-/// The value of the expression that a text holds, or the empty text for a fault.
+/// The value of the expression in a text, or the empty text for a fault.
 ///
-/// Takes a text of any bytes. A fault is a text that the grammar does not allow, more than 32
-/// parentheses and unary operators inside one another, an operand of arithmetic that is no number,
-/// a result outside 64 bits with a sign, and a divisor that is zero. One fault anywhere, also on
-/// the side of `|` or `&` that is not chosen, is a fault of the whole.
+/// The text may contain any bytes. A fault is a text that the grammar does not allow, more than 32 nested parentheses and unary operators,
+/// an operand of arithmetic that is not a number, a result outside signed 64 bits, or a divisor that is zero. A fault anywhere, even on the
+/// side of `|` or `&` that is not chosen, is a fault of the whole.
 ///
-/// Grammar and operators follow the Asterisk documentation's page on expressions. That a fault
-/// gives the empty text, the limits, the order of texts by bytes, the rank of the unary operators
-/// and quotes that stay are choices of this program.
+/// Grammar and operators follow the Asterisk documentation's page on expressions. These are choices of this program: a fault gives the
+/// empty text, the limits, texts are ordered by bytes, the rank of the unary operators, and quotes stay.
 ///
-/// The error comes only where a growth was refused.
+/// It fails only if memory runs out.
 pub fn evaluate(alloc: Global, text: &[u8]) -> Result<Value, NoMemory>
     // The value of the text's one tree.
     ensures value { (tree : Tree) → IsTree text.now tree
         → IfOk result (λ value. value ≡ answer (value_of tree)) }
-    // A text with no tree.
+    // A text without a tree.
     ensures fault { ((tree : Tree) → ¬ (IsTree text.now tree)) → IfOk result (λ value. value ≡ []) }
-    // The same by a function.
+    // The same, given by a function.
     ensures exact { IfOk result (λ value. value ≡ expression_value text.now) }
 {
     match walk::value(alloc, text, Division::Cut)? {
@@ -45,7 +43,7 @@ pub fn one_tree()
         → first ≡ second }
 {}
 
-/// Every text has exactly one value: that of its tree, and the empty text where it has none.
+/// Every text has exactly one value: that of its tree, or the empty text if it has none.
 pub fn one_value()
     ensures { (text bytes : List ℕ) → IsValue text bytes ↔ (bytes ≡ expression_value text) }
 {}

@@ -9,7 +9,7 @@ ghost use Rattle.dp_expr.specs.steps.Seen.{token_seen};
 
 use crate::token::{Token, next_token};
 
-/// How many points the text has.
+/// The number of points in the text.
 fn count_points(text: &[u8]) -> usize
     ensures { result ≡ count_by (λ b. b == point) text.now }
 {
@@ -29,7 +29,7 @@ fn are_fraction_bytes(text: &[u8]) -> bool
         .all(|byte| *byte == b'.' || byte.is_ascii_digit())
 }
 
-/// The text is one or more digits, with one point among or beside them.
+/// Whether the text is one or more digits, with one point among, before or after them.
 #[tactic(auto, unfolding(crate::specs::AsteriskReading::is_fraction))]
 fn is_fraction(text: &[u8]) -> bool
     ensures { result ≡ is_fraction text.now }
@@ -46,7 +46,7 @@ fn is_fraction_token(token: Token<'_>) -> bool
     }
 }
 
-/// Some operand of the text is a fraction.
+/// Whether some operand of the text is a fraction.
 pub fn has_fraction(text: &[u8]) -> bool
     ensures { result ≡ list_any is_fraction_token (tokens_of text.now) }
 {

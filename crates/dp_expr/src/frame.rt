@@ -1,4 +1,4 @@
-//! What waits for an operand during a walk.
+//! The frames that wait for an operand during a walk.
 
 ghost use Rattle.std.specs.Prelude.{◌≡◌, ◌+◌, ◌≤◌, ℕ};
 ghost use Rattle.dp_expr.specs.steps.Texts.{value_seen};
@@ -12,7 +12,7 @@ use crate::operation;
 use crate::operator::{Operator, Prefix};
 use crate::text_value::TextValue;
 
-/// What waits for an operand.
+/// A frame, which waits for an operand.
 #[derive(Clone, Copy)]
 pub enum Frame<'a> {
     /// A binary operator with the value on its left.
@@ -26,14 +26,14 @@ pub enum Frame<'a> {
 impl Default for Frame<'_> {
     ghost is_default = { λ frame. frame ≡ frames.Paren };
 
-    /// The frame that keeps nothing.
+    /// An empty frame.
     fn default() -> Self {
         Frame::Paren
     }
 }
 
 impl<'a> Frame<'a> {
-    /// The frame takes its operand before an operator of that level does.
+    /// Whether the frame takes its operand before an operator of that level does.
     pub fn is_due(&self, level: u8) -> bool
         ensures { result ≡ is_due level (frame_seen self.now) }
     {
@@ -44,7 +44,7 @@ impl<'a> Frame<'a> {
         }
     }
 
-    /// By how much the frame deepens what stands inside it.
+    /// The depth that the frame adds to what is inside it.
     pub fn depth(&self) -> usize
         ensures { (n : ℕ) → depth_with (frame_seen self.now) n ≡ n + result }
     {
@@ -54,7 +54,7 @@ impl<'a> Frame<'a> {
         }
     }
 
-    /// What the frame makes of its operand.
+    /// The value of the frame with its operand.
     pub fn apply(self, operand: Option<TextValue<'a>>, division: Division) -> Option<TextValue<'a>>
         ensures { value_seen result
             ≡ value_under (values_by division) (frame_seen self.entry) (value_seen operand.entry) }

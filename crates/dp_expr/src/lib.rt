@@ -11,7 +11,7 @@
 //! prim  = word | quoted | "(" expr ")"
 //! ```
 //!
-//! Operators group to the left. At most 32 parentheses and unary operators may stand inside one another.
+//! Operators group to the left. At most 32 parentheses and unary operators may be nested.
 
 mod division;
 mod expression;

@@ -3,7 +3,7 @@
 ghost use Rattle.std.specs.Prelude.{◌≡◌};
 ghost use Rattle.dp_expr.specs.Numbers.{natural_of, in_word, next_value, negative_of, positive_of, number_of};
 
-/// The number with one digit more, if the byte is a digit and the number fits 64 bits.
+/// The number with one more digit, if the byte is a digit and the number fits into 64 bits.
 fn next_value(value: u64, digit: u8) -> Option<u64>
     ensures { result ≡ next_value value digit }
 {
@@ -14,7 +14,7 @@ fn next_value(value: u64, digit: u8) -> Option<u64>
     }
 }
 
-/// The number that one or more digits write, if it fits 64 bits.
+/// The number that one or more digits write, if it fits into 64 bits.
 fn natural_of(digits: &[u8]) -> Option<u64>
     ensures { result ≡ in_word (natural_of digits.now) }
 {
@@ -40,8 +40,7 @@ fn positive_of(digits: &[u8]) -> Option<i64>
     0i64.checked_add_unsigned(natural_of(digits)?)
 }
 
-/// The number that a text writes: an optional minus and one or more digits, with a value that fits
-/// 64 bits with a sign.
+/// The number that a text writes: an optional minus and one or more digits, with a value that fits into signed 64 bits.
 #[tactic(auto, unfolding(crate::specs::Numbers::number_of))]
 pub fn number_of(text: &[u8]) -> Option<i64>
     ensures { result ≡ number_of text.now }

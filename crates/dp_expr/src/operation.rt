@@ -1,4 +1,4 @@
-//! What operators make of values. A value is a text, or none for a fault.
+//! The results of operators. A value is a text, or none for a fault.
 
 ghost use Rattle.std.specs.Prelude.{◌≡◌};
 ghost use Rattle.dp_expr.specs.Numbers.{decimal_text};
@@ -11,7 +11,7 @@ use crate::division::Division;
 use crate::operator::{Operator, Prefix};
 use crate::text_value::TextValue;
 
-/// The value of a binary operator between two values, by the division that is wanted.
+/// The value of a binary operator between two values, with the given kind of division.
 pub fn between_by<'a>(
     division: Division,
     operator: Operator,
@@ -27,7 +27,7 @@ pub fn between_by<'a>(
     }
 }
 
-/// The same where a quotient that is not whole is a fault.
+/// The same, but a quotient that is not whole is a fault.
 fn exact_between<'a>(
     operator: Operator,
     left: Option<TextValue<'a>>,
@@ -43,7 +43,7 @@ fn exact_between<'a>(
     }
 }
 
-/// The operator is a division of two numbers, and leaves a rest.
+/// Whether the operator is a division of two numbers with a remainder.
 fn leaves_rest(
     operator: Operator,
     left: Option<TextValue<'_>>,
@@ -68,7 +68,7 @@ fn leaves_rest(
     }
 }
 
-/// A remainder is there, and not zero.
+/// Whether there is a remainder that is not zero.
 fn is_rest(remainder: Option<TextValue<'_>>) -> bool
     ensures { result ≡ is_rest (value_seen remainder.entry) }
 {
@@ -78,7 +78,7 @@ fn is_rest(remainder: Option<TextValue<'_>>) -> bool
     }
 }
 
-/// The value of a binary operator between two values. A fault on either side is one of the whole.
+/// The value of a binary operator between two values. A fault on either side is a fault of the whole.
 fn between<'a>(
     operator: Operator,
     left: Option<TextValue<'a>>,
@@ -112,7 +112,7 @@ fn text_between<'a>(
     }
 }
 
-/// The left side unless it is false, else the right one.
+/// The left side unless it is false, else the right side.
 fn either<'a>(left: TextValue<'a>, right: TextValue<'a>) -> TextValue<'a>
     ensures { text_seen result ≡ either (text_seen left.entry) (text_seen right.entry) }
 {
@@ -185,7 +185,7 @@ fn remainder(left: i64, right: i64) -> Option<i64>
     }
 }
 
-/// The value of a unary operator before a value. A fault stays one.
+/// The value of a unary operator before a value. A fault stays a fault.
 pub fn before<'a>(prefix: Prefix, operand: Option<TextValue<'a>>) -> Option<TextValue<'a>>
     ensures { value_seen result ≡ value_before prefix (value_seen operand.entry) }
 {

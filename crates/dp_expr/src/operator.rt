@@ -3,7 +3,7 @@
 ghost use Rattle.std.specs.Prelude.{◌≡◌};
 ghost use Rattle.dp_expr.specs.Trees.{level_of};
 
-/// An operator between two operands. `||`, `&&` and `==` spell the first three too.
+/// An operator between two operands. `||`, `&&` and `==` are other spellings of the first three.
 #[derive(Clone, Copy, PartialEq, Eq)]
 pub enum Operator {
     Or,
@@ -41,7 +41,7 @@ impl Operator {
     }
 }
 
-/// An operator before its one operand.
+/// An operator before its only operand.
 #[derive(Clone, Copy, PartialEq, Eq)]
 pub enum Prefix {
     Negate,

@@ -1,4 +1,4 @@
-//! How Asterisk reads an expression, beside its value here.
+//! The value of an expression in Asterisk, compared with its value here.
 
 ghost use Rattle.std.specs.Prelude.{◌≡◌, IfOk, is_some, unwrap_or, None, []};
 ghost use Rattle.dp_expr.specs.AsteriskReading.{asterisk_reading, reading_of, reading_without_tree, tree_reading, is_unknown_text};
@@ -13,33 +13,33 @@ use crate::token::{has_foreign_mark, next_token};
 use crate::{NoMemory, walk};
 use std::alloc::Global;
 
-/// What an expression comes to in Asterisk, beside its value here.
+/// The value of an expression in Asterisk, compared with its value here.
 #[derive(Clone, Copy, Debug, PartialEq, Eq)]
 pub enum ExpressionReading {
     /// The value that it has here.
     Value,
-    /// `0`: it has a fault, and is not empty.
+    /// `0`: the expression has a fault, and is not empty.
     Zero,
-    /// That is not known here.
+    /// The value in Asterisk is not known here.
     Unknown,
 }
 
-/// How Asterisk reads the expression that a text holds.
+/// The value in Asterisk of the expression in a text.
 ///
-/// Takes a text of any bytes. What the two do in different ways is unknown: an expression that has
-/// `:`, `=~`, `~~` or `?` outside quotes, or an operand that is a fraction, as `1.5`; and one with
-/// a value here where a quotient is not whole, also on the side of `|` or `&` that is not chosen.
-/// Any other expression with a fault is `0`, unless it is empty. `evaluate` gives the value.
+/// The text may contain any bytes. The value is unknown for what the two evaluate in different ways: an expression with `:`, `=~`, `~~` or
+/// `?` outside quotes, or with an operand that is a fraction, such as `1.5`; and an expression with a value here that contains a quotient
+/// that is not whole, even on the side of `|` or `&` that is not chosen. Any other expression with a fault is `0`, unless it is empty.
+/// `evaluate` gives the value.
 ///
-/// The error comes only where a growth was refused.
+/// It fails only if memory runs out.
 pub fn asterisk_reading(alloc: Global, text: &[u8]) -> Result<ExpressionReading, NoMemory>
-    // By the text's one tree.
+    // Given the text's one tree.
     ensures tree { (tree : Tree) → IsTree text.now tree
         → IfOk result (λ reading. reading ≡ reading_of tree) }
-    // A text with no tree.
+    // A text without a tree.
     ensures fault { ((tree : Tree) → ¬ (IsTree text.now tree))
         → IfOk result (λ reading. reading ≡ reading_without_tree text.now) }
-    // The same by a function.
+    // The same, given by a function.
     ensures exact { IfOk result (λ reading. reading ≡ asterisk_reading text.now) }
 {
     if is_unknown_text(text) {
@@ -51,14 +51,14 @@ pub fn asterisk_reading(alloc: Global, text: &[u8]) -> Result<ExpressionReading,
     }
 }
 
-/// The reading is unknown whatever the text comes to.
+/// Whether the reading is unknown whatever the value of the text is.
 fn is_unknown_text(text: &[u8]) -> bool
     ensures { result ≡ is_unknown_text text.now }
 {
     has_foreign_mark(text) || has_fraction(text)
 }
 
-/// The reading by the value here, and by whether a quotient is not whole.
+/// The reading, given the value here and whether some quotient is not whole.
 fn tree_reading(alloc: Global, text: &[u8]) -> Result<ExpressionReading, NoMemory>
     ensures { IfOk result (λ reading.
         reading ≡ tree_reading (walk trees (Wanting []) (tokens_of text.now))) }
@@ -72,7 +72,7 @@ fn tree_reading(alloc: Global, text: &[u8]) -> Result<ExpressionReading, NoMemor
     }
 }
 
-/// The text has a value by that division.
+/// Whether the text has a value with that kind of division.
 fn has_value(alloc: Global, text: &[u8], division: Division) -> Result<bool, NoMemory>
     ensures { IfOk result (λ has. has
         ≡ is_some (unwrap_or (walk (values_by division) (Wanting []) (tokens_of text.now)) None)) }

@@ -11,10 +11,10 @@ use crate::text_value::TextValue;
 use smallvec::SmallVec;
 use std::alloc::{AllocError, Global};
 
-/// How many parentheses and unary operators may stand inside one another.
+/// The greatest number of nested parentheses and unary operators.
 pub const MOST_DEPTH: usize = 32;
 
-/// The open frames, the innermost last. Two of them take no memory.
+/// The open frames, the innermost last. The first two need no memory on the heap.
 #[derive(Drop)]
 pub struct Stack<'a> {
     pub frames: SmallVec<Frame<'a>, 2>,
@@ -41,7 +41,7 @@ impl<'a> Stack<'a> {
         }
     }
 
-    /// Opens a frame. After a refused growth the frames are as before.
+    /// Opens a frame. If memory runs out the frames are as before.
     pub fn push(&mut self, frame: Frame<'a>) -> Result<(), AllocError>
         requires { depth_with (frame_seen frame) self.old.depth ≤ most_depth }
         ensures { OnOk result (stack_seen self.new ≡ frame_seen frame.entry ∷ stack_seen self.old) }
@@ -52,7 +52,7 @@ impl<'a> Stack<'a> {
         Ok(())
     }
 
-    /// Takes the innermost frame.
+    /// Removes and returns the innermost frame.
     pub fn pop(&mut self) -> Option<Frame<'a>>
         ensures none { IfNone result (stack_seen self.old ≡ []) }
         ensures some { IfSome result (λ frame. stack_seen self.old ≡ frame_seen frame ∷ stack_seen self.new) }
@@ -62,7 +62,7 @@ impl<'a> Stack<'a> {
         Some(frame)
     }
 
-    /// The innermost frame takes its operand before an operator of that level does.
+    /// Whether the innermost frame takes its operand before an operator of that level does.
     pub fn is_top_due(&self, level: u8) -> bool
         ensures { result ≡ is_top_due level (stack_seen self.now) }
     {
@@ -72,7 +72,7 @@ impl<'a> Stack<'a> {
         }
     }
 
-    /// Takes the innermost frame if it is due before that level.
+    /// Removes and returns the innermost frame if it is due before that level.
     fn pop_due(&mut self, level: u8) -> Option<Frame<'a>>
         ensures due { is_some result ≡ is_top_due level (stack_seen self.old) }
         ensures none { IfNone result (stack_seen self.new ≡ stack_seen self.old) }
@@ -85,7 +85,7 @@ impl<'a> Stack<'a> {
         }
     }
 
-    /// What is held when all frames that are due before that level have taken their operand.
+    /// The value after all frames that are due before that level have taken their operand.
     pub fn reduce(
         &mut self,
         level: u8,

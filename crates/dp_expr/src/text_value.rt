@@ -11,12 +11,12 @@ use crate::operand::Operand;
 use itoa::Buffer;
 use std::cmp::Ordering;
 
-/// The value of an expression that has no fault. It borrows from the text and never allocates.
+/// The value of an expression without a fault. It borrows from the text and never allocates.
 #[derive(Clone, Copy)]
 pub enum TextValue<'a> {
-    /// An operand as it stands.
+    /// An operand as written.
     Written(Operand<'a>),
-    /// A number that was computed, in decimal.
+    /// A computed number, in decimal.
     Computed(i64),
 }
 
@@ -42,7 +42,7 @@ impl<'a> TextValue<'a> {
         }
     }
 
-    /// The text is empty, or a number equal to zero.
+    /// Whether the text is empty, or a number equal to zero.
     #[tactic(auto, unfolding(crate::specs::Values::is_false))]
     pub fn is_false(&self) -> bool
         ensures { result ≡ is_false (text_seen self.now) }
@@ -53,7 +53,7 @@ impl<'a> TextValue<'a> {
         }
     }
 
-    /// The order of two texts: as numbers if both are, else by bytes.
+    /// The order of two texts: as numbers if both are numbers, else by bytes.
     pub fn order(&self, other: &Self) -> Ordering
         ensures { result ≡ order_of (text_seen self.now) (text_seen other.now) }
     {
@@ -77,7 +77,7 @@ impl<'a> TextValue<'a> {
         }
     }
 
-    /// The order of these bytes and the text.
+    /// The order of these bytes relative to the text.
     fn order_after(&self, bytes: &[u8]) -> Ordering
         ensures { result ≡ slice_cmp nat_cmp bytes.now (text_seen self.now) }
     {

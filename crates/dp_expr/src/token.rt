@@ -13,15 +13,15 @@ pub enum Token<'a> {
     /// A word, or a quoted operand with both its quotes.
     Operand(&'a [u8]),
     Sign(Operator),
-    /// A `!` that no `=` follows.
+    /// A `!` without a `=` after it.
     Bang,
     Opening,
     Closing,
-    /// What stands in no expression: `:`, `?` and `~` outside quotes, and a quote without its end.
+    /// A byte that no expression contains: `:`, `?` or `~` outside quotes, or a quote without an end.
     Stray,
 }
 
-/// A token, and how many bytes it takes of those after its first.
+/// A token, and the number of bytes after its first byte that belong to it.
 #[derive(Clone, Copy)]
 struct TokenCut<'a> {
     token: Token<'a>,
@@ -61,7 +61,7 @@ fn is_word_byte(byte: u8) -> bool
     }
 }
 
-/// How many bytes of a word the text begins with.
+/// The number of bytes of a word at the start of the text.
 fn word_size(text: &[u8]) -> usize
     ensures size { result ≡ word_size text.now }
     ensures within { result ≤ length text.now }
@@ -74,7 +74,7 @@ fn word_size(text: &[u8]) -> usize
     text.len()
 }
 
-/// How many bytes the text has up to its first quote and with it, if it has one.
+/// The number of bytes of the text up to and including its first quote, if it has one.
 fn quoted_size(text: &[u8]) -> Option<usize>
     ensures size { result ≡ quoted_size text.now }
     ensures within { MatchOption result ⊤ (λ size. size ≤ length text.now) }
@@ -96,7 +96,7 @@ fn begins_with(text: &[u8], byte: u8) -> bool
     }
 }
 
-/// The long token if the second byte follows, else the short one.
+/// The long token if the second byte comes next, else the short one.
 fn longest<'a>(rest: &[u8], second: u8, long: Token<'a>, short: Token<'a>) -> TokenCut<'a>
     ensures cut { cut_seen result
         ≡ longest (begins_with second rest.now) (token_seen long.entry) (token_seen short.entry) }
@@ -119,7 +119,7 @@ fn longest_sign(rest: &[u8], second: u8, long: Operator, short: Operator) -> Tok
     longest(rest, second, Token::Sign(long), Token::Sign(short))
 }
 
-/// A token of one byte.
+/// A token with one byte.
 fn only(token: Token<'_>) -> TokenCut<'_>
     ensures { result ≡ record { token = token.entry; more = 0 } }
 {
@@ -151,7 +151,7 @@ fn mark_cut(first: u8, rest: &[u8]) -> TokenCut<'_>
     }
 }
 
-/// The token that begins with a byte that is no blank; the text is that byte and the rest.
+/// The token that begins with a byte that is not a blank; the text is that byte and the rest.
 #[tactic(auto, unfolding(crate::specs::Tokens::cut_at))]
 #[inline(always)]
 fn cut_at<'a>(first: u8, rest: &'a [u8], text: &'a [u8]) -> TokenCut<'a>
@@ -171,7 +171,7 @@ fn cut_at<'a>(first: u8, rest: &'a [u8], text: &'a [u8]) -> TokenCut<'a>
     }
 }
 
-/// An operand of one byte and some more.
+/// An operand with one byte and this many more.
 fn operand(text: &[u8], more: usize) -> TokenCut<'_>
     requires { more < length text.now }
     ensures { cut_seen result ≡ record { token = Operand (take (more + 1) text.now); more = more } }
@@ -183,7 +183,7 @@ fn operand(text: &[u8], more: usize) -> TokenCut<'_>
     }
 }
 
-/// The text from its first byte that is no blank.
+/// The text from its first byte that is not a blank.
 fn skip_blanks(text: &[u8]) -> &[u8]
     ensures same { tokens_of result.now ≡ tokens_of text.now }
     ensures start { IsStart result.now }
@@ -199,7 +199,7 @@ fn skip_blanks(text: &[u8]) -> &[u8]
     rest
 }
 
-/// The first token of a text, and the text after it; none where only blanks are left.
+/// The first token of a text, and the text after it, or None if only blanks are left.
 #[inline(always)]
 pub fn next_token(text: &[u8]) -> Option<(Token<'_>, &[u8])>
     ensures { MatchOption result (tokens_of text.now ≡ [])
@@ -212,14 +212,14 @@ pub fn next_token(text: &[u8]) -> Option<(Token<'_>, &[u8])>
     Some((cut.token, after))
 }
 
-/// A mark that means something in Asterisk alone.
+/// Whether the byte is a mark that has a meaning only in Asterisk.
 fn is_foreign_mark(byte: u8) -> bool
     ensures { result ≡ is_foreign_mark byte }
 {
     byte == b':' || byte == b'?' || byte == b'~'
 }
 
-/// Such a mark stands outside quotes.
+/// Whether there is such a mark outside quotes.
 pub fn has_foreign_mark(text: &[u8]) -> bool
     ensures { result ≡ has_foreign_mark text.now }
 {

@@ -1,4 +1,4 @@
-//! The value of an expression, as it is handed out.
+//! The value of an expression, as it is returned.
 
 ghost use Rattle.std.specs.Prelude.{◌≡◌, ◌++◌, [], IfOk, OnErr, OnOk};
 ghost use Rattle.dp_expr.specs.steps.Texts.{text_seen};
@@ -9,14 +9,14 @@ use itoa::Buffer;
 use std::alloc::Global;
 use std::marker::Model;
 
-/// How a value is held.
+/// The form in which a value is kept.
 #[derive(Drop)]
 pub(crate) enum HeldValue {
     Bytes(Vec<u8>),
     Number(i64),
 }
 
-/// The value of an expression. A number that was computed is not allocated.
+/// The value of an expression. A computed number needs no memory on the heap.
 ///
 /// A contract sees it as its bytes.
 pub struct Value {
@@ -49,7 +49,7 @@ impl Value {
         }
     }
 
-    /// The value that is this text.
+    /// The value with this text. It fails only if memory runs out.
     pub(crate) fn of(alloc: Global, text: &TextValue<'_>) -> Result<Self, NoMemory>
         ensures { IfOk result (λ value. value ≡ text_seen text.now) }
     {
@@ -60,7 +60,7 @@ impl Value {
         Ok(Value { held })
     }
 
-    /// Adds the value after other bytes. After a refused growth these are as before.
+    /// Adds the value after other bytes. If memory runs out these are as before.
     pub fn push_onto(&self, bytes: &mut Vec<u8>) -> Result<(), NoMemory>
         ensures ok { OnOk result (bytes.new.items ≡ bytes.old.items ++ self.now) }
         ensures err { OnErr result (bytes.new.items ≡ bytes.old.items) }

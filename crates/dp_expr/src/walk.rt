@@ -1,4 +1,4 @@
-//! A walk over the tokens of a text, which makes its value on the way.
+//! A walk over the tokens of a text, which computes its value on the way.
 
 ghost use Rattle.std.specs.Prelude.{◌≡◌, ◌≤◌, ◌∷◌, [], IfOk, MatchOption, None, unwrap_or};
 ghost use Rattle.dp_expr.specs.Tokens.{tokens_of};
@@ -21,7 +21,7 @@ use crate::token::{Token, next_token};
 use crate::walk_place::WalkPlace;
 use std::alloc::{AllocError, Global};
 
-/// The next token of the text, where the walk goes on; none where only blanks are left, and after a fault, whatever follows.
+/// The next token of the text, if the walk goes on, or None if only blanks are left, and after a fault, whatever comes next.
 #[tactic(auto, using(crate::proofs::OverLemmas::over_failed, crate::proofs::OverLemmas::over_empty))]
 #[inline(always)]
 fn token_after<'a>(place: WalkPlace<'_>, text: &'a [u8]) -> Option<(Token<'a>, &'a [u8])>
@@ -34,7 +34,7 @@ fn token_after<'a>(place: WalkPlace<'_>, text: &'a [u8]) -> Option<(Token<'a>, &
     }
 }
 
-/// The value of the expression that a text holds; none for a fault.
+/// The value of the expression in a text, or None for a fault. It fails only if memory runs out.
 pub fn value(
     alloc: Global,
     text: &[u8],
@@ -70,7 +70,7 @@ fn step<'a>(
     }
 }
 
-/// A token where an operand is wanted.
+/// Takes a token where an operand is needed.
 fn begin<'a>(stack: &mut Stack<'a>, token: Token<'a>) -> Result<WalkPlace<'a>, AllocError>
     ensures { IfOk result (λ next. state_seen next stack.new
         ≡ first_step values (stack_seen stack.old) (token_seen token.entry)) }
@@ -86,7 +86,7 @@ fn begin<'a>(stack: &mut Stack<'a>, token: Token<'a>) -> Result<WalkPlace<'a>, A
     }
 }
 
-/// An operator where an operand is wanted: only a minus may stand there.
+/// Takes an operator where an operand is needed: only a minus is allowed there.
 fn front<'a>(stack: &mut Stack<'a>, operator: Operator) -> Result<WalkPlace<'a>, AllocError>
     ensures { IfOk result (λ next. state_seen next stack.new
         ≡ prefix_entry operator (stack_seen stack.old)) }
@@ -108,7 +108,7 @@ fn front<'a>(stack: &mut Stack<'a>, operator: Operator) -> Result<WalkPlace<'a>,
     }
 }
 
-/// Opens a frame, unless too many stand inside one another.
+/// Opens a frame, unless too many are nested.
 fn enter<'a>(stack: &mut Stack<'a>, frame: Frame<'a>) -> Result<WalkPlace<'a>, AllocError>
     ensures { IfOk result (λ next. state_seen next stack.new
         ≡ entry (frame_seen frame.entry) (stack_seen stack.old)) }
@@ -121,7 +121,7 @@ fn enter<'a>(stack: &mut Stack<'a>, frame: Frame<'a>) -> Result<WalkPlace<'a>, A
     }
 }
 
-/// A token after an operand.
+/// Takes a token after an operand.
 fn go_on<'a>(
     stack: &mut Stack<'a>,
     value: Option<TextValue<'a>>,
@@ -138,7 +138,7 @@ fn go_on<'a>(
     }
 }
 
-/// An operator after an operand, which becomes its left side.
+/// Takes an operator after an operand, which becomes its left side.
 fn push_left<'a>(
     stack: &mut Stack<'a>,
     operator: Operator,
@@ -154,7 +154,7 @@ fn push_left<'a>(
     Ok(WalkPlace::Wanting)
 }
 
-/// A closing parenthesis after an operand.
+/// Takes a closing parenthesis after an operand.
 fn close<'a>(
     stack: &mut Stack<'a>,
     value: Option<TextValue<'a>>,
@@ -170,7 +170,7 @@ fn close<'a>(
     }
 }
 
-/// What is held when the tokens end: a value if no parenthesis is open.
+/// The value at the end of the tokens, if no parenthesis is open.
 #[tactic(auto, unfolding(crate::specs::Walk::ending))]
 fn finish<'a>(
     stack: &mut Stack<'a>,

@@ -1,14 +1,14 @@
-//! Where a walk is between two tokens.
+//! The place of a walk between two tokens.
 
 use crate::text_value::TextValue;
 
-/// Where a walk is between two tokens.
+/// The place of a walk between two tokens.
 #[derive(Clone, Copy)]
 pub enum WalkPlace<'a> {
-    /// An operand has to follow.
+    /// An operand must come next.
     Wanting,
     /// An operand was read, with this value.
     Holding(Option<TextValue<'a>>),
-    /// The tokens are no expression, whatever follows.
+    /// The tokens are not an expression, whatever comes next.
     Failed,
 }

@@ -1,10 +1,10 @@
--- What is left of a line after one more mark or byte, and of the lines of a file after one more part.
+-- The rest of a line after one more mark or byte, and the lines of a file after one more part.
 use Rattle.std.proofs.Common.{◌≡◌, ℕ, ◌-◌, ◌<◌, true, false, cond, eqb, not, ◌&&◌, List, [], ◌∷◌, ◌++◌, take, drop, length, refl, ap, sym, ◌∙◌, arith}
 use Rattle.std.proofs.lemmas.List.{append_assoc, append-nil, take_all, length-drop}
 use Rattle.dp_conf.specs.Lines.{opens_block, parts_of, without_mark}
 use Rattle.dp_files.specs.Comments.{Uncovered, with_byte, closes_block, uncovered_from, FileLines, with_line, lines_after, file_lines}
 
--- the bytes of a mark are passed over
+-- the bytes of a mark are skipped
 pub uncovered_from-mark : (line : ℕ) (unclosed : List ℕ) (previous : ℕ) (text : List ℕ) → uncovered_from line 2 unclosed previous text ≡ uncovered_from line 0 unclosed 10 (drop 2 text)
 uncovered_from-mark line unclosed previous [] = refl
 uncovered_from-mark line unclosed previous (b ∷ []) = refl
@@ -38,18 +38,18 @@ uncovered_from-covered line (inner ∷ outer) previous (b ∷ bs) some opens clo
     sym (ap (λ t. cond {A = Uncovered} t (uncovered_from line 2 (line ∷ inner ∷ outer) 10 bs) (cond (closes_block (b ∷ bs)) (uncovered_from line 2 outer 10 bs) (uncovered_from line 0 (inner ∷ outer) 10 bs))) opens
     ∙ ap (λ t. cond {A = Uncovered} t (uncovered_from line 2 outer 10 bs) (uncovered_from line 0 (inner ∷ outer) 10 bs)) closes)
 
--- what was kept so far stands before what is left of the line
+-- the bytes kept so far come before the rest of the line
 abbrev pub with_front : List ℕ → Uncovered → Uncovered
 with_front kept rest = record { text = kept ++ rest.text; unclosed = rest.unclosed }
 
--- a byte outside of block comments that begins no comment
+-- a byte outside block comments that begins no comment
 pub uncovered_from-kept : (line : ℕ) (previous b : ℕ) (bs kept : List ℕ) → (eqb b 59 && not (eqb previous 92)) ≡ false
     → with_front (kept ++ b ∷ []) (uncovered_from line 0 [] b bs) ≡ with_front kept (uncovered_from line 0 [] previous (b ∷ bs))
 uncovered_from-kept line previous b bs kept plain =
     ap (λ text. let u : Uncovered = record { text = text; unclosed = (uncovered_from line 0 [] b bs).unclosed } in u) (append_assoc kept (b ∷ []) (uncovered_from line 0 [] b bs).text)
     ∙ ap (λ t. with_front kept (cond {A = Uncovered} t (cond (opens_block (b ∷ bs)) (uncovered_from line 2 (line ∷ []) 10 bs) (record { text = b ∷ bs; unclosed = [] })) (with_byte b (uncovered_from line 0 [] b bs)))) (sym plain)
 
--- an opening outside of block comments
+-- an opening outside block comments
 pub uncovered_from-begins : (line : ℕ) (previous b : ℕ) (bs : List ℕ) → (eqb b 59 && not (eqb previous 92)) ≡ true → opens_block (b ∷ bs) ≡ true
     → uncovered_from line 0 (line ∷ []) 10 (drop 3 (b ∷ bs)) ≡ uncovered_from line 0 [] previous (b ∷ bs)
 uncovered_from-begins line previous b bs comment opens =
@@ -68,7 +68,7 @@ uncovered_from-ends line previous b bs comment opens =
 pub rest_range : (count : ℕ) (text : List ℕ) → take (length text - count) (drop count text) ≡ drop count text
 rest_range count text = take_all (length text - count) (drop count text) (omega (arith, length-drop count text))
 
--- the lines that were read stand before those that are left
+-- the lines that were read come before the remaining ones
 abbrev pub with_lines : List (List ℕ) → FileLines → FileLines
 with_lines front rest = record { texts = front ++ rest.texts; open_comment = rest.open_comment }
 
@@ -93,7 +93,7 @@ uncovered_from-ended line [] previous b bs left kept whole e is none comment ope
     ∙ ap (λ (text : List ℕ). let u : Uncovered = record { text = kept ++ text; unclosed = [] } in u) (sym is)
 uncovered_from-ended line (inner ∷ outer) previous b bs left kept whole e is none comment opens = absurd (omega (arith, none))
 
--- no line was read yet
+-- no line has been read yet
 pub lines_after-text : (text : List ℕ) → with_lines [] (lines_after 0 [] (parts_of (without_mark text))) ≡ file_lines text
 unfolding file_lines
 lines_after-text text = refl

@@ -1,4 +1,4 @@
--- What is known of files, before and after one more was asked for.
+-- What is known of files, before and after one more was requested.
 use Rattle.std.proofs.Common.{◌≡◌, ℕ, Bool, true, false, cond, nat_le, min, length, arith, List, Option, Some, None, IsSortedBy, is_lt, nat_cmp, Ordering, Bor, refl, ap, sym, ◌∙◌, subst}
 use Rattle.std.specs.Cmp.{IsStrictWeakOrder}
 use Rattle.std.specs.Cmp.Lexicographic.{nat_list_eq_equiv, slice_cmp}
@@ -22,14 +22,14 @@ use Rattle.dp_files.specs.declared.known_text.KnownText.{KnownText}
 -- ---- one more entry
 
 module _ {V : Type 0} (F : List ℕ → Option V → Type 0) (es new : List (List ℕ × V)) (name : List ℕ) (v : V) (is : new ≡ insert_entry same_text es name v) where
-  -- what a name has once one was written
+  -- the value of a name after one was written
   found : (q : List ℕ) → lookup (same_text q) new ≡ cond (same_text q name) (Some v) (lookup (same_text q) es)
   found q = ap (λ entries. lookup (same_text q) entries) is ∙ lookup-insert_entry same_text nat_list_eq_equiv es name v q
 
   same_is : (q : List ℕ) → same_text q name ≡ true → q ≡ name
   same_is q e = (bytes_eq-Decides q name).0 e
 
-  -- what holds of all names now held of all before, where nothing was known of this one
+  -- what holds of all names now held of all before, if nothing was known of this one
   pub before : ((q : List ℕ) → F q None) → lookup (same_text name) es ≡ None → ((q : List ℕ) → F q (lookup (same_text q) new)) → (q : List ℕ) → F q (lookup (same_text q) es)
   before none absent all q = by (same_text q name) refl (subst (F q) (found q) (all q))
     where
@@ -48,14 +48,14 @@ module _ {V : Type 0} (F : List ℕ → Option V → Type 0) (es new : List (Lis
 -- ---- files that agree
 
 module _ (texts new : List (List ℕ × KnownText)) (lists : List (List ℕ × List (List ℕ))) (name : List ℕ) (known : KnownText) (is : new ≡ insert_entry same_text texts name known) where
-  -- with what is known now, with what was known before
+  -- files that agree with what is known now agree with what was known before
   pub agrees-before_text : lookup (same_text name) texts ≡ None → (has : Files) → Agrees (record { texts = new; lists = lists }) has → Agrees (record { texts = texts; lists = lists }) has
   agrees-before_text absent has agrees = record {
     texts = before (λ q text. FitsKnown text (has.text q)) texts new name known is (λ q. tt) absent agrees.texts;
     names = agrees.names;
   }
 
-  -- what is known is what may be told
+  -- everything known is something that may be reported
   pub may_know-text : (may_tell : Telling → Type 0) → MayFit (λ text. may_tell (TextOf name text)) known → MayKnow may_tell (record { texts = texts; lists = lists }) → MayKnow may_tell (record { texts = new; lists = lists })
   may_know-text may_tell own all = record {
     texts = with_new (λ q text. MayFitKnown (λ text. may_tell (TextOf q text)) text) texts new name known is all.texts own;
@@ -75,7 +75,7 @@ module _ (texts : List (List ℕ × KnownText)) (lists new : List (List ℕ × L
     names = with_new (λ q known. MayBeKnown (λ told. may_tell (NamesOf q told)) known) lists new pattern names is all.names own;
   }
 
--- what may be told by one may be told by another
+-- what one may report another may report
 pub may_know-weaker : (A B : Telling → Type 0) (known : Known) → ((told : Telling) → A told → B told) → MayKnow A known → MayKnow B known
 may_know-weaker A B known weaker all = record {
   texts = λ name. text name (lookup (same_text name) known.texts) (all.texts name);
@@ -92,7 +92,7 @@ may_know-weaker A B known weaker all = record {
 
 -- ---- texts
 
--- what is no text
+-- bytes that are not a text
 pub is_utf8-from_no_text : (path : List ℕ) → (IsUtf8 path → ⊥) → is_utf8 path ≡ false
 is_utf8-from_no_text path none = by (is_utf8 path) refl
   where
@@ -102,7 +102,7 @@ is_utf8-from_no_text path none = by (is_utf8 path) refl
 
 -- ---- names in byte order
 
--- a closure that compares names puts them in byte order
+-- a closure that compares names sorts them in byte order
 pub IsSortedBy-names : {F : Type 0} {g : Mut F (Bor (List ℕ) × (Bor (List ℕ) × Unit {0})) Ordering} {f : F} (names : List (List ℕ))
     → ((lt : List ℕ → List ℕ → Bool) → IsStrictWeakOrder lt → ComparesAs g lt f → IsSortedBy lt names)
     → ((a : Bor (List ℕ) × (Bor (List ℕ) × Unit {0})) (r : Ordering) (f' : F) → Called g f a r f' → (r ≡ slice_cmp nat_cmp a.0.now a.1.0.now) × (f' ≡ f))
@@ -120,7 +120,7 @@ too_long most bytes false long same =
     let above : nat_le (length bytes) (min most most_bytes) ≡ false = grind (arith, nat_tests, long) in
     ap (λ t. cond t (Bytes bytes) TooLong) (sym above)
 
--- a text with more bytes than any may have is too long, however many it may have
+-- a text with more bytes than any may have is too long, whatever the limit
 pub long_for_any : (most : ℕ) (text : Option (List ℕ)) → text_read most_bytes text ≡ TooLong → TooLong ≡ text_read most text
 long_for_any most None same = absurd cc
 long_for_any most (Some bytes) same = too_long most bytes (nat_le (length bytes) (min most_bytes most_bytes)) refl same

@@ -13,7 +13,7 @@ use Rattle.dp_conf.proofs.EscapeLemmas.{content_of-escape_text}
 use Rattle.dp_conf.proofs.TextLemmas.{Avoids, IsTrimmed, cut_once-here, cut_once-is, each-trim, trim-trimmed, trimmed-between, trimmed-trim}
 use Rattle.dp_files.specs.Headers.{HeaderOf, header_by, header_cut, header_of, plain_header, with_options}
 
--- whether a text has a byte
+-- whether a text contains a byte
 abbrev has_byte : List ℕ → Bool
 has_byte [] = false
 has_byte (b ∷ bs) = true
@@ -23,17 +23,17 @@ abbrev name_in : Result HeaderOf LineKind → List ℕ
 name_in (Ok header) = header.name
 name_in (Err kind) = []
 
--- a name that a header may have
+-- a name that is allowed in a header
 record IsName (name : List ℕ) : Type 0 where
   some : has_byte name ≡ true
   trimmed : IsTrimmed name
   no_end : Avoids 93 name
 
--- what was refused is no header
+-- a refused header is not a header
 refused : {X : Type 0} (kind : LineKind) (header : HeaderOf) → (let read : Result HeaderOf LineKind = Err kind in read ≡ Ok header) → X
 refused kind header e = absurd (false≢true (ap (λ (read : Result HeaderOf LineKind). is_ok read) e))
 
--- a header with parentheses has the name that stands before them
+-- a header with parentheses has the name before them
 options_name : (name : List ℕ) (header : HeaderOf) (cut : Option (List ℕ × List ℕ)) → with_options name cut ≡ Ok header → name ≡ header.name
 options_name name header None e = refused Template header e
 options_name name header (Some cut) e = by (eqb (length (trim_start cut.1)) 0) e
@@ -59,7 +59,7 @@ is_name inside header (Some cut) cuts e =
     let is = cut_once-is 93 inside cut.0 cut.1 cuts in
     subst IsName found.0 (record { some = found.1; trimmed = trimmed-trim cut.0; no_end = each-trim (λ b. eqb b 93 ≡ false) cut.0 is.avoids })
 
--- the line of a name says the name
+-- the line with a name says the name
 says_name : (in_section : Bool) (line : ℕ) (name : List ℕ) → IsName name → item_of in_section line (content_of (plain_header name)) ≡ Ok (Header line name ∷ [])
 says_name in_section line [] known = absurd (false≢true known.some)
 says_name in_section line (n ∷ name) known =
@@ -69,7 +69,7 @@ says_name in_section line (n ∷ name) known =
     ∙ ap (item_of_cut line) (cut_once-here 93 (n ∷ name) [] known.no_end)
     ∙ ap (λ (text : List ℕ). item_by line text []) (trim-trimmed (n ∷ name) known.trimmed)
 
--- the line that is made of a header says the header's name
+-- the line made from a header says the header's name
 pub made_header-says : (in_section : Bool) (line : ℕ) (inside : List ℕ) (header : HeaderOf) → header_of inside ≡ Ok header
     → item_of in_section line (content_of (plain_header header.name)) ≡ Ok (Header line header.name ∷ [])
 made_header-says in_section line inside header e = says_name in_section line header.name (is_name inside header (cut_once 93 inside) refl e)

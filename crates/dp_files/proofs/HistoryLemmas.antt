@@ -1,4 +1,4 @@
--- What is kept of the lines so far is what they say.
+-- What is kept of the lines so far is their history.
 use Rattle.std.proofs.Common.{◌≡◌, ℕ, Bool, true, false, cond, ◌&&◌, List, [], ◌∷◌, Option, Some, None, refl, ap, ◌∙◌}
 use Rattle.std.specs.Option.{option_or, unwrap_or}
 use Rattle.std.specs.Cmp.{IsEquivalence}
@@ -15,7 +15,7 @@ use Rattle.dp_files.specs.declared.line_reading.Made.{Made}
 
 -- ---- labels
 
--- to be the same label is an equivalence
+-- being the same label is an equivalence
 pub same_label_equiv : IsEquivalence same_label
 same_label_equiv =
     both_equiv (on_equiv (λ (e : ExtensionLabel). e.spelling) nat_list_eq_equiv) (on_equiv (λ (e : ExtensionLabel). e.label) nat_list_eq_equiv)
@@ -24,7 +24,7 @@ or_if : {X : Type 0} (t : Bool) (x : X) (o : Option X) → cond t (Some x) o ≡
 or_if true x o = refl
 or_if false x o = refl
 
--- the number of a label once a line with a number was added
+-- the number of a label after a line with a number was added
 label_added : (labels : List (ExtensionLabel × ℕ)) (extension : Extension) (number : ℕ) (own : Option (List ℕ)) (name label : List ℕ)
     → number_of_label (with_label labels extension.spelling number own) name label ≡ option_or (number_with name label extension number own) (number_of_label labels name label)
 label_added labels extension number None name label = refl
@@ -32,7 +32,7 @@ label_added labels extension number (Some own) name label =
     lookup-insert_entry same_label same_label_equiv labels (label_key extension.spelling own) number (label_key name label)
     ∙ or_if (same_text name extension.spelling && same_text label own) number (number_of_label labels name label)
 
--- the history of these
+-- the history with these values
 abbrev history_by : Option ℕ → Option Extension → Bool → List (ExtensionLabel × ℕ) → History
 history_by number extension after_hint labels = record {
   number = number;
@@ -41,7 +41,7 @@ history_by number extension after_hint labels = record {
   label = number_of_label labels;
 }
 
--- the history once a line with a number was added
+-- the history after a line with a number was added
 pub counted : (last : Option ℕ) (before : Option Extension) (hint : Bool) (labels new_labels : List (ExtensionLabel × ℕ)) (extension : Extension) (number : ℕ) (own : Option (List ℕ))
     → new_labels ≡ with_label labels extension.spelling number own
     → history_by (Some number) (Some extension) false new_labels ≡ after (history_by last before hint labels) (Counts extension number own)
@@ -69,7 +69,7 @@ history_of-more line before = λ i. record {
   label = λ name label. option_or (label_in name label line) (nearest (label_in name label) before);
 }
 
--- what is made of lines by the lines before them is what is made of them by the history of those
+-- the results of lines, given the lines before them, are their results given the history of those
 pub made_by_history : (before : List Said) (lines : List (ℕ × List ℕ)) → all_made before lines ≡ all_made_after (history_of before) lines
 made_by_history before [] = refl
 made_by_history before (line ∷ lines) =

@@ -1,4 +1,4 @@
--- What a key has in a map of which one entry was written.
+-- The value of a key in a map with one entry changed.
 use Rattle.std.proofs.Common.{◌≡◌, Bool, true, false, cond, ◌&&◌, List, [], ◌∷◌, Option, Some, refl, ap, ◌∙◌, sym}
 use Rattle.std.specs.Map.{lookup}
 use Rattle.std.specs.Cmp.{IsEquivalence}
@@ -12,7 +12,7 @@ and_right : (a b : Bool) → (a && b) ≡ true → b ≡ true
 and_right true b e = e
 and_right false b e = absurd cc
 
--- what is the same in two ways at once is an equivalence where each is
+-- equality in two ways at once is an equivalence if each is
 pub both_equiv : {X : Type 0} {E F : X → X → Bool} → IsEquivalence E → IsEquivalence F → IsEquivalence (λ x y. E x y && F x y)
 both_equiv {X} {E} {F} first second = record {
   refl = λ x i. first.refl x i && second.refl x i;
@@ -29,7 +29,7 @@ cond_apart true true x y z apart = let no = apart refl in absurd cc
 cond_apart true false x y z apart = refl
 cond_apart false t x y z apart = refl
 
--- what a key has once a key was written
+-- the value of a key after another value was written
 pub lookup-insert_entry : {K V : Type 0} (eq : K → K → Bool) → IsEquivalence eq → (es : List (K × V)) (k : K) (v : V) (q : K) → lookup (eq q) (insert_entry eq es k v) ≡ cond (eq q k) (Some v) (lookup (eq q) es)
 lookup-insert_entry eq laws [] k v q = refl
 lookup-insert_entry {K} {V} eq laws (e ∷ es) k v q = by (lookup-insert_entry eq laws es k v q) (eq k e.0) refl where

@@ -33,7 +33,7 @@ range-push a (suc n) =
     let e : (a + 1) + n ≡ a + suc n = omega arith in
     ap (λ (t : List ℕ). a ∷ t) (range-push (a + 1) n ∙ ap (λ (k : ℕ). range_with_len (a + 1) n ++ k ∷ []) e)
 
--- a remark of a later line tells nothing of a place
+-- a remark on a later line does not concern a place
 has_remark-push : (remarks : List Remark) (remark : Remark) (place : ℕ) → place < remark.source → has_remark (remarks ++ remark ∷ []) place ≡ has_remark remarks place
 has_remark-push remarks remark place later =
     let other : eqb remark.source place ≡ false = ne_eqb remark.source place (λ e. absurd (omega (arith, later, e))) in
@@ -44,14 +44,14 @@ has_remark-push remarks remark place later =
     or_false true = refl
     or_false false = refl
 
--- remarks of lines before a place tell nothing of it
+-- remarks on lines before a place do not concern it
 no_remark_before : (remarks : List Remark) (place : ℕ) → AllByRecursion (λ remark. remark.source < place) remarks → has_remark remarks place ≡ false
 no_remark_before [] place before = refl
 no_remark_before (remark ∷ remarks) place before =
     let other : eqb remark.source place ≡ false = ne_eqb remark.source place (λ e. absurd (omega (arith, before.0, e))) in
     ap (λ (b : Bool). b || has_remark remarks place) other ∙ no_remark_before remarks place before.1
 
--- what a test keeps of numbers, by another test that is the same on them
+-- two tests that agree on numbers keep the same ones
 without_remark_from : (remarks : List Remark) (remark : Remark) (a n : ℕ) → a + n ≤ remark.source
     → filter (λ place. not (has_remark (remarks ++ remark ∷ []) place)) (range_with_len a n) ≡ filter (λ place. not (has_remark remarks place)) (range_with_len a n)
 without_remark_from remarks remark a zero within = refl
@@ -69,7 +69,7 @@ without_remark-more remarks place =
     ap (filter keeps) (range-push 0 place) ∙ filter-append keeps (range_with_len 0 place) ((0 + place) ∷ [])
     ∙ ap (λ (k : ℕ). filter keeps (range_with_len 0 place) ++ cond (keeps k) (k ∷ []) []) e
 
--- a line of which no remark tells is one more
+-- a line without a remark is one more
 without_remark-kept : (remarks : List Remark) (place : ℕ) → AllByRecursion (λ remark. remark.source < place) remarks → without_remark remarks (suc place) ≡ without_remark remarks place ++ place ∷ []
 without_remark-kept remarks place before =
     without_remark-more remarks place ∙ ap (λ (b : Bool). without_remark remarks place ++ cond (not b) (place ∷ []) []) (no_remark_before remarks place before)
@@ -78,7 +78,7 @@ append-nil : (xs : List ℕ) → xs ++ [] ≡ xs
 append-nil [] = refl
 append-nil (x ∷ xs) = ap (λ (t : List ℕ). x ∷ t) (append-nil xs)
 
--- a line of which a remark tells is left out
+-- a line with a remark is left out
 without_remark-with_fault : (remarks : List Remark) (remark : Remark) → without_remark (remarks ++ remark ∷ []) (suc remark.source) ≡ without_remark remarks remark.source
 without_remark-with_fault remarks remark =
     without_remark-more (remarks ++ remark ∷ []) remark.source
@@ -99,7 +99,7 @@ without_remark-with_fault remarks remark =
         ∙ ap (λ (b : Bool). has_remark remarks remark.source || (b || false)) (same remark.source)
         ∙ or_true (has_remark remarks remark.source)
 
--- what holds of remarks before a place holds before the next, and of one more
+-- what holds of remarks before a place holds of them before the next place, and of one more
 before_more : (remarks : List Remark) (place : ℕ) → AllByRecursion (λ remark. remark.source < place) remarks → AllByRecursion (λ remark. remark.source < suc place) remarks
 before_more [] place before = tt
 before_more (remark ∷ remarks) place before = (omega (arith, before.0), before_more remarks place before.1)
@@ -125,7 +125,7 @@ length-changed change place [] = refl
 length-changed change zero (x ∷ xs) = refl
 length-changed change (suc place) (x ∷ xs) = ap suc (length-changed change place xs)
 
--- the lines so far are in order, and the section that is open is the last
+-- the lines so far are in order, and the open section is the last one
 record Ordered (so_far : SectionsSoFar) (current place : ℕ) : Type 0 where
   order : flat_map section_places so_far.sections ≡ without_remark so_far.remarks place
   before : AllByRecursion (λ remark. remark.source < place) so_far.remarks
@@ -164,7 +164,7 @@ ordered-begun so_far current place room header o = record {
     add-one : length so_far.sections + 1 ≡ suc (length so_far.sections)
     add-one = omega arith
 
--- the same of what a line makes, which leaves open what was open in each file
+-- the same for the result of a line, which does not change the section that is open in each file
 record Follows (so_far : SectionsSoFar) (place : ℕ) (after : SectionsSoFar × ℕ) : Type 0 where
   ordered : Ordered after.0 after.1 (suc place)
   same : after.0.open_in ≡ so_far.open_in
@@ -191,7 +191,7 @@ follows-header so_far current place (Ok header) plain o =
     subst (λ (options : Option (List ℕ)). Follows so_far place (after_header place current (Ok (record { name = header.name; options = options })) so_far)) (sym plain)
     (follows-named so_far current place header.name o)
 
--- a line is a header, or it is neither that nor a directive
+-- a line is a header, or it is neither a header nor a directive
 follows-cases : (so_far : SectionsSoFar) (place : ℕ) (is_header is_directive : Bool) (read : Result HeaderOf LineKind) (header directive plain : SectionsSoFar × ℕ)
     → is_directive ≡ false → IfOk (cond is_header read (Err BadHeader)) (λ header. header.options ≡ None)
     → (IfOk read (λ header. header.options ≡ None) → Follows so_far place header) → Follows so_far place plain
@@ -210,7 +210,7 @@ follows-content so_far current place (b ∷ bs) none known o =
     (λ h. follows-header so_far current place (header_of bs) h o)
     (follows-plain so_far current place (item_of (not (eqb current 0)) 0 (b ∷ bs)) o)
 
--- the lines so far are in order, where the section that is open is that of the next line of the first file
+-- the lines so far are in order, if the open section is that of the next line of the first file
 record InOrder (files : List SourceFile) (lines : List SourceLine) (so_far : SectionsSoFar) (place : ℕ) : Type 0 where
   ordered : Ordered so_far (section_of_next files lines so_far.open_in 0) place
   known : 0 < length so_far.open_in

@@ -1,4 +1,4 @@
--- A file with neither block comments nor directives is read as it stands.
+-- A file with neither block comments nor directives is read unchanged.
 use Rattle.std.proofs.Common.{◌≡◌, ℕ, suc, ◌+◌, ◌-◌, ◌≤◌, Bool, true, false, cond, eqb, not, ◌&&◌, ◌||◌, List, [], ◌∷◌, ◌++◌, take, drop, length, Option, None, Some, Result, Ok, refl, ap, sym, ◌∙◌, arith}
 use Rattle.std.specs.List.{list_any}
 use Rattle.std.proofs.lemmas.List.{append_assoc, append-nil}
@@ -26,7 +26,7 @@ drop-next n b bs =
     let e : 1 + n ≡ suc n = omega arith in
     ap (λ k. drop k (b ∷ bs)) e
 
--- a line in which no block comment begins is left as it is
+-- a line in which no block comment begins is unchanged
 uncovered_from-plain : (line previous : ℕ) (text : List ℕ) → opens_block (drop (comment_start previous text) text) ≡ false → uncovered_from line 0 [] previous text ≡ record { text = text; unclosed = [] }
 uncovered_from-plain line previous [] plain = refl
 uncovered_from-plain line previous (b ∷ bs) plain = by (uncovered_from-plain line b bs) (eqb b 59 && not (eqb previous 92)) plain
@@ -58,7 +58,7 @@ unfolding directive_of
 directive_of-none [] plain = refl
 directive_of-none (b ∷ bs) plain = ap (λ t. cond {A = Option DirectiveOf} t (Some (directive_by (take (word_length bs) bs) (unquoted (trim (drop (word_length bs) bs))))) None) plain
 
--- a plain line stands there, and asks for nothing
+-- a plain line is kept, and requests nothing
 after_line-plain : (include : RequestOf → ReadSoFar → ReadSoFar) (line : ℕ) (part : List ℕ) (read : ReadSoFar) → begins_with 35 (content_of part) ≡ false
     → after_line include 0 false line part read ≡ with_line 0 line part read
 unfolding after_line
@@ -90,7 +90,7 @@ after_text-plain include text read plain =
 text_read-short : (text : List ℕ) → length text ≤ 16777216 → text_read 16777216 (Some text) ≡ Bytes text
 text_read-short text short = ap (λ t. cond {A = TextRead} t (Bytes text) TooLong) (le-leb (length text) 16777216 short)
 
--- a plain file is read as it stands
+-- a plain file is read unchanged
 pub plain_is_kept : (files : Files) (name text : List ℕ) → IsPlain files name text → reading_of files name ≡ Ok (plain_reading name text)
 unfolding reading_of
 plain_is_kept files name text p =

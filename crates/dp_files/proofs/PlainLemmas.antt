@@ -1,4 +1,4 @@
--- Lines that stand as they are.
+-- Lines that are unchanged.
 use Rattle.std.proofs.Common.{◌≡◌, ℕ, Bool, true, false, not, ◌&&◌, ◌+◌, List, [], ◌∷◌, map, Option, Some, None, refl, ap, ◌∙◌}
 use Rattle.std.specs.List.{flat_map}
 use Rattle.std.specs.Option.{unwrap_or}
@@ -29,7 +29,7 @@ not_true : (a : Bool) → not a ≡ true → a ≡ false
 not_true true e = absurd cc
 not_true false e = refl
 
--- a number of its own, with a label that is kept, and with no hint before it
+-- a plain number, with a label that is kept, and without a hint before it
 unchanged : (alone double same hint : Bool) → alone ≡ true → double ≡ false → hint ≡ false → (alone && not double && not (same && hint)) ≡ true
 unchanged true false true false a d h = refl
 unchanged true false false false a d h = refl
@@ -40,11 +40,11 @@ unchanged false double same hint a d h = absurd cc
 
 -- ---- a line
 
--- a line as it stands
+-- a line unchanged
 abbrev standing : List ℕ → Made
 standing line = record { text = Some line; remark = None }
 
--- the line is made as it stands, and no hint stands behind it
+-- the line is unchanged, and no hint comes after it
 record Stays (history : History) (line : List ℕ) (reading : Reading) : Type 0 where
   made : reading.made ≡ standing line
   hint : unwrap_or (hint_in reading.said) history.is_after_hint ≡ false
@@ -66,7 +66,7 @@ module _ (history : History) (line : List ℕ) (entry : Entry) (kept : Option (L
       rw (unchanged (is_number_alone entry.priority) (is_double (label_of entry.priority) kept) entry.is_same history.is_after_hint alone single hint) refl in
       rw old (record { made = rw text (rw single refl); hint = refl })
 
-  -- or with a number that may be none
+  -- or with a number, if there is one
   numbered_or_not : (outcome : Outcome) → is_counted outcome ≡ true → Stays history line (plain_reading history.is_after_hint line entry kept outcome)
   numbered_or_not Refused counted = record { made = refl; hint = hint }
   numbered_or_not Hinted counted = absurd cc
@@ -77,7 +77,7 @@ counted_number : (number : Option ℕ) → is_counted (numbered number) ≡ true
 counted_number None = refl
 counted_number (Some number) = refl
 
--- the outcome of a number of its own
+-- the outcome of a plain number
 fixed_outcome : (history : History) (name : List ℕ) (written : Written) → is_alone written ≡ true → is_counted (written_outcome history name written) ≡ true
 fixed_outcome history name Hint alone = absurd cc
 fixed_outcome history name (Counted (Number number) None) alone = counted_number (within_limit (number + 0))
@@ -106,7 +106,7 @@ entry_stays history line same extension (Some priority) application hint plain =
     rw bare (numbered_or_not history line entry kept hint old fixed single (written_outcome history extension.spelling priority.written)
     (fixed_outcome history extension.spelling priority.written fixed))
 
--- an entry whose extension may be none
+-- an entry whose extension may not be valid
 known_stays : (history : History) (line : List ℕ) (same : Bool) (extension : Option Extension) (priority application : List ℕ)
     → history.is_after_hint ≡ false → is_plain_entry history extension (priority_of priority) application ≡ true
     → Stays history line (reading_of history line same extension priority application)
@@ -114,7 +114,7 @@ known_stays history line same None priority application hint plain = record { ma
 known_stays history line same (Some extension) priority application hint plain =
     entry_stays history line same extension (priority_of priority) application hint plain
 
--- a line, by what it says
+-- a line, given what it says
 words_stay : (history : History) (line : List ℕ) (words : ContextLine) → history.is_after_hint ≡ false → is_plain_line history words ≡ true → Stays history line (line_by history line words)
 words_stay history line (Exten name priority application) hint plain = known_stays history line false (extension_of name) priority application hint plain
 words_stay history line (Same priority application) hint plain = known_stays history line true history.extension priority application hint plain
@@ -128,7 +128,7 @@ line_stays history line hint plain = words_stay history line (context_line (cont
 
 -- ---- all lines
 
--- a line as it stands, at its place
+-- a line unchanged, at its place
 abbrev standing_at : ℕ × List ℕ → ℕ × Made
 standing_at line = (line.0, standing line.1)
 
@@ -150,12 +150,12 @@ none_remarked : (lines : List (ℕ × List ℕ)) → flat_map remark_on (map sta
 none_remarked [] = refl
 none_remarked (line ∷ lines) = none_remarked lines
 
--- plain lines are made as they stand
+-- plain lines are unchanged
 pub plain_lines : (lines : List (ℕ × List ℕ)) → are_plain [] lines ≡ true → context_lines lines ≡ map as_it_stands lines
 unfolding context_lines
 plain_lines lines plain = ap (flat_map made_line) (made_stay [] lines refl plain) ∙ lines_stand lines
 
--- with no remark
+-- without remarks
 pub plain_remarks : (lines : List (ℕ × List ℕ)) → are_plain [] lines ≡ true → context_remarks lines ≡ []
 unfolding context_remarks
 plain_remarks lines plain = ap (flat_map remark_on) (made_stay [] lines refl plain) ∙ none_remarked lines

@@ -27,7 +27,7 @@ fold_name f read at names name within is =
 pub fold_over : (f : ReadSoFar → List ℕ → ReadSoFar) (read : ReadSoFar) (at : ℕ) (names : List (List ℕ)) → length names ≤ at → fold f read (drop at names) ≡ read
 fold_over f read at names over = at_drop_all (λ (left : List (List ℕ)). fold f read left) names at over
 
--- of some names each is gone after
+-- each of some names is read after another
 pub after_names_some : (include : RequestOf → ReadSoFar → ReadSoFar) (files : Files) (request : RequestOf) (names : List (List ℕ)) (read : ReadSoFar)
     → 0 < length names → fold (after_name include files request) read names ≡ after_names include files request names read
 after_names_some include files request [] read some = absurd (omega (arith, some))

@@ -1,4 +1,4 @@
--- A pattern beside a name: what the last `*` has to try, and what that is worth.
+-- A pattern along a name: what the last `*` still has to try, and what depends on it.
 use Rattle.std.proofs.Common.{◌≡◌, ℕ, ◌+◌, ◌-◌, ◌*◌, ◌<◌, ◌≤◌, Bool, true, false, cond, eqb, ◌||◌, ◌&&◌, List, [], ◌∷◌, Option, Some, None, drop, length, refl, ap, sym, subst, ◌∙◌, arith}
 use Rattle.std.specs.List.{list_any}
 use Rattle.std.proofs.Math.Bool.{or-false}
@@ -8,41 +8,41 @@ use Rattle.dp_conf.specs.Cut.{begins_with, before_last}
 use Rattle.dp_files.specs.Wildcards.{ends_of, matches}
 use Rattle.dp_files.specs.steps.Wildcards.{first_fits, next_star}
 
--- the ends of a text that are shorter than it
+-- the suffixes of a text that are shorter than it
 abbrev pub shorter_ends : List ℕ → List (List ℕ)
 shorter_ends [] = []
 shorter_ends (b ∷ bs) = ends_of bs
 
--- whether a pattern stands for a shorter end of a name
+-- whether a pattern matches a shorter suffix of a name
 abbrev pub matches_later : List ℕ → List ℕ → Bool
 matches_later pattern name = list_any (matches pattern) (shorter_ends name)
 
--- whether what is left to try of a `*` stands for the rest of the name
+-- whether what is left to try of a `*` matches the rest of the name
 abbrev pub star_matches : Option (List ℕ × List ℕ) → Bool
 star_matches None = false
 star_matches (Some star) = matches_later star.0 star.1
 
--- what is left to try is of no use unless a shorter end of the name does
+-- what is left to try matches only if a shorter suffix of the name does
 abbrev pub IsCovered : Option (List ℕ × List ℕ) → List ℕ → List ℕ → Type 0
 IsCovered star pattern name = star_matches star ≡ true → matches_later pattern name ≡ true
 
--- how much is left to do
+-- the amount of work left
 abbrev pub work : ℕ → ℕ → List ℕ → Option (List ℕ × List ℕ) → ℕ
 work patterns names pattern None = (patterns + 1 + names) * (patterns + 1) + length pattern
 work patterns names pattern (Some star) = (length star.0 + length star.1) * (patterns + 1) + length pattern
 
--- how far the search has come, by how long the pattern and the name are
+-- the progress of the search, given the lengths of the pattern and the name
 abbrev pub IsWithin : ℕ → ℕ → Option (List ℕ × List ℕ) → List ℕ → List ℕ → Type 0
 IsWithin patterns names None pattern name = (length pattern ≤ patterns) × (length name ≤ names)
 IsWithin patterns names (Some star) pattern name = (length pattern ≤ length star.0) × (length name ≤ length star.1) × (length star.0 ≤ patterns)
 
--- what is left to do decides
+-- the result depends on what is left to try
 pub record IsUnderway (patterns names : ℕ) (whole : Bool) (star : Option (List ℕ × List ℕ)) (pattern name : List ℕ) : Type 0 where
   pub decides : (matches pattern name || star_matches star) ≡ whole
   pub covered : IsCovered star pattern name
   pub within : IsWithin patterns names star pattern name
 
--- nothing was tried yet
+-- nothing has been tried yet
 pub underway_first : (pattern name : List ℕ) → IsUnderway (length pattern) (length name) (matches pattern name) None pattern name
 underway_first pattern name = record { decides = or-false (matches pattern name); covered = λ e. absurd cc; within = (omega arith, omega arith) }
 
@@ -60,17 +60,17 @@ or-covered true s f = refl
 or-covered false true f = sym (f refl)
 or-covered false false f = refl
 
--- a text is one of its ends
+-- a text is one of its suffixes
 matches-ends : (pattern name : List ℕ) → matches pattern name ≡ true → list_any (matches pattern) (ends_of name) ≡ true
 matches-ends pattern [] e = or-left (matches pattern []) false e
 matches-ends pattern (b ∷ bs) e = or-left (matches pattern (b ∷ bs)) (list_any (matches pattern) (ends_of bs)) e
 
--- the ends of a text are the text and its shorter ends
+-- the suffixes of a text are the text and its shorter suffixes
 ends-first : (pattern name : List ℕ) → list_any (matches pattern) (ends_of name) ≡ (matches pattern name || matches_later pattern name)
 ends-first pattern [] = refl
 ends-first pattern (b ∷ bs) = refl
 
--- a second `*` takes what the first would leave
+-- a second `*` matches what the first would leave
 matches-star : (pattern name : List ℕ) → list_any (matches (42 ∷ pattern)) (ends_of name) ≡ true → list_any (matches pattern) (ends_of name) ≡ true
 matches-star pattern [] e = e
 matches-star pattern (b ∷ bs) e = by (matches-star pattern bs) (matches pattern (b ∷ bs) || list_any (matches pattern) (ends_of bs)) refl e
@@ -83,7 +83,7 @@ matches-star pattern (b ∷ bs) e = by (matches-star pattern bs) (matches patter
 later-ends : (pattern name : List ℕ) → matches_later pattern name ≡ true → list_any (matches pattern) (ends_of name) ≡ true
 later-ends pattern name e = ends-first pattern name ∙ or-right (matches pattern name) (matches_later pattern name) e
 
--- a pattern that stands for an end stands for one byte less by its own rest
+-- if a pattern matches a suffix of a name, its rest matches a shorter suffix
 matches_later-byte : (p : ℕ) (pattern name : List ℕ) → eqb p 42 ≡ false → list_any (matches (p ∷ pattern)) (ends_of name) ≡ true → matches_later pattern name ≡ true
 matches_later-byte p pattern [] plain e = absurd (true≢false (sym e ∙ ap (λ t. (t && matches pattern []) || false) plain))
 matches_later-byte p pattern (b ∷ bs) plain e = by (matches_later-byte p pattern bs plain) (matches (p ∷ pattern) (b ∷ bs)) refl e
@@ -143,7 +143,7 @@ underway_byte patterns names whole star (p ∷ pattern) (b ∷ name) plain fits 
   within = within-byte patterns names star p b pattern name u.within;
 }
 
--- where no byte fits
+-- if no byte fits
 matches-differs : (pattern name : List ℕ) → begins_with 42 pattern ≡ false → first_fits pattern name ≡ false → 0 < length pattern + length name → matches pattern name ≡ false
 matches-differs [] [] plain fits some = absurd (omega (arith, some))
 matches-differs [] (b ∷ name) plain fits some = refl
@@ -172,7 +172,7 @@ underway_differs patterns names whole (Some (after, [])) pattern name plain fits
     ap (λ t. t || false) (sym (matches-differs pattern name plain fits some)) ∙ u.decides
 underway_differs patterns names whole (Some (after, b ∷ bs)) pattern name plain fits some e u = absurd cc
 
--- both are at their ends
+-- both have ended
 pub underway_over : (patterns names : ℕ) (whole : Bool) (star : Option (List ℕ × List ℕ)) (pattern name : List ℕ) → length pattern ≡ 0 → length name ≡ 0 → IsUnderway patterns names whole star pattern name → true ≡ whole
 underway_over patterns names whole star [] [] p n u = u.decides
 underway_over patterns names whole star (p ∷ pattern) name e n u = absurd (omega (arith, e))
@@ -183,7 +183,7 @@ less_work a b k l m below small =
     let e : b ≡ a + 1 + (b - (a + 1)) = omega (arith, below) in
     rw e (omega (arith, small))
 
--- each turn leaves less to do
+-- each turn leaves less work
 pub work_star : (patterns names : ℕ) (whole : Bool) (star : Option (List ℕ × List ℕ)) (pattern name : List ℕ) → begins_with 42 pattern ≡ true
     → IsUnderway patterns names whole star pattern name → work patterns names (drop 1 pattern) (Some (drop 1 pattern, name)) < work patterns names pattern star
 work_star patterns names whole star [] name starts u = absurd cc

@@ -1,15 +1,15 @@
--- What block comments leave of the lines of a file.
+-- The parts of a file's lines outside block comments.
 use Rattle.std.specs.Prelude.{ℕ, zero, suc, ◌+◌, Bool, not, ◌&&◌, ◌==◌, nat_eq, List, [], ◌∷◌, drop, Option, None, Some, codes, if◌then◌else◌}
 use Rattle.std.specs.List.{starts_with}
 use Rattle.std.specs.Str.{byte}
 use Rattle.dp_conf.specs.Lines.{without_mark, parts_of, line_feed, opens_block}
 
--- what is left of a line, and the lines of the openings of the block comments that are open after it, the innermost first
+-- the rest of a line, and the lines of the openings of the block comments that are open after it, the innermost first
 pub record Uncovered : Type 0 where
   pub text : List ℕ
   pub unclosed : List ℕ
 
--- a byte that is left, before the rest of its line
+-- a byte that is kept, before the rest of its line
 abbrev pub with_byte : ℕ → Uncovered → Uncovered
 with_byte byte rest = record { text = byte ∷ rest.text; unclosed = rest.unclosed }
 
@@ -17,8 +17,8 @@ with_byte byte rest = record { text = byte ∷ rest.text; unclosed = rest.unclos
 abbrev pub closes_block : List ℕ → Bool
 closes_block text = starts_with nat_eq text (codes "--;") && not (opens_block (drop 2 text))
 
--- what is left of the line of this number from a place on, by how many bytes there still belong to a mark that was read, by the openings
--- of the block comments that are open there, and by the byte before
+-- the rest of the line with this number from a place on, given the number of bytes there that still belong to a mark that was read, the
+-- openings of the block comments that are open there, and the byte before
 abbrev pub uncovered_from : ℕ → ℕ → List ℕ → ℕ → List ℕ → Uncovered
 uncovered_from line mark unclosed previous [] = record { text = []; unclosed = unclosed }
 uncovered_from line (suc mark) unclosed previous (b ∷ bs) = uncovered_from line mark unclosed line_feed bs
@@ -31,11 +31,11 @@ uncovered_from line zero (inner ∷ outer) previous (b ∷ bs) =
     else if closes_block (b ∷ bs) then uncovered_from line 2 outer line_feed bs
     else uncovered_from line 0 (inner ∷ outer) line_feed bs
 
--- what is left of the line of this number
+-- the rest of the line with this number
 unfoldable pub uncovered : ℕ → List ℕ → List ℕ → Uncovered
 uncovered line unclosed part = uncovered_from line 0 unclosed line_feed part
 
--- the lines of a file without what block comments cover, and the line of the innermost opening of those that are open at its end
+-- the lines of a file without block comments, and the line of the innermost opening of those that are open at its end
 pub record FileLines : Type 0 where
   pub texts : List (List ℕ)
   pub open_comment : Option ℕ
@@ -49,7 +49,7 @@ abbrev pub innermost : List ℕ → Option ℕ
 innermost [] = None
 innermost (inner ∷ outer) = Some inner
 
--- the lines that are made of these parts, which stand after so many others
+-- the lines made from these parts, which come after this many others
 abbrev pub lines_after : ℕ → List ℕ → List (List ℕ) → FileLines
 lines_after count unclosed [] = record { texts = []; open_comment = innermost unclosed }
 lines_after count unclosed (part ∷ parts) =

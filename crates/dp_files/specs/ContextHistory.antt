@@ -1,4 +1,4 @@
--- What a line of a context is read with: what the lines before it in the section say.
+-- The history with which a line of a context is read: what the lines before it in the section say.
 use Rattle.std.specs.Prelude.{ℕ, Bool, true, false, ◌&&◌, ◌==◌, List, [], ◌∷◌, Option, Some, None, Result, Ok, Err, if◌then◌else◌}
 use Rattle.std.specs.List.{list_any}
 use Rattle.std.specs.Option.{option_or, unwrap_or}
@@ -11,20 +11,20 @@ use Rattle.dp_files.specs.declared.extension.Extension.{Extension}
 
 -- ---- extensions
 
--- a caller's number stands behind the name
+-- there is a caller's number after the name
 abbrev pub has_caller : List ℕ → Bool
 has_caller name = list_any (λ b. b == byte "/") name
 
--- a name that was read has the canonical spelling of its meaning: names of one meaning are one extension
+-- a name that was read has the canonical spelling of its meaning: names with one meaning are one extension
 abbrev pub spelled : List ℕ → Result Meaning NameFault → Option Extension
 spelled name (Err fault) = None
 spelled name (Ok meaning) = Some (record { name = name; spelling = spelling meaning })
 
--- the extension of a name, where it is one; one with a caller's number is told from others by its text alone
+-- the extension of a name, if it is valid; one with a caller's number is distinguished from others only by its text
 unfoldable pub extension_of : List ℕ → Option Extension
 extension_of name = if has_caller name then Some (record { name = name; spelling = name }) else spelled name (meaning_of name)
 
--- ---- what a line says to those behind it
+-- ---- what a line says to those after it
 
 -- nothing; its extension; its extension, and that it is a hint; or its extension, its number and the label that it keeps
 pub data Said : Type 0 where
@@ -47,20 +47,20 @@ extension_in (Names extension) = Some extension
 extension_in (Hints extension) = Some extension
 extension_in (Counts extension number label) = Some extension
 
--- a hint, and a line with a number, which is none
+-- whether it is a hint, or a line with a number, which is not
 abbrev pub hint_in : Said → Option Bool
 hint_in Nothing = None
 hint_in (Names extension) = None
 hint_in (Hints extension) = Some true
 hint_in (Counts extension number label) = Some false
 
--- the number of the label, where the line has the label and its extension has the spelling
+-- the number of the label, if the line has the label and its extension has the spelling
 abbrev pub number_with : List ℕ → List ℕ → Extension → ℕ → Option (List ℕ) → Option ℕ
 number_with name label extension number None = None
 number_with name label extension number (Some own) =
     if same_text name extension.spelling && same_text label own then Some number else None
 
--- the same of all lines
+-- the same for any line
 abbrev pub label_in : List ℕ → List ℕ → Said → Option ℕ
 label_in name label Nothing = None
 label_in name label (Names extension) = None
@@ -69,8 +69,8 @@ label_in name label (Counts extension number own) = number_with name label exten
 
 -- ---- the history
 
--- the last number, the last extension, whether a hint stands behind the last number, and the number of a label of an extension,
--- which is given by the spelling of its name
+-- the last number, the last extension, whether a hint comes after the last number, and the number of a label of an extension, which is
+-- identified by the spelling of its name
 pub record History : Type 0 where
   pub number : Option ℕ
   pub extension : Option Extension

@@ -1,7 +1,7 @@
--- The lines that are made of the lines of a context, and what is remarked of them.
+-- The lines made from the lines of a context, and the remarks on them.
 --
--- Priorities become numbers, and what no call depends on, or what this program cannot follow, is left out. What the loader refuses
--- stands as it is, so that the loader tells the fault, and it says nothing to the lines behind it.
+-- Priorities become numbers, and what does not affect calls, or what this program cannot follow, is left out. A line that the loader
+-- refuses is unchanged, so that the loader reports the fault, and it says nothing to the lines after it.
 use Rattle.std.specs.Prelude.{ℕ, ◌+◌, Bool, true, false, not, ◌&&◌, List, [], ◌∷◌, ◌++◌, Option, Some, None, codes, decimal, slice_get, if◌then◌else◌}
 use Rattle.std.specs.List.{flat_map}
 use Rattle.std.specs.Option.{option_map, option_and_then, option_to_list, unwrap_or, is_some}
@@ -22,7 +22,7 @@ use Rattle.dp_files.specs.declared.line_reading.Made.{Made}
 use Rattle.dp_files.specs.declared.outcome.Outcome.{Outcome}
 use Rattle.dp_files.specs.declared.outcome.Outcome.TheVariants.{Refused, Hinted, AfterTheHint, Numbered}
 
--- what a line says to those behind it, and what is made of it
+-- what a line says to those after it, and the result of it
 pub record Reading : Type 0 where
   pub said : Said
   pub made : Made
@@ -34,7 +34,7 @@ pub record Entry : Type 0 where
   pub priority : Option Priority
   pub application : List ℕ
 
--- the line stands as it is
+-- the line is unchanged
 abbrev pub stands : List ℕ → Reading
 stands line = record { said = Nothing; made = record { text = Some line; remark = None } }
 
@@ -44,11 +44,11 @@ left_out said remark = record { said = said; made = record { text = None; remark
 
 -- ---- priorities
 
--- a number with what is added to it, unless the sum is too great
+-- a number with the added number, unless the sum is too great
 abbrev pub sum_of : Option ℕ → Option ℕ → Option ℕ
 sum_of base more = option_and_then (λ number. within_limit (number + unwrap_or more 0)) base
 
--- the number that is counted from, for an extension whose name is spelled so
+-- the number of the base, for an extension with this spelling
 abbrev pub base_number : History → List ℕ → Base → Option ℕ
 base_number history name (Number number) = Some number
 base_number history name Next = sum_of history.number (Some 1)
@@ -62,29 +62,29 @@ is_next Next = true
 is_next same_base = false
 is_next (Label label) = false
 
--- a number, where there is one
+-- the outcome of a number, if there is one
 abbrev pub numbered : Option ℕ → Outcome
 numbered None = Refused
 numbered (Some number) = Numbered number
 
--- of a priority without its label; behind a hint Asterisk has no number for `n`
+-- the outcome of a priority without its label; after a hint Asterisk has no number for `n`
 abbrev pub written_outcome : History → List ℕ → Written → Outcome
 written_outcome history name Hint = Hinted
 written_outcome history name (Counted base more) =
     if is_next base && history.is_after_hint then AfterTheHint else numbered (sum_of (base_number history name base) more)
 
--- of a priority of the extension whose name is spelled so
+-- the outcome of a priority of the extension with this spelling
 abbrev pub outcome_of : History → List ℕ → Option Priority → Outcome
 outcome_of history name None = Refused
 outcome_of history name (Some priority) = written_outcome history name priority.written
 
 -- ---- labels
 
--- the label of a priority, where it has one
+-- the label of a priority, if it has one
 abbrev pub label_of : Option Priority → Option (List ℕ)
 label_of priority = option_and_then (λ p. p.label) priority
 
--- the label, unless a line before has given it to the extension
+-- the label, unless an earlier line of the extension has it
 abbrev pub kept_label : History → List ℕ → Option (List ℕ) → Option (List ℕ)
 kept_label history name label = option_and_then (λ l. if is_some (history.label name l) then None else Some l) label
 
@@ -105,13 +105,13 @@ is_number Next = false
 is_number same_base = false
 is_number (Label label) = false
 
--- a number to which nothing is added
+-- a number without an added number
 abbrev pub is_alone : Written → Bool
 is_alone Hint = false
 is_alone (Counted base None) = is_number base
 is_alone (Counted base (Some more)) = false
 
--- a priority that is a number of its own
+-- a priority that is a plain number
 abbrev pub is_number_alone : Option Priority → Bool
 is_number_alone None = false
 is_number_alone (Some priority) = is_alone priority.written
@@ -121,7 +121,7 @@ abbrev pub label_text : Option (List ℕ) → List ℕ
 label_text None = []
 label_text (Some label) = codes "(" ++ label ++ codes ")"
 
--- the key, the sign and the name, where the line has one
+-- the key, the sign and the name, if the line has one
 abbrev pub entry_front : Bool → List ℕ → List ℕ
 entry_front is_same name = if is_same then codes "same => " else codes "exten => " ++ name ++ codes ","
 
@@ -130,8 +130,8 @@ abbrev pub entry_content : Bool → List ℕ → ℕ → Option (List ℕ) → L
 entry_content is_same name number label application =
     entry_front is_same name ++ decimal number ++ label_text label ++ codes "," ++ application
 
--- the line needs no change: its number stands there, its label is kept, and it is no `same` line whose extension stands only in lines
--- that are left out, as it does behind a hint
+-- the line needs no change: its number is written there, its label is kept, and it is not a `same` line whose extension is only in lines
+-- that are left out, as it is after a hint
 abbrev pub needs_no_change : Bool → Entry → Bool → Bool
 needs_no_change after_hint entry double = is_number_alone entry.priority && not double && not (entry.is_same && after_hint)
 
@@ -154,21 +154,21 @@ numbered_reading after_hint line entry number kept =
     if is_old_form entry.application then left_out Nothing (fault_kind OldForm)
     else record { said = Counts entry.extension number kept; made = entry_made after_hint line entry number kept }
 
--- an entry of an extension without a caller's number
+-- an entry whose extension has no caller's number
 abbrev pub plain_reading : Bool → List ℕ → Entry → Option (List ℕ) → Outcome → Reading
 plain_reading after_hint line entry kept Refused = stands line
 plain_reading after_hint line entry kept Hinted = left_out (Hints entry.extension) (note_kind hint_note)
 plain_reading after_hint line entry kept AfterTheHint = left_out (Names entry.extension) (note_kind AfterHint)
 plain_reading after_hint line entry kept (Numbered number) = numbered_reading after_hint line entry number kept
 
--- what an entry that is left out for its caller's number says: what it would say if it stood
+-- what an entry says if it is left out because of its caller's number: the same as if it were kept
 abbrev pub caller_said : Extension → Option (List ℕ) → Outcome → Said
 caller_said extension kept Refused = Names extension
 caller_said extension kept Hinted = Hints extension
 caller_said extension kept AfterTheHint = Names extension
 caller_said extension kept (Numbered number) = Counts extension number kept
 
--- an entry, by its label that is kept and what becomes of its priority
+-- an entry, given the label that it keeps and the outcome of its priority
 abbrev pub reading_by : Bool → List ℕ → Entry → Option (List ℕ) → Outcome → Reading
 reading_by after_hint line entry kept outcome =
     if has_caller entry.extension.name then left_out (caller_said entry.extension kept outcome) (note_kind CallerId)
@@ -182,27 +182,27 @@ entry_reading history line entry =
 
 -- ---- the line
 
--- an entry of an extension, where there is one
+-- an entry of an extension, if it is valid
 abbrev pub reading_of : History → List ℕ → Bool → Option Extension → List ℕ → List ℕ → Reading
 reading_of history line is_same None priority application = stands line
 reading_of history line is_same (Some extension) priority application =
     entry_reading history line
     (record { is_same = is_same; extension = extension; priority = priority_of priority; application = application })
 
--- a line, by what it says
+-- a line, given what it says
 abbrev pub line_by : History → List ℕ → ContextLine → Reading
 line_by history line (Exten name priority application) = reading_of history line false (extension_of name) priority application
 line_by history line (Same priority application) = reading_of history line true history.extension priority application
 line_by history line (LeftOut note) = left_out Nothing (note_kind note)
 line_by history line Other = stands line
 
--- a line, by what the lines before it say
+-- a line, given what the lines before it say
 unfoldable pub line_reading : History → List ℕ → Reading
 line_reading history line = line_by history line (context_line (content_of line))
 
 -- ---- the section
 
--- a line at its place, where there is one
+-- a line at its place, if there is one
 abbrev pub line_at : ℕ → Option SourceLine → List (ℕ × List ℕ)
 line_at place None = []
 line_at place (Some line) = (place, line.text) ∷ []
@@ -212,22 +212,22 @@ abbrev pub section_lines : List SourceLine → List ℕ → List (ℕ × List �
 section_lines lines [] = []
 section_lines lines (place ∷ places) = line_at place (slice_get lines place) ++ section_lines lines places
 
--- what is made of each line, by the lines before it, of which the nearest comes first
+-- the result of each line, given the lines before it, of which the nearest comes first
 abbrev pub all_made : List Said → List (ℕ × List ℕ) → List (ℕ × Made)
 all_made before [] = []
 all_made before (line ∷ lines) =
     (line.0, (line_reading (history_of before) line.1).made)
     ∷ all_made ((line_reading (history_of before) line.1).said ∷ before) lines
 
--- the line that is made, where it is not left out
+-- the resulting line, if it is not left out
 abbrev pub made_line : ℕ × Made → List MadeLine
 made_line made = option_to_list (option_map (λ text. record { source = made.0; text = text }) made.1.text)
 
--- the remark, where there is one
+-- the remark, if there is one
 abbrev pub remark_on : ℕ × Made → List Remark
 remark_on made = option_to_list (option_map (λ kind. record { source = made.0; kind = kind }) made.1.remark)
 
--- the lines that are made of the lines of a section, in order
+-- the lines made from the lines of a section, in order
 unfoldable pub context_lines : List (ℕ × List ℕ) → List MadeLine
 context_lines lines = flat_map made_line (all_made [] lines)
 

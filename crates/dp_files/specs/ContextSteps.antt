@@ -1,5 +1,5 @@
--- Steps of the code: what the lines so far leave for the next one, kept so that it is found at once. What all of them say, the
--- nearest first, is `history_of` of ContextHistory.
+-- Steps of the code: what the lines so far leave for the next one, kept so that it is found at once. What all of them say, the nearest
+-- first, is `history_of` of ContextHistory.
 use Rattle.std.specs.Prelude.{ℕ, Bool, ◌&&◌, List, [], ◌∷◌, Option, Some, None}
 use Rattle.std.specs.Map.{lookup}
 use Rattle.std.specs.Option.{option_map, option_or, unwrap_or}
@@ -38,7 +38,7 @@ same_label a b = same_text a.spelling b.spelling && same_text a.label b.label
 abbrev pub label_key : List ℕ → List ℕ → ExtensionLabel
 label_key spelling label = record { spelling = spelling; label = label }
 
--- the labels with one more, where there is one
+-- the labels with one more, if there is one
 abbrev pub with_label : List (ExtensionLabel × ℕ) → List ℕ → ℕ → Option (List ℕ) → List (ExtensionLabel × ℕ)
 with_label labels spelling number None = labels
 with_label labels spelling number (Some label) = insert_entry same_label labels (label_key spelling label) number
@@ -49,7 +49,7 @@ number_of_label labels spelling label = lookup (same_label (label_key spelling l
 
 -- ---- the history
 
--- what is kept, as the history that it stands for
+-- the history that the kept values represent
 abbrev pub history_in : History → said.History
 history_in history = record {
   number = history.number;
@@ -89,12 +89,12 @@ entry_now entry = record {
 abbrev pub reading_now : Extension → Reading → lines.Reading
 reading_now extension reading = record { said = said_by extension reading.leaves; made = reading.made }
 
--- the reading of the line of an entry by its texts, whose extension may be none
+-- the reading of the line of an entry, given as its texts, whose extension may not be valid
 abbrev pub source_reading : said.History → Option Extension → EntrySource → lines.Reading
 source_reading history extension source =
     lines.reading_of history source.line.now source.is_same extension source.text.priority.now source.text.application.now
 
--- what is made of each line, by the history that stands before the first
+-- the result of each line, given the history before the first
 abbrev pub all_made_after : said.History → List (ℕ × List ℕ) → List (ℕ × Made)
 all_made_after history [] = []
 all_made_after history (line ∷ rest) =

@@ -1,4 +1,4 @@
--- A dialplan's text, made of a file and of those that it includes.
+-- The text of a dialplan, made from a file and the files that it includes.
 use Rattle.std.specs.Prelude.{ℕ, List, ◌++◌, Result, Ok}
 use Rattle.dp_conf.specs.Answers.{◌>>=◌}
 use Rattle.dp_files.specs.DialplanText.{dialplan_lines, dialplan_remarks}
@@ -12,14 +12,15 @@ use Rattle.dp_files.specs.declared.source_line.MadeLine.{MadeLine}
 use Rattle.dp_files.specs.declared.source_line.SourceFile.{SourceFile}
 use Rattle.dp_files.specs.declared.source_line.SourceLine.{SourceLine}
 
--- the files that were opened, their lines, the lines that are made of these, and what is told
+-- the files that were opened, their lines, the lines made from these, and the remarks
 pub record DialplanOf : Type 0 where
   pub files : List SourceFile
   pub lines : List SourceLine
   pub made : List MadeLine
   pub remarks : List Remark
 
--- by the sections of the lines: what is told when files are read comes first, then what is told of sections, then of their lines
+-- the dialplan, given the sections of the lines: the remarks from reading files come first, then those on sections, then those on their
+-- lines
 abbrev pub dialplan_by : FilesOf → SectionsSoFar → DialplanOf
 dialplan_by read found = record {
   files = read.files;
@@ -28,15 +29,15 @@ dialplan_by read found = record {
   remarks = read.remarks ++ (found.remarks ++ dialplan_remarks read.lines found.sections);
 }
 
--- of the files that were read
+-- the dialplan of the files that were read
 abbrev pub dialplan_in : FilesOf → DialplanOf
 dialplan_in read = dialplan_by read (sections_of read.files read.lines)
 
--- of the file of this name
+-- the dialplan of the file with this name
 abbrev pub dialplan_of : Files → List ℕ → Result DialplanOf ReadingFault
 dialplan_of files name = reading_of files name >>= λ read. Ok (dialplan_in read)
 
--- what a call gave
+-- the result of a call
 abbrev pub dialplan_now : DialplanFiles → DialplanOf
 dialplan_now read = record {
   files = read.files.items;

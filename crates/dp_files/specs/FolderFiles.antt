@@ -1,4 +1,4 @@
--- Files below the folder of a first file: their paths, what a system gives at these, and what is known once files were asked for.
+-- Files below the folder of a first file: their paths, what a system gives at these, and what is known after files were requested.
 use Rattle.std.specs.Prelude.{◌≡◌, ℕ, ◌<◌, ◌≤◌, ◌||◌, List, [], ◌∷◌, ◌++◌, map, filter, length, codes, Option, Some, None, MatchBool, IsPermutation, IsSorted, if◌then◌else◌}
 use Rattle.std.specs.Cmp.Lexicographic.{slice_cmp}
 use Rattle.std.specs.Map.{lookup}
@@ -14,22 +14,22 @@ use Rattle.dp_files.specs.declared.known_text.KnownText.TheVariants.{Bytes as by
 
 -- ---- paths
 
--- what stands in a folder, and without a folder the name itself
+-- a name in a folder, or the name itself without a folder
 abbrev pub beside : Option (List ℕ) → List ℕ → List ℕ
 beside None name = name
 beside (Some folder) name = folder ++ byte "/" ∷ name
 
--- the path of a name: the name of the first file is its path, and so is a name that begins with `/`; any other stands beside the first file
+-- the path of a name: the name of the first file is its path, and so is a name that begins with `/`; any other is next to the first file
 abbrev pub path_of : List ℕ → List ℕ → List ℕ
 path_of first name = if same_text name first || begins_with (byte "/") name then name else beside (folder_of first) name
 
--- the folder in which the file of a path stands, as a path
+-- the folder that contains the file with a path, as a path
 abbrev pub folder_at : List ℕ → List ℕ
 folder_at path = beside (folder_of path) (codes ".")
 
 -- ---- what a system gives
 
--- at a path that is no text no file is read
+-- at a path that is not a text no file is read
 abbrev pub MayBe : (List ℕ → Option (List ℕ) → Type 0) → List ℕ → Option (List ℕ) → Type 0
 MayBe may_be path text = MatchBool (is_utf8 path) (may_be path text) (text ≡ None)
 
@@ -37,13 +37,13 @@ MayBe may_be path text = MatchBool (is_utf8 path) (may_be path text) (text ≡ N
 abbrev pub MayList : (List ℕ → List (List ℕ) → Type 0) → List ℕ → List (List ℕ) → Type 0
 MayList may_list path names = MatchBool (is_utf8 path) (may_list path names) (names ≡ [])
 
--- what reading a whole file may give, by what the file may be
+-- the possible results of reading a whole file, given what the file may be
 abbrev pub MayRead : (Option (List ℕ) → Type 0) → TextRead → Type 0
 MayRead may (Bytes bytes) = (length bytes ≤ most_bytes) × may (Some bytes)
 MayRead may Absent = may None
 MayRead may TooLong = (bytes : List ℕ) × (most_bytes < length bytes) × may (Some bytes)
 
--- the names that one with `*` and `?` stands for, among what is in its folder
+-- the names in its folder that match one with `*` and `?`
 abbrev pub names_among : List ℕ → List (List ℕ) → List (List ℕ)
 names_among pattern found = filter (stands_for pattern) (map (beside (folder_of pattern)) found)
 
@@ -52,7 +52,7 @@ pub record IsListing (pattern : List ℕ) (found names : List (List ℕ)) : Type
   pub same : IsPermutation (names_among pattern found) names
   pub order : IsSorted (slice_cmp nat_cmp) names
 
--- what may be told of names, by what a system may give at their paths
+-- what may be reported of names, given what a system may give at their paths
 abbrev pub MayTell : (List ℕ → Option (List ℕ) → Type 0) → (List ℕ → List (List ℕ) → Type 0) → List ℕ → Telling → Type 0
 MayTell may_be may_list first (TextOf name text) = MayBe may_be (path_of first name) text
 MayTell may_be may_list first (NamesOf pattern names) =
@@ -60,12 +60,12 @@ MayTell may_be may_list first (NamesOf pattern names) =
 
 -- ---- what is known
 
--- of each file that was asked for something is known, and of each name with `*` and `?` the names that it stands for
+-- something is known of each requested file, and for each name with `*` and `?` the names that match it
 pub record Known : Type 0 where
   pub texts : List (List ℕ × KnownText)
   pub lists : List (List ℕ × List (List ℕ))
 
--- before any file was asked for
+-- before any file was requested
 abbrev pub nothing_known : Known
 nothing_known = record { texts = []; lists = [] }
 
@@ -73,11 +73,11 @@ nothing_known = record { texts = []; lists = [] }
 abbrev pub text_known : Known → List ℕ → Option KnownText
 text_known known name = lookup (same_text name) known.texts
 
--- the names for which one with `*` and `?` is known to stand
+-- the names that are known to match one with `*` and `?`
 abbrev pub names_known : Known → List ℕ → Option (List (List ℕ))
 names_known known pattern = lookup (same_text pattern) known.lists
 
--- a file is as it is known
+-- a file agrees with what is known of it
 abbrev pub Fits : KnownText → Option (List ℕ) → Type 0
 Fits (bytes_known bytes) text = text ≡ Some bytes
 Fits absent_known text = text ≡ None
@@ -88,41 +88,41 @@ abbrev pub FitsKnown : Option KnownText → Option (List ℕ) → Type 0
 FitsKnown None text = Unit {0}
 FitsKnown (Some known) text = Fits known text
 
--- names are as they are known; those of which nothing is known may be any
+-- names agree with what is known of them; those of which nothing is known may be any
 abbrev pub AreKnown : Option (List (List ℕ)) → List (List ℕ) → Type 0
 AreKnown None names = Unit {0}
 AreKnown (Some known) names = names ≡ known
 
--- files that are as they are known
+-- files that agree with what is known
 pub record Agrees (known : Known) (has : Files) : Type 0 where
   pub texts : (name : List ℕ) → FitsKnown (text_known known name) (has.text name)
   pub names : (pattern : List ℕ) → AreKnown (names_known known pattern) (has.names pattern)
 
--- what is known of a file fits a text that may be told of it
+-- what is known of a file fits a text that may be reported for it
 abbrev pub MayFit : (Option (List ℕ) → Type 0) → KnownText → Type 0
 MayFit may known = (text : Option (List ℕ)) × Fits known text × may text
 
--- the same where something is known of the file
+-- the same, if something is known of the file
 abbrev pub MayFitKnown : (Option (List ℕ) → Type 0) → Option KnownText → Type 0
 MayFitKnown may None = Unit {0}
 MayFitKnown may (Some known) = MayFit may known
 
--- names that are known are names that may be told
+-- known names are names that may be reported
 abbrev pub MayBeKnown : (List (List ℕ) → Type 0) → Option (List (List ℕ)) → Type 0
 MayBeKnown may None = Unit {0}
 MayBeKnown may (Some names) = may names
 
--- all that is known is what may be told
+-- everything known is something that may be reported
 pub record MayKnow (may_tell : Telling → Type 0) (known : Known) : Type 0 where
   pub texts : (name : List ℕ) → MayFitKnown (λ text. may_tell (TextOf name text)) (text_known known name)
   pub names : (pattern : List ℕ) → MayBeKnown (λ names. may_tell (NamesOf pattern names)) (names_known known pattern)
 
--- what is known of a file once it was read
+-- what is known of a file after it was read
 abbrev pub known_of : TextRead → KnownText
 known_of (Bytes bytes) = bytes_known bytes
 known_of Absent = absent_known
 known_of TooLong = too_long_known
 
--- for some of what a system may tell: something holds of all files that are as they are known from it
+-- for something that a system may report, a property holds of all files that agree with it
 abbrev pub ReadsFolder : (Telling → Type 0) → (Files → Type 0) → Type 0
 ReadsFolder may_tell Holds = (known : Known) × MayKnow may_tell known × ((has : Files) → Agrees known has → Holds has)

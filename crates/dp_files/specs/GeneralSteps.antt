@@ -1,10 +1,10 @@
--- A step of the code: what is told of the lines of `[general]` that were read, with what is told of those behind them.
+-- A step of the code: the results of the lines of `[general]` that were read, with those of the remaining lines.
 use Rattle.std.specs.Prelude.{ℕ, List, ◌++◌}
 use Rattle.dp_files.specs.GeneralLines.{general_lines, general_remarks}
 use Rattle.dp_files.specs.declared.made_text.MadeText.{MadeText}
 use Rattle.dp_files.specs.declared.remark.Remark.{Remark}
 use Rattle.dp_files.specs.declared.source_line.MadeLine.{MadeLine}
 
--- what is told so far with what is told of the lines behind
+-- the results so far with those of the remaining lines
 abbrev pub told : MadeText → List (ℕ × List ℕ) → List MadeLine × List Remark
 told text rest = (text.lines.items ++ general_lines rest, text.remarks.items ++ general_remarks rest)

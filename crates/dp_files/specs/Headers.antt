@@ -1,4 +1,4 @@
--- Headers of sections, with the words in their parentheses.
+-- Headers of sections, and the words in their parentheses.
 use Rattle.std.specs.Prelude.{ℕ, Bool, not, ◌||◌, ◌==◌, List, [], ◌∷◌, ◌++◌, length, map, filter, Option, Some, None, is_some, Result, Ok, Err, codes, if◌then◌else◌}
 use Rattle.std.specs.Option.{option_map, option_map_or}
 use Rattle.std.specs.List.{list_any, slice_split}
@@ -12,7 +12,7 @@ use Rattle.dp_conf.specs.declared.fault.LineKind.{LineKind}
 use Rattle.dp_conf.specs.declared.fault.LineKind.TheVariants.{BadHeader, Template}
 use Rattle.dp_files.specs.declared.header.SectionHeader.{SectionHeader}
 
--- the name of a header, and what stands in its parentheses, where it has some
+-- the name of a header, and the text in its parentheses, if it has any
 pub record HeaderOf : Type 0 where
   pub name : List ℕ
   pub options : Option (List ℕ)
@@ -21,29 +21,29 @@ pub record HeaderOf : Type 0 where
 abbrev pub header_now : SectionHeader → HeaderOf
 header_now header = record { name = header.name.now; options = option_map (λ options. options.now) header.options }
 
--- a header with parentheses, by what the `)` cut: nothing but blanks may stand after it
+-- a header with parentheses, given the text cut at the `)`: only blanks may come after it
 abbrev pub with_options : List ℕ → Option (List ℕ × List ℕ) → Result HeaderOf LineKind
 with_options name None = Err Template
 with_options name (Some cut) =
     if length (trim_start cut.1) == 0 then Ok (record { name = name; options = Some cut.0 }) else Err Template
 
--- a header by its trimmed name and by what stands after its `]`, from the first byte that is no blank
+-- a header, given its trimmed name and the text after its `]`, from the first byte that is not a blank
 abbrev pub header_by : List ℕ → List ℕ → Result HeaderOf LineKind
 header_by [] after = Err BadHeader
 header_by (n ∷ name) [] = Ok (record { name = n ∷ name; options = None })
 header_by (n ∷ name) (b ∷ after) =
     if b == byte "(" then with_options (n ∷ name) (cut_once (byte ")") after) else Err BadHeader
 
--- a header, by what the `]` cut of what stands after its `[`
+-- a header, given the text after its `[`, cut at the `]`
 abbrev pub header_cut : Option (List ℕ × List ℕ) → Result HeaderOf LineKind
 header_cut None = Err BadHeader
 header_cut (Some cut) = header_by (trim cut.0) (trim_start cut.1)
 
--- a header, by what stands after its `[`, or what is wrong with it
+-- a header, given the text after its `[`, or what is wrong with it
 abbrev pub header_of : List ℕ → Result HeaderOf LineKind
 header_of inside = header_cut (cut_once (byte "]") inside)
 
--- what parts the words in the parentheses
+-- the byte that separates the words in the parentheses
 abbrev pub is_comma : ℕ → Bool
 is_comma b = b == byte ","
 
@@ -55,7 +55,7 @@ words_of options = map trim (slice_split is_comma options)
 abbrev pub is_template_mark : List ℕ → Bool
 is_template_mark word = same_text word (codes "!")
 
--- the word that goes on with a section
+-- the word that extends a section
 abbrev pub is_addition_mark : List ℕ → Bool
 is_addition_mark word = same_text word (codes "+")
 
@@ -63,7 +63,7 @@ is_addition_mark word = same_text word (codes "+")
 abbrev pub names_section : List ℕ → Bool
 names_section word = not (length word == 0 || (is_template_mark word || is_addition_mark word))
 
--- the words of a header, where it has parentheses
+-- the words of a header, if it has parentheses
 abbrev pub header_words : HeaderOf → List (List ℕ)
 header_words header = option_map_or words_of header.options []
 
@@ -71,11 +71,11 @@ header_words header = option_map_or words_of header.options []
 abbrev pub makes_template : HeaderOf → Bool
 makes_template header = list_any is_template_mark (header_words header)
 
--- the header goes on with the section of its name
+-- the header extends the section with its name
 abbrev pub is_addition : HeaderOf → Bool
 is_addition header = list_any is_addition_mark (header_words header)
 
--- the names of the sections whose lines stand before those of the header's section
+-- the names of the sections whose lines come before those of the header's section
 abbrev pub parents_of : HeaderOf → List (List ℕ)
 parents_of header = filter names_section (header_words header)
 
@@ -83,16 +83,16 @@ parents_of header = filter names_section (header_words header)
 abbrev pub plain_header : List ℕ → List ℕ
 plain_header name = byte "[" ∷ escape_text name ++ byte "]" ∷ []
 
--- the line that is made of a header's line: as it stands where the header has no parentheses, else `[NAME]`
+-- the line made from a header's line: unchanged if the header has no parentheses, else `[NAME]`
 abbrev pub made_by : List ℕ → Result HeaderOf LineKind → List ℕ
 made_by line (Err fault) = line
 made_by line (Ok header) = if is_some header.options then plain_header header.name else line
 
--- a header, by the content of its line, where that is a header's
+-- a header, given the content of its line, if that is a header
 abbrev pub header_in : List ℕ → Result HeaderOf LineKind
 header_in [] = Err BadHeader
 header_in (b ∷ bs) = if b == byte "[" then header_of bs else Err BadHeader
 
--- the line that is made of a line
+-- the line made from a line
 abbrev pub made_header : List ℕ → List ℕ
 made_header line = made_by line (header_in (content_of line))

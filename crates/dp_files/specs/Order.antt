@@ -12,25 +12,25 @@ use Rattle.dp_files.specs.declared.sections.SourceSection.{SourceSection}
 use Rattle.dp_files.specs.declared.source_line.SourceFile.{SourceFile}
 use Rattle.dp_files.specs.declared.source_line.SourceLine.{SourceLine}
 
--- a line of the first file that is no directive and whose header, where it is one, has no parentheses
+-- a line of the first file that is not a directive and is not a header with parentheses
 pub record IsPlain (line : SourceLine) : Type 0 where
   pub file : line.file ≡ 0
   pub directive : begins_with (byte "#") (content_of line.text) ≡ false
   pub header : IfOk (header_in (content_of line.text)) (λ header. header.options ≡ None)
 
--- the places of a section's lines, that of its header before the others
+-- the places of a section's lines, beginning with that of its header
 abbrev pub section_places : SourceSection → List ℕ
 section_places section = option_to_list section.header ++ section.lines
 
--- a remark tells of the line at a place
+-- there is a remark on the line at a place
 abbrev pub has_remark : List Remark → ℕ → Bool
 has_remark remarks place = list_any (λ remark. remark.source == place) remarks
 
--- the places of so many lines, without those of which a remark tells
+-- the places of this many lines, without those that have a remark
 abbrev pub without_remark : List Remark → ℕ → List ℕ
 without_remark remarks count = filter (λ place. not (has_remark remarks place)) (range_with_len 0 count)
 
--- the lines of the sections with their headers, one section after another, are all lines in order but those of which a remark tells
+-- the lines of the sections with their headers, one section after another, are all lines in order, except those with a remark
 abbrev pub KeepsOrder : List SourceFile → List SourceLine → Type 0
 KeepsOrder files lines =
     flat_map section_places (sections_of files lines).sections ≡ without_remark (sections_of files lines).remarks (length lines)

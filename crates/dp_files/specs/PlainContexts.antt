@@ -1,4 +1,4 @@
--- Lines that stand as they are.
+-- Lines that are unchanged.
 use Rattle.std.specs.Prelude.{◌≡◌, ℕ, Bool, true, false, not, ◌&&◌, List, [], ◌∷◌, map, Option, Some, None}
 use Rattle.dp_conf.specs.Lines.{content_of}
 use Rattle.dp_files.specs.ContextHistory.{Said, History, extension_of, has_caller, history_of}
@@ -8,17 +8,17 @@ use Rattle.dp_files.specs.Priorities.{Priority, priority_of}
 use Rattle.dp_files.specs.declared.extension.Extension.{Extension}
 use Rattle.dp_files.specs.declared.source_line.MadeLine.{MadeLine}
 
--- a priority that is a number of its own, or that is faulty in itself
+-- a priority that is a plain number, or that is malformed
 abbrev pub is_fixed : Option Priority → Bool
 is_fixed None = true
 is_fixed (Some priority) = is_alone priority.written
 
--- the label is none of an earlier line of the extension
+-- no earlier line of the extension has the label
 abbrev pub is_single : History → Extension → Option Priority → Bool
 is_single history extension priority =
     not (is_double (label_of priority) (kept_label history extension.spelling (label_of priority)))
 
--- an entry with a priority of digits, no caller's number, no application of the old form, and no label of an earlier line
+-- an entry with a priority of digits, without a caller's number, an application of the old form, or a label of an earlier line
 abbrev pub is_plain_entry : History → Option Extension → Option Priority → List ℕ → Bool
 is_plain_entry history None priority application = true
 is_plain_entry history (Some extension) priority application =
@@ -31,21 +31,21 @@ is_plain_line history (Same priority application) = is_plain_entry history histo
 is_plain_line history (LeftOut note) = false
 is_plain_line history Other = true
 
--- the line of such a text
+-- the line with such a text
 unfoldable pub is_plain : History → List ℕ → Bool
 is_plain history line = is_plain_line history (context_line (content_of line))
 
--- each line is such a line, by those before it
+-- each line is such a line, given those before it
 abbrev pub are_plain : List Said → List (ℕ × List ℕ) → Bool
 are_plain before [] = true
 are_plain before (line ∷ lines) =
     is_plain (history_of before) line.1 && are_plain ((line_reading (history_of before) line.1).said ∷ before) lines
 
--- a line as it stands
+-- a line unchanged
 abbrev pub as_it_stands : ℕ × List ℕ → MadeLine
 as_it_stands line = record { source = line.0; text = line.1 }
 
--- plain lines are made as they stand, byte for byte, and nothing is remarked on them
+-- plain lines are unchanged, byte for byte, and there are no remarks on them
 pub record PlainLinesStand : Type 0 where
   pub lines : (lines : List (ℕ × List ℕ)) → are_plain [] lines ≡ true → context_lines lines ≡ map as_it_stands lines
   pub remarks : (lines : List (ℕ × List ℕ)) → are_plain [] lines ≡ true → context_remarks lines ≡ []

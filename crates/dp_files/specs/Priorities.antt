@@ -1,4 +1,4 @@
--- How the priority of an `exten` or `same` line is written: `hint`, or what it is counted from, how much is added, and a label.
+-- The written form of the priority of an `exten` or `same` line: `hint`, or a base, an added number, and a label.
 use Rattle.std.specs.Prelude.{ℕ, Bool, ◌||◌, ◌==◌, nat_le, List, [], ◌∷◌, Option, Some, None, codes, if◌then◌else◌}
 use Rattle.std.specs.List.{list_any, list_all}
 use Rattle.std.specs.Option.{option_map, option_and_then}
@@ -8,28 +8,28 @@ use Rattle.dp_conf.specs.Cut.{cut_once}
 use Rattle.dp_conf.specs.Numbers.{is_digit, number_of, most_priority}
 use Rattle.dp_conf.specs.Words.{same_word}
 
--- what a priority is counted from: a number of its own, the priority after the last line's, the last line's, or that of a label
+-- the base of a priority: a plain number, the priority after that of the last line, that of the last line, or that of a label
 pub data Base : Type 0 where
   Number : ℕ → Base
   Next : Base
   Same : Base
   Label : List ℕ → Base
 
--- `hint`, or a base and what a `+` adds to it
+-- `hint`, or a base and the number after a `+`
 pub data Written : Type 0 where
   Hint : Written
   Counted : Base → Option ℕ → Written
 
--- a priority with the label behind it
+-- a priority with the label after it
 pub record Priority : Type 0 where
   pub written : Written
   pub label : Option (List ℕ)
 
--- a number that is no greater than the greatest priority
+-- a number that is at most the greatest priority
 abbrev pub within_limit : ℕ → Option ℕ
 within_limit number = if nat_le number most_priority then Some number else None
 
--- ---- what is counted
+-- ---- the counting
 
 -- `n` and `next`, `s` and `same`, in any case, and any other word as a label
 abbrev pub word_base : List ℕ → Base
@@ -38,7 +38,7 @@ word_base text =
     else if same_word text (codes "s") || same_word text (codes "same") then Same
     else Label text
 
--- a number of its own is a priority
+-- a plain number is a priority
 abbrev pub number_base : ℕ → Option Base
 number_base number = if number == 0 then None else option_map Number (within_limit number)
 
@@ -47,15 +47,15 @@ abbrev pub base_by : List ℕ → Option ℕ → Option Base
 base_by text None = Some (word_base text)
 base_by text (Some number) = number_base number
 
--- what the text counts from
+-- the base that the text writes
 abbrev pub base_of : List ℕ → Option Base
 base_of text = base_by text (number_of text)
 
--- what a `+` adds
+-- the number after a `+`
 abbrev pub added : List ℕ → Option ℕ
 added text = option_and_then within_limit (number_of text)
 
--- a base, or what the first `+` cuts: a base and what is added to it
+-- a base, or a text cut at the first `+`: a base and the added number
 abbrev pub counted : List ℕ → Option (List ℕ × List ℕ) → Option Written
 counted text None = option_map (λ base. Counted base None) (base_of text)
 counted text (Some cut) =
@@ -67,17 +67,17 @@ written_of text = if same_word text (codes "hint") then Some Hint else counted t
 
 -- ---- the label
 
--- the text without its last byte, where that is the byte
+-- the text without its last byte, if that is this byte
 abbrev pub without_last : ℕ → List ℕ → Option (List ℕ)
 without_last last [] = None
 without_last last (b ∷ []) = if b == last then Some [] else None
 without_last last (b ∷ c ∷ bs) = option_map (λ front. b ∷ front) (without_last last (c ∷ bs))
 
--- a parenthesis stands in the text
+-- the text contains a parenthesis
 abbrev pub has_parenthesis : List ℕ → Bool
 has_parenthesis text = list_any (λ b. b == byte "(" || b == byte ")") text
 
--- a text that is no label: an empty one, digits alone, or one with a parenthesis
+-- a text that is not a label: an empty one, only digits, or one with a parenthesis
 abbrev pub is_no_label : List ℕ → Bool
 is_no_label text = list_all is_digit text || has_parenthesis text
 
@@ -85,19 +85,19 @@ is_no_label text = list_all is_digit text || has_parenthesis text
 abbrev pub label_named : List ℕ → Option (List ℕ)
 label_named text = if is_no_label text then None else Some text
 
--- the label of what stands behind the first `(`
+-- the label, given the text after the first `(`
 unfoldable pub label_within : List ℕ → Option (List ℕ)
 label_within text = option_and_then (λ inside. label_named (trim inside)) (without_last (byte ")") text)
 
 -- ---- the priority
 
--- what the first `(` cuts: a priority, and its label
+-- a text cut at the first `(`: a priority, and its label
 abbrev pub priority_by : List ℕ → Option (List ℕ × List ℕ) → Option Priority
 priority_by text None = option_map (λ written. record { written = written; label = None }) (written_of text)
 priority_by text (Some cut) =
     option_and_then (λ written. option_map (λ label. record { written = written; label = Some label }) (label_within cut.1))
     (written_of (trim cut.0))
 
--- the priority that the text writes, or None where it is faulty in itself
+-- the priority that the text writes, or None if it is malformed
 unfoldable pub priority_of : List ℕ → Option Priority
 priority_of text = priority_by text (cut_once (byte "(") text)

@@ -1,4 +1,4 @@
--- A step of the code: a priority as it stands in its line, as its texts.
+-- A step of the code: a priority as written in its line, as its texts.
 use Rattle.std.specs.Option.{option_map}
 use Rattle.dp_files.specs.Priorities as spec
 use Rattle.dp_files.specs.declared.priority.Base.{Base}
@@ -14,11 +14,11 @@ base_now Next = spec.Next
 base_now Same = spec.Same
 base_now (Label text) = spec.Label text.now
 
--- what is counted
+-- a priority without its label
 abbrev pub written_now : Written → spec.Written
 written_now Hint = spec.Hint
 written_now (Counted base more) = spec.Counted (base_now base) more
 
--- with its label
+-- a priority with its label
 abbrev pub priority_now : Priority → spec.Priority
 priority_now priority = record { written = written_now priority.written; label = option_map (λ label. label.now) priority.label }

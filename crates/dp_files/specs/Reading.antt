@@ -1,4 +1,4 @@
--- The lines of files that include each other, and what is told of them.
+-- The lines of files that include each other, and the remarks on them.
 use Rattle.std.specs.Prelude.{ℕ, zero, suc, ◌+◌, ◌-◌, Bool, true, false, nat_le, List, [], ◌∷◌, ◌++◌, length, fold, Option, Some, None, Result, Ok, Err, if◌then◌else◌, ◌==◌}
 use Rattle.dp_conf.specs.Lines.{content_of}
 use Rattle.dp_conf.specs.Whole.{most_bytes}
@@ -19,27 +19,27 @@ use Rattle.dp_files.specs.declared.remark.RemarkKind.TheVariants.{Note, Fault}
 use Rattle.dp_files.specs.declared.remark.Note.TheVariants.{OpenComment, Exec as exec_note}
 use Rattle.dp_files.specs.declared.remark.Fault.TheVariants.{IncludeDepth, NotFound, TooLong as too_long_fault, Line}
 
--- the files that were opened so far, their lines, what is told of these, and how many bytes further files may have
+-- the files that were opened so far, their lines, the remarks on these, and the number of bytes that further files may have
 pub record ReadSoFar : Type 0 where
   pub files : List SourceFile
   pub lines : List SourceLine
   pub remarks : List Remark
   pub room : ℕ
 
--- the line that asks for files, by its place among the lines, the name that it gives, and whether one is to be there
+-- the line that requests files, given by its place among the lines, the name that it gives, and whether one must exist
 pub record RequestOf : Type 0 where
   pub place : ℕ
   pub name : List ℕ
   pub required : Bool
 
--- how many files may be opened, and how deep they stand inside each other
+-- the greatest number of opened files, and the greatest depth to which they are nested
 abbrev pub most_files : ℕ
 most_files = 100000
 
 abbrev pub most_depth : ℕ
 most_depth = 10
 
--- a remark is told of a line
+-- a remark on a line is added
 abbrev pub told : ℕ → RemarkKind → ReadSoFar → ReadSoFar
 told place kind read = record {
   files = read.files;
@@ -48,7 +48,7 @@ told place kind read = record {
   room = read.room;
 }
 
--- a line of a file comes after the others
+-- a line of a file is added at the end
 abbrev pub with_line : ℕ → ℕ → List ℕ → ReadSoFar → ReadSoFar
 with_line file line text read = record {
   files = read.files;
@@ -57,7 +57,7 @@ with_line file line text read = record {
   room = read.room;
 }
 
--- a file of so many bytes is opened
+-- a file with this many bytes is opened
 abbrev pub with_file : List ℕ → Option ℕ → ℕ → ReadSoFar → ReadSoFar
 with_file name included_by count read = record {
   files = read.files ++ record { name = name; included_by = included_by } ∷ [];
@@ -66,11 +66,11 @@ with_file name included_by count read = record {
   room = read.room - count;
 }
 
--- block comments that are open at the end of the file are noted at the line of the innermost opening
+-- block comments that are open at the end of the file get a note on the line of the innermost opening
 abbrev pub after_comment : Bool → ℕ → ReadSoFar → ReadSoFar
 after_comment opens place read = if opens then told place (Note OpenComment) read else read
 
--- after what the line at a place asks for, by what including files does
+-- after the request of the line at a place, given the effect of including files
 abbrev pub after_directive : (RequestOf → ReadSoFar → ReadSoFar) → ℕ → Option DirectiveOf → ReadSoFar → ReadSoFar
 after_directive include place None read = read
 after_directive include place (Some (Include name)) read = include (record { place = place; name = name; required = true }) read
@@ -78,7 +78,7 @@ after_directive include place (Some (TryInclude name)) read = include (record { 
 after_directive include place (Some Exec) read = told place (Note exec_note) read
 after_directive include place (Some Unknown) read = told place (Fault (Line directive_kind)) read
 
--- after a line of a file: it stands there itself, and then what it asks for
+-- after a line of a file: the line itself, and then what it requests
 unfoldable pub after_line : (RequestOf → ReadSoFar → ReadSoFar) → ℕ → Bool → ℕ → List ℕ → ReadSoFar → ReadSoFar
 after_line include file opens line text read =
     after_directive include (length read.lines) (directive_of (content_of text))
@@ -89,7 +89,7 @@ abbrev pub is_open_at : ℕ → Option ℕ → Bool
 is_open_at line None = false
 is_open_at line (Some opening) = opening == line
 
--- after lines of a file, before which `count` others stand
+-- after lines of a file, which come after `count` others
 abbrev pub after_lines : (RequestOf → ReadSoFar → ReadSoFar) → ℕ → Option ℕ → ℕ → List (List ℕ) → ReadSoFar → ReadSoFar
 after_lines include file open_comment count [] read = read
 after_lines include file open_comment count (text ∷ texts) read =
@@ -100,21 +100,21 @@ after_lines include file open_comment count (text ∷ texts) read =
 unfoldable pub after_text : (RequestOf → ReadSoFar → ReadSoFar) → ℕ → List ℕ → ReadSoFar → ReadSoFar
 after_text include file text read = after_lines include file (file_lines text).open_comment 0 (file_lines text).texts read
 
--- after a file that was read: it is opened, and its lines come
+-- after a file that was read: it is opened, and its lines follow
 abbrev pub after_file : (RequestOf → ReadSoFar → ReadSoFar) → List ℕ → Option ℕ → List ℕ → ReadSoFar → ReadSoFar
 after_file include name included_by text read =
     after_text include (length read.files) text (with_file name included_by (length text) read)
 
--- after a file that is not there
+-- after a file that does not exist
 abbrev pub after_miss : Bool → ℕ → ReadSoFar → ReadSoFar
 after_miss required place read = if required then told place (Fault NotFound) read else read
 
--- after a file that the line at a place names: it is read where one more may be opened
+-- after a file that the line at a place names: it is read if one more may be opened
 abbrev pub after_included : (RequestOf → ReadSoFar → ReadSoFar) → ℕ → List ℕ → Option ℕ → List ℕ → ReadSoFar → ReadSoFar
 after_included include place name included_by text read =
     if nat_le most_files (length read.files) then told place (Fault too_long_fault) read else after_file include name included_by text read
 
--- after a file that a line names, by what reading it gave
+-- after a file that a line names, given the result of reading it
 abbrev pub after_read : (RequestOf → ReadSoFar → ReadSoFar) → RequestOf → List ℕ → TextRead → ReadSoFar → ReadSoFar
 after_read include request name (Bytes text) read = after_included include request.place name (Some request.place) text read
 after_read include request name Absent read = after_miss request.required request.place read
@@ -125,23 +125,23 @@ unfoldable pub after_name : (RequestOf → ReadSoFar → ReadSoFar) → Files �
 after_name include files request read name =
     after_read include request name (text_read read.room (files.text name)) read
 
--- after the files of the names that one with `*` and `?` stands for; none is as a file that is not there
+-- after the files with the names that match one with `*` and `?`; no names are like a file that does not exist
 abbrev pub after_names : (RequestOf → ReadSoFar → ReadSoFar) → Files → RequestOf → List (List ℕ) → ReadSoFar → ReadSoFar
 after_names include files request [] read = after_miss request.required request.place read
 after_names include files request (name ∷ names) read = fold (after_name include files request) read (name ∷ names)
 
--- after the files that a line asks for, where files may stand inside its own
+-- after the files that a line requests, given how files in their lines are included
 unfoldable pub after_request : (RequestOf → ReadSoFar → ReadSoFar) → Files → RequestOf → ReadSoFar → ReadSoFar
 after_request include files request read =
     if is_wildcard request.name then after_names include files request (files.names request.name) read
     else after_name include files request read request.name
 
--- after the files that a line asks for, by how many files may stand inside each other in the file of the line
+-- after the files that a line requests, given how deep files may be nested in the file of the line
 unfoldable pub including : ℕ → Files → RequestOf → ReadSoFar → ReadSoFar
 including zero files request read = told request.place (Fault IncludeDepth) read
 including (suc depth) files request read = after_request (including depth files) files request read
 
--- what including files does in the lines of the first file
+-- the effect of including files in the lines of the first file
 abbrev pub including_first : Files → RequestOf → ReadSoFar → ReadSoFar
 including_first files = including (most_depth - 1) files
 
@@ -159,25 +159,25 @@ pub record FilesOf : Type 0 where
   pub lines : List SourceLine
   pub remarks : List Remark
 
--- what was read
+-- the result of reading
 abbrev pub files_of : ReadSoFar → FilesOf
 files_of read = record { files = read.files; lines = read.lines; remarks = read.remarks }
 
--- what the first file and those in it give, by what reading the first gave
+-- the result of the first file and those in it, given the result of reading the first
 abbrev pub reading_by : Files → List ℕ → TextRead → Result FilesOf ReadingFault
 reading_by files name (Bytes text) = Ok (files_of (after_file (including_first files) name None text nothing_read))
 reading_by files name Absent = Err not_found_error
 reading_by files name TooLong = Err too_long_error
 
--- what the file of this name and those in it give
+-- the result of the file with this name and those in it
 unfoldable pub reading_of : Files → List ℕ → Result FilesOf ReadingFault
 reading_of files name = reading_by files name (text_read most_bytes (files.text name))
 
--- what a call gave
+-- the result of a call
 abbrev pub files_read : FilesRead → FilesOf
 files_read read = record { files = read.files.items; lines = read.lines.items; remarks = read.remarks.items }
 
--- a fault that the files decide; out of memory they do not
+-- a fault that the files decide, unlike out-of-memory
 abbrev pub first_fault : ReadingFault → Option ReadingFault
 first_fault not_found_error = Some not_found_error
 first_fault too_long_error = Some too_long_error

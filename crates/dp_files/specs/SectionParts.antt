@@ -1,4 +1,4 @@
--- What private functions say of what was read so far. No public clause rests on it.
+-- Parts of the reading so far in private functions. No public clause depends on them.
 use Rattle.std.specs.Prelude.{ℕ, List}
 use Rattle.dp_files.specs.Sections.{SectionsSoFar}
 use Rattle.dp_files.specs.declared.remark.Fault.{Fault}
@@ -8,7 +8,7 @@ use Rattle.dp_files.specs.declared.sections.NamedSections.{NamedSections}
 use Rattle.dp_files.specs.declared.sections.Opening.{Opening}
 use Rattle.dp_files.specs.declared.sections.Reading.{Reading}
 
--- what was read so far, as the definition has it
+-- the reading so far, as in the definition
 abbrev pub reading_now : Reading → SectionsSoFar
 reading_now reading =
     record {
@@ -18,7 +18,7 @@ reading_now reading =
       room = reading.room;
     }
 
--- the section that a header opens, and those whose lines it copies
+-- the section that a header opens, and the sections whose lines it copies
 abbrev pub named_now : NamedSections → Opening × List ℕ
 named_now named = (named.opening, named.parents.items)
 

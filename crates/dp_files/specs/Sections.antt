@@ -1,4 +1,4 @@
--- The sections of the lines of files, by what each line does to the sections so far.
+-- The sections in the lines of files, given the effect of each line on the sections so far.
 use Rattle.std.specs.Prelude.{ℕ, ◌+◌, ◌-◌, Bool, false, not, ◌||◌, ◌==◌, nat_le, List, [], ◌∷◌, ◌++◌, length, map, slice_get, position, Option, Some, None, unwrap_or, Result, Ok, Err, if◌then◌else◌}
 use Rattle.std.specs.Option.{option_and_then, option_flatten, option_map, option_map_or, option_or, option_zip}
 use Rattle.std.specs.List.{flat_map}
@@ -19,19 +19,19 @@ use Rattle.dp_files.specs.declared.sections.SourceSection.{SourceSection}
 use Rattle.dp_files.specs.declared.source_line.SourceFile.{SourceFile}
 use Rattle.dp_files.specs.declared.source_line.SourceLine.{SourceLine}
 
--- how many places of lines the headers of all files may copy
+-- the greatest number of line places that the headers of all files may copy
 abbrev pub most_copied : ℕ
 most_copied = 16777216
 
 -- the sections so far, the first of which has no header; the remarks; for each file the place of the section that is open after its last
--- line so far; and how many places may still be copied
+-- line so far; and the number of places that may still be copied
 pub record SectionsSoFar : Type 0 where
   pub sections : List SourceSection
   pub remarks : List Remark
   pub open_in : List (Option ℕ)
   pub room : ℕ
 
--- with a remark that the line at a place has a fault
+-- with a remark on the fault of the line at a place
 abbrev pub with_fault : ℕ → Fault → SectionsSoFar → SectionsSoFar
 with_fault place fault so_far = record so_far { remarks = so_far.remarks ++ record { source = place; kind = fault_kind fault } ∷ [] }
 
@@ -39,11 +39,11 @@ with_fault place fault so_far = record so_far { remarks = so_far.remarks ++ reco
 abbrev pub with_lines : List ℕ → SourceSection → SourceSection
 with_lines more section = record section { lines = section.lines ++ more }
 
--- the place of the first section of a name, in any case
+-- the place of the first section with a name, in any case
 abbrev pub place_of : List SourceSection → List ℕ → Option ℕ
 place_of sections name = position (λ section. same_word section.name name) sections
 
--- the places of the sections of these names, where there is one of each
+-- the places of the sections with these names, if all of them exist
 abbrev pub places_of : List SourceSection → List (List ℕ) → Option (List ℕ)
 places_of sections [] = Some []
 places_of sections (name ∷ names) =
@@ -53,12 +53,12 @@ places_of sections (name ∷ names) =
 abbrev pub lines_at : List SourceSection → ℕ → List ℕ
 lines_at sections place = option_map_or (λ section. section.lines) (slice_get sections place) []
 
--- the lines of the sections at these places, one section after another, where so many may still be copied
+-- the lines of the sections at these places, one section after another, unless there are more than may still be copied
 unfoldable pub copies_within : ℕ → List SourceSection → List ℕ → Option (List ℕ)
 copies_within room sections places =
     if nat_le (length (flat_map (lines_at sections) places)) room then Some (flat_map (lines_at sections) places) else None
 
--- which section a header opens: a new one, or with `+` the first one of its name, where there is one
+-- the section that a header opens: a new one, or with `+` the first one with its name, if there is one
 unfoldable pub opening_of : List SourceSection → HeaderOf → Option Opening
 opening_of sections header = if is_addition header then option_map Extends (place_of sections header.name) else Some New
 
@@ -82,47 +82,47 @@ unfoldable pub sections_after : ℕ → HeaderOf → Opening → List ℕ → Li
 sections_after place header New lines sections = (sections ++ new_section place header lines ∷ [], length sections)
 sections_after place header (Extends extended) lines sections = (changed_at (longer_section header lines) extended sections, extended)
 
--- with these sections, and the place of the one that is open; all else is as it was
+-- with these sections, and the place of the open one; everything else is as before
 abbrev pub with_sections : SectionsSoFar → List SourceSection × ℕ → SectionsSoFar × ℕ
 with_sections so_far after = (record so_far { sections = after.0 }, after.1)
 
--- the lines that a header copies, where they may be copies; else none, with a remark
+-- the lines that a header copies, if they may be copied; else none, with a remark
 unfoldable pub with_copies : ℕ → Option (List ℕ) → SectionsSoFar → SectionsSoFar × List ℕ
 with_copies place None so_far = (with_fault place TooLong so_far, [])
 with_copies place (Some lines) so_far = (record so_far { room = so_far.room - length lines }, lines)
 
--- the lines that a header copies, by the places of the sections whose lines they are
+-- the lines that a header copies, given the places of the sections with these lines
 abbrev pub copies_of : ℕ → List ℕ → SectionsSoFar → SectionsSoFar × List ℕ
 copies_of place parents so_far = with_copies place (copies_within so_far.room so_far.sections parents) so_far
 
--- after a header of which all names are known, with the lines that it copies
+-- after a header whose names are all known, with the lines that it copies
 abbrev pub after_known_header : ℕ → HeaderOf → Opening → SectionsSoFar × List ℕ → SectionsSoFar × ℕ
 after_known_header place header opening copies =
     with_sections copies.0 (sections_after place header opening copies.1 copies.0.sections)
 
--- after a header, by the section that it opens and by those whose lines it copies, where there is one of each name
+-- after a header, given the section that it opens and those whose lines it copies, if all of them exist
 unfoldable pub after_named_header : ℕ → ℕ → HeaderOf → Option (Opening × List ℕ) → SectionsSoFar → SectionsSoFar × ℕ
 after_named_header place current header None so_far = (with_fault place (Line Template) so_far, current)
 after_named_header place current header (Some named) so_far =
     after_known_header place header named.0 (copies_of place named.1 so_far)
 
--- after a line that begins with `[`, where a section is open: a faulty header opens none
+-- after a line that begins with `[`, given the open section: a faulty header opens none
 abbrev pub after_header : ℕ → ℕ → Result HeaderOf LineKind → SectionsSoFar → SectionsSoFar × ℕ
 after_header place current (Err kind) so_far = (with_fault place (Line kind) so_far, current)
 after_header place current (Ok header) so_far =
     after_named_header place current header
     (option_zip (opening_of so_far.sections header) (places_of so_far.sections (parents_of header))) so_far
 
--- after a line that is no header and no directive: it is kept in the section that is open, or it is faulty
+-- after a line that is neither a header nor a directive: it is kept in the open section, or it is faulty
 unfoldable pub after_item : ℕ → ℕ → Result (List LineOf) LineKind → SectionsSoFar → SectionsSoFar
 after_item place current (Err kind) so_far = with_fault place (Line kind) so_far
 after_item place current (Ok items) so_far = record so_far { sections = changed_at (with_lines (place ∷ [])) current so_far.sections }
 
--- a line as one that is no header and no directive; a pair may not stand before any header
+-- a line read as neither a header nor a directive; a pair is not allowed before any header
 abbrev pub after_plain_line : ℕ → ℕ → List ℕ → SectionsSoFar → SectionsSoFar × ℕ
 after_plain_line place current content so_far = (after_item place current (item_of (not (current == 0)) 0 content) so_far, current)
 
--- after a line, by its content, where a section is open; and the place of the section that is open after it
+-- after a line, given its content and the open section; with the place of the section that is open after it
 unfoldable pub after_content : ℕ → ℕ → List ℕ → SectionsSoFar → SectionsSoFar × ℕ
 after_content place current [] so_far = after_plain_line place current [] so_far
 after_content place current (b ∷ bs) so_far =
@@ -134,7 +134,7 @@ after_content place current (b ∷ bs) so_far =
 abbrev pub open_after : List (Option ℕ) → ℕ → Option ℕ
 open_after open_in file = option_flatten (slice_get open_in file)
 
--- the file whose line includes a file
+-- the file with the line that includes a file
 abbrev pub including : List SourceFile → List SourceLine → ℕ → Option ℕ
 including files lines file =
     option_map (λ line. line.file)

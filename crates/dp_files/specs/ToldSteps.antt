@@ -1,4 +1,4 @@
--- Steps of the code: what is told of the lines that were read, with what is told of those behind them.
+-- Steps of the code: the results of the lines that were read, with those of the remaining lines.
 use Rattle.std.specs.Prelude.{ℕ, List, ◌++◌, Option}
 use Rattle.std.specs.List.{flat_map}
 use Rattle.std.specs.Option.{option_map, option_to_list}
@@ -10,19 +10,19 @@ use Rattle.dp_files.specs.declared.remark.Remark.{Remark}
 use Rattle.dp_files.specs.declared.remark.RemarkKind.{RemarkKind}
 use Rattle.dp_files.specs.declared.source_line.MadeLine.{MadeLine}
 
--- the line of a text, where there is one
+-- the line with a text, if there is one
 abbrev pub line_of : ℕ → Option (List ℕ) → List MadeLine
 line_of place text = option_to_list (option_map (λ t. record { source = place; text = t }) text)
 
--- a remark of this kind, where there is one
+-- a remark of this kind, if there is one
 abbrev pub remark_of : ℕ → Option RemarkKind → List Remark
 remark_of place kind = option_to_list (option_map (λ k. record { source = place; kind = k }) kind)
 
--- what is told so far with what is told of the lines behind, by the history that stands before them
+-- the results so far with those of the remaining lines, given the history before them
 abbrev pub told_by : List MadeLine → List Remark → History → List (ℕ × List ℕ) → List MadeLine × List Remark
 told_by lines remarks history rest =
     (lines ++ flat_map made_line (all_made_after history rest), remarks ++ flat_map remark_on (all_made_after history rest))
 
--- of a reader
+-- the results of a reader
 abbrev pub told : ContextReader → List (ℕ × List ℕ) → List MadeLine × List Remark
 told reader rest = told_by reader.text.lines.items reader.text.remarks.items (history_in reader.history) rest

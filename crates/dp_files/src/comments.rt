@@ -6,7 +6,7 @@ use dp_conf::{NoMemory, Text, first_part, opens_block, without_mark};
 use std::alloc::Global;
 use std::marker::Model;
 
-/// The block comments that are open, by the lines of their openings. A contract sees the innermost first.
+/// The open block comments, given by the lines of their openings. A contract sees the innermost first.
 #[derive(Drop)]
 struct OpenComments {
     lines: Vec<usize>,
@@ -24,7 +24,7 @@ impl OpenComments {
     ghost use Rattle.std.specs.Prelude.{◌≡◌, ◌==◌, ◌∷◌, OnOk, [], drop, length};
     ghost use Rattle.dp_files.specs.Comments as spec;
 
-    /// No comments. It never allocates.
+    /// Without comments. It never allocates.
     fn new(alloc: Global) -> Self
         ensures { result ≡ [] }
     {
@@ -33,7 +33,7 @@ impl OpenComments {
         }
     }
 
-    /// Whether none is open.
+    /// Whether no block comment is open.
     fn is_empty(&self) -> bool
         ensures { result ≡ (length self.now == 0) }
     {
@@ -48,7 +48,7 @@ impl OpenComments {
         Ok(())
     }
 
-    /// Closes the innermost one, where one is open.
+    /// Closes the innermost block comment, if one is open.
     fn close(&mut self)
         ensures { self.new ≡ drop 1 self.old }
     {
@@ -63,21 +63,21 @@ impl OpenComments {
     }
 }
 
-/// Whether a byte outside of block comments begins a comment: a `;` with no `\` directly before it.
+/// Whether a byte outside block comments begins a comment: a `;` without a `\` directly before it.
 fn begins_comment(previous: u8, byte: u8) -> bool
     ensures { result ≡ (byte == 59 && not (previous == 92)) }
 {
     byte == b';' && previous != b'\\'
 }
 
-/// Whether a text inside a block comment begins with its end: `--;`, of which the `;` opens none.
+/// Whether a text inside a block comment begins with its end: `--;`, unless its `;` opens another one.
 fn closes_block(text: &[u8]) -> bool
     ensures { result ≡ spec.closes_block text.now }
 {
     text.starts_with(b"--;") && !opens_block(&text[2..])
 }
 
-/// Passes over a mark or a byte inside a block comment, and gives what comes after it.
+/// Skips a mark or a byte inside a block comment, and returns the text after it.
 fn pass_covered<'a>(
     line: usize,
     open: &mut OpenComments,
@@ -100,7 +100,7 @@ fn pass_covered<'a>(
     Ok(&text[1..])
 }
 
-/// What block comments leave of a line. A comment of another kind ends the line, and stays in it.
+/// The part of a line outside block comments. A comment of another kind ends the line, and stays in it.
 fn uncover_line(
     alloc: Global,
     line: usize,
@@ -135,13 +135,13 @@ fn uncover_line(
 /// The lines of a file.
 #[derive(Drop)]
 pub(crate) struct FileLines {
-    /// The lines in order, without what block comments cover.
+    /// The lines in order, without their block comments.
     pub(crate) texts: Vec<Text>,
-    /// Where block comments are open at the end of the file, the line of the innermost opening, counted from 1.
+    /// The line of the innermost opening, counted from 1, if block comments are open at the end of the file.
     pub(crate) open_comment: Option<usize>,
 }
 
-/// The lines of the text of a file without what block comments cover. A byte order mark at the front is left out.
+/// The lines of the text of a file without their block comments. A byte order mark at the start is left out.
 pub(crate) fn file_lines(alloc: Global, text: &[u8]) -> Result<FileLines, NoMemory>
     ensures { IfOk result (λ lines. spec.file_lines text.now ≡ record { texts = lines.texts.items; open_comment = lines.open_comment }) }
 {

@@ -1,4 +1,4 @@
-//! How a line of a context is cut, read alone.
+//! Cutting a line of a context into its parts, without regard to other lines.
 ghost use Rattle.std.specs.Prelude.{◌≡◌};
 ghost use Rattle.dp_conf.specs.Cut as cuts;
 ghost use Rattle.dp_conf.specs.Lines as lines;
@@ -15,7 +15,7 @@ pub(crate) struct EntryText<'a> {
     pub(crate) application: &'a [u8],
 }
 
-/// What a line of a context says.
+/// The meaning of a line of a context.
 #[derive(Clone, Copy)]
 pub(crate) enum ContextLine<'a> {
     Exten {
@@ -23,12 +23,12 @@ pub(crate) enum ContextLine<'a> {
         entry: EntryText<'a>,
     },
     Same(EntryText<'a>),
-    /// A line that is left out with this note.
+    /// A line that is left out, with this note.
     LeftOut(Note),
     Other,
 }
 
-/// The line of an `exten`, by its value.
+/// The line of an `exten`, given its value.
 fn exten_line(value: &[u8]) -> ContextLine<'_>
     ensures { steps.line_now result ≡ spec.exten_line (cuts.cut_once 44 value.now) }
 {
@@ -47,7 +47,7 @@ fn exten_line(value: &[u8]) -> ContextLine<'_>
     }
 }
 
-/// The line of a `same`, by its value.
+/// The line of a `same`, given its value.
 fn same_line(value: &[u8]) -> ContextLine<'_>
     ensures { steps.line_now result ≡ spec.same_line (cuts.cut_once 44 value.now) }
 {
@@ -60,7 +60,7 @@ fn same_line(value: &[u8]) -> ContextLine<'_>
     })
 }
 
-/// The line of a key that is none of an entry's.
+/// The line of a key that is not that of an entry.
 fn key_line(key: &[u8]) -> ContextLine<'static>
     ensures { steps.line_now result ≡ spec.key_line key.now }
 {
@@ -73,7 +73,7 @@ fn key_line(key: &[u8]) -> ContextLine<'static>
     ContextLine::Other
 }
 
-/// The line of a key and a value.
+/// The line with a key and a value.
 fn pair_line<'a>(key: &[u8], value: &'a [u8]) -> ContextLine<'a>
     ensures { steps.line_now result ≡ spec.pair_line key.now value.now }
 {
@@ -86,7 +86,7 @@ fn pair_line<'a>(key: &[u8], value: &'a [u8]) -> ContextLine<'a>
     key_line(key)
 }
 
-/// What stands after the `=`, without the `>` that belongs to the sign.
+/// The text after the `=`, without the `>` that belongs to the sign.
 pub(crate) fn after_sign(text: &[u8]) -> &[u8]
     ensures { result.now ≡ lines.after_sign text.now }
 {
@@ -96,7 +96,7 @@ pub(crate) fn after_sign(text: &[u8]) -> &[u8]
     }
 }
 
-/// The line of this content.
+/// The line with this content.
 #[tactic(auto, unfolding(crate::specs::ContextWords::context_line))]
 pub(crate) fn read_context_line(content: &[u8]) -> ContextLine<'_>
     ensures { steps.line_now result ≡ spec.context_line content.now }
@@ -107,7 +107,7 @@ pub(crate) fn read_context_line(content: &[u8]) -> ContextLine<'_>
     }
 }
 
-/// What stands before the first `(`, or the whole text.
+/// The text before the first `(`, or the whole text.
 fn before_parenthesis(text: &[u8]) -> &[u8]
     ensures { result.now ≡ spec.front_of text.now (cuts.cut_once 40 text.now) }
 {
@@ -117,7 +117,7 @@ fn before_parenthesis(text: &[u8]) -> &[u8]
     }
 }
 
-/// Whether the application is of the old form, `NAME,ARGUMENTS`.
+/// Whether the application has the old form, `NAME,ARGUMENTS`.
 #[tactic(auto, unfolding(crate::specs::ContextWords::is_old_form))]
 pub(crate) fn is_old_form(application: &[u8]) -> bool
     ensures { result ≡ spec.is_old_form application.now }

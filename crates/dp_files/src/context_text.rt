@@ -1,4 +1,4 @@
-//! The lines of a context that a loader reads, from those of its section.
+//! The lines of a context for the loader, made from those of its section.
 ghost use Rattle.std.specs.Prelude.{◌≡◌, ◌++◌, ◌∷◌, ℕ, List, IfOk, OnOk, slice_get};
 ghost use Rattle.dp_files.specs.ContextLines as spec;
 ghost use Rattle.dp_files.specs.ToldSteps as steps;
@@ -11,7 +11,7 @@ use crate::source_line::SourceLine;
 use dp_conf::NoMemory;
 use std::alloc::Global;
 
-/// What is made of the lines so far, and what they leave for the next one.
+/// The result of the lines so far, and what they leave for the next one.
 #[derive(Drop)]
 struct ContextReader {
     history: History,
@@ -29,7 +29,7 @@ impl ContextReader {
         Ok(())
     }
 
-    /// Reads the line at a place, where there is one.
+    /// Reads the line at a place, if there is one.
     fn read_place(
         &mut self,
         alloc: Global,
@@ -46,13 +46,12 @@ impl ContextReader {
     }
 }
 
-/// The lines that a loader reads for those of a context's section, and the remarks on these.
+/// The lines for the loader that are made from the lines of a context's section, and the remarks on them.
 ///
-/// It takes the lines of all files, and the places of the section's among them, in order; a place behind the last line is passed over.
-/// Priorities become numbers, as the Asterisk documentation's page on contexts, extensions and priorities says. Hints, lines of other
-/// switches, `ignorepat` and extensions with a caller's number are left out with a note, and applications of the old form
-/// `NAME,ARGUMENTS` with a fault. A line that the loader refuses stands as it is, so that the loader tells the fault. The error comes
-/// only where a growth was refused.
+/// It takes the lines of all files, and the places of the section's lines among them, in order; a place after the last line is skipped.
+/// Priorities become numbers, after the Asterisk documentation's page on contexts, extensions and priorities. Hints, lines of other
+/// switches, `ignorepat` and extensions with a caller's number are left out with a note, and applications of the old form `NAME,ARGUMENTS`
+/// with a fault. A line that the loader refuses is unchanged, so that the loader reports the fault. It fails only if memory runs out.
 pub fn read_context(
     alloc: Global,
     lines: &[SourceLine],
@@ -74,8 +73,8 @@ pub fn read_context(
     Ok(text)
 }
 
-/// Lines whose entries have priorities of digits, and that have none of the forms that are left out, stand as they are, byte for byte,
-/// and nothing is remarked on them.
+/// States that lines whose entries have priorities of digits, and that use none of the forms that are left out, are unchanged, byte for
+/// byte, and have no remarks. It does nothing.
 pub fn plain_lines_stand()
     ensures { PlainLinesStand }
 {}

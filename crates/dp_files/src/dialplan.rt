@@ -1,4 +1,4 @@
-//! A dialplan's text, made of a file and of those that it includes.
+//! The text of a dialplan, made from a file and the files that it includes.
 ghost use Rattle.std.specs.Prelude.{◌≡◌, IfOk};
 ghost use Rattle.dp_conf.specs.Answers.{Answers};
 ghost use Rattle.dp_files.specs.Dialplan as spec;
@@ -14,19 +14,19 @@ use crate::source_line::{SourceFile, SourceLine};
 use dp_conf::NoMemory;
 use std::alloc::Global;
 
-/// The files of a dialplan, and the text that is made of them.
+/// The files of a dialplan, and the text that is made from them.
 #[derive(Drop)]
 pub struct DialplanFiles {
     /// The files in the order in which they were opened.
     pub files: Vec<SourceFile>,
     /// The lines of all files, in the order in which they were read.
     pub lines: Vec<SourceLine>,
-    /// The lines that a loader reads, and what is told: first what was found when the files were read, then of sections, then of the lines
-    /// of sections.
+    /// The lines for the loader, and the remarks: first those from reading the files, then those on sections, then those on the lines of
+    /// sections.
     pub made: MadeText,
 }
 
-/// The text that is made of files that were read.
+/// The text that is made from files that were read.
 fn make_text(alloc: Global, read: FilesRead) -> Result<DialplanFiles, NoMemory>
     ensures { IfOk result (λ made. spec.dialplan_now made ≡ spec.dialplan_in (files_read read)) }
 {
@@ -46,11 +46,11 @@ fn make_text(alloc: Global, read: FilesRead) -> Result<DialplanFiles, NoMemory>
     Ok(DialplanFiles { files, lines, made })
 }
 
-/// The text of a dialplan that a loader reads, made of the file of a name and of the files that it includes.
+/// The text of a dialplan for the loader, made from the file with a name and the files that it includes.
 ///
-/// [`read_files`] says how files are read, [`read_sections`](crate::read_sections) which lines are in which section, and
-/// [`make_dialplan`](crate::make_dialplan) what is made of them. The fault is `NotFound` where the first file is not there, `TooLong` where
-/// it has more than 16,777,216 bytes, or out-of-memory.
+/// See [`read_files`] for how files are read, [`read_sections`](crate::read_sections) for which lines are in which section, and
+/// [`make_dialplan`](crate::make_dialplan) for what is made from them. The fault is `NotFound` if the first file does not exist or cannot
+/// be read, `TooLong` if it has more than 16,777,216 bytes, or out-of-memory.
 pub fn read_dialplan<S: Source>(
     alloc: Global,
     source: &mut S,

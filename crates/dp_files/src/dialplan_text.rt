@@ -1,4 +1,4 @@
-//! The text of a dialplan, made of the sections of files.
+//! The text of a dialplan, made from the sections of files.
 ghost use Rattle.std.specs.Prelude.{◌≡◌, ◌++◌, IfOk, OnOk, slice_get};
 ghost use Rattle.dp_files.specs.DialplanText as spec;
 
@@ -25,7 +25,7 @@ fn is_without_entries(section: &SourceSection) -> bool
     section.header.is_none() || same_word(section.name.bytes(), b"globals")
 }
 
-/// Adds the line that is made of the header at a place, where there is a line.
+/// Adds the line made from the header at a place, if there is a line.
 fn push_header_at(
     alloc: Global,
     made: &mut Vec<MadeLine>,
@@ -44,7 +44,7 @@ fn push_header_at(
     }
 }
 
-/// Adds the line of the header of a section, where it has one.
+/// Adds the line of the header of a section, if it has one.
 fn push_header(
     alloc: Global,
     made: &mut Vec<MadeLine>,
@@ -59,7 +59,7 @@ fn push_header(
     }
 }
 
-/// Adds the line at a place as it stands, where there is a line.
+/// Adds the line at a place unchanged, if there is a line.
 fn push_standing(
     alloc: Global,
     made: &mut Vec<MadeLine>,
@@ -78,7 +78,7 @@ fn push_standing(
     }
 }
 
-/// Adds the lines at some places as they stand.
+/// Adds the lines at some places unchanged.
 fn push_all_standing(
     alloc: Global,
     made: &mut Vec<MadeLine>,
@@ -97,7 +97,7 @@ impl MadeText {
     ghost use Rattle.std.specs.Prelude.{◌≡◌, ◌++◌, OnOk};
     ghost use Rattle.dp_files.specs.DialplanText as spec;
 
-    /// Adds what is made of the lines of a section that is no template.
+    /// Adds the lines made from a section that is not a template.
     fn push_body(
         &mut self,
         alloc: Global,
@@ -121,7 +121,7 @@ impl MadeText {
         self.append(context)
     }
 
-    /// Adds what is made of a section.
+    /// Adds the lines made from a section.
     #[tactic(auto, unfolding(crate::specs::DialplanText::lines_of_section, crate::specs::DialplanText::remarks_on_section))]
     fn push_section(
         &mut self,
@@ -140,12 +140,12 @@ impl MadeText {
     }
 }
 
-/// The lines of a dialplan that a loader reads, made of the sections of files, and what is remarked of the lines that they are made of,
-/// section by section.
+/// The lines of a dialplan for the loader, made from the sections of files, and the remarks on the lines from which they are made, section
+/// by section.
 ///
-/// A template is left out, and so are the parentheses of headers. The lines of a context are made as [`read_context`] says, and those of
-/// `[general]` as [`read_general`] says, its name in any case; those of `[globals]` and those before any header stand as they are. The error comes only where a growth was
-/// refused.
+/// A template is left out, and so are the parentheses of headers. See [`read_context`] for the lines of a context, and [`read_general`] for
+/// those of `[general]`, with its name in any case; those of `[globals]` and those before any header are unchanged. It fails only if memory
+/// runs out.
 pub fn make_dialplan(
     alloc: Global,
     lines: &[SourceLine],
@@ -161,7 +161,7 @@ pub fn make_dialplan(
     Ok(text)
 }
 
-/// The text of some lines: each with the line feed that ends it. The error comes only where a growth was refused.
+/// The text of some lines, each with the line feed that ends it. It fails only if memory runs out.
 pub fn text_of(alloc: Global, lines: &[MadeLine]) -> Result<Vec<u8>, NoMemory>
     ensures { IfOk result (λ text. text.items ≡ spec.text_of lines.now) }
 {

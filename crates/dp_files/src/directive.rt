@@ -5,20 +5,20 @@ ghost use Rattle.dp_files.specs.Directives as spec;
 
 use dp_conf::{is_blank, same_word, trim};
 
-/// What a line that begins with `#` asks for.
+/// The request of a line that begins with `#`.
 #[derive(Clone, Copy)]
 pub(crate) enum Directive<'a> {
-    /// The lines of the files of this name are to stand here.
+    /// The lines of the files with this name belong here.
     Include(&'a [u8]),
-    /// The same, and nothing where there is no such file.
+    /// The same, but nothing if there is no such file.
     TryInclude(&'a [u8]),
     /// A command, which is not run.
     Exec,
-    /// A word that is none of these, or one of the first two with no name.
+    /// A word that is none of these, or one of the first two without a name.
     Unknown,
 }
 
-/// How many bytes stand before the first blank.
+/// The number of bytes before the first blank.
 fn word_length(text: &[u8]) -> usize
     ensures length { result ≡ spec.word_length text.now }
     ensures within { result ≤ length text.now }
@@ -31,7 +31,7 @@ fn word_length(text: &[u8]) -> usize
     text.len()
 }
 
-/// What stands before the last byte, where it is this one.
+/// The text before the last byte, if that is this byte.
 fn before_end(text: &[u8], byte: u8) -> Option<&[u8]>
     ensures { option_map (λ front. front.now) result ≡ spec.before_end byte text.now }
 {
@@ -56,7 +56,7 @@ fn closing_of(byte: u8) -> Option<u8>
     }
 }
 
-/// A name without the quotes, or the `<` and the `>`, that it stands in. One that does not end with what it begins with is bare.
+/// A name without the quotes, or the `<` and the `>`, around it. A name without the closing byte at its end is unchanged.
 fn unquoted(text: &[u8]) -> &[u8]
     ensures { result.now ≡ spec.unquoted text.now }
 {
@@ -72,7 +72,7 @@ fn unquoted(text: &[u8]) -> &[u8]
     }
 }
 
-/// The directive of a word and a name.
+/// The directive with a word and a name.
 fn directive_by<'a>(word: &[u8], name: &'a [u8]) -> Directive<'a>
     ensures { spec.directive_now result ≡ spec.directive_by word.now name.now }
 {
@@ -89,10 +89,10 @@ fn directive_by<'a>(word: &[u8], name: &'a [u8]) -> Directive<'a>
     }
 }
 
-/// What the content of a line asks for, where it begins with `#`.
+/// The request in the content of a line, if it begins with `#`.
 ///
-/// The word goes from the `#` up to the first blank, and its letters are of any case. The name is what comes after the word,
-/// without blanks at its ends and without the quotes, or the `<` and the `>`, that it stands in.
+/// The word goes from the `#` to the first blank, and its letters may be in any case. The name comes after the word, without blanks at its
+/// ends and without the quotes, or the `<` and the `>`, around it.
 #[tactic(auto, unfolding(crate::specs::Directives::directive_of))]
 pub(crate) fn read_directive(content: &[u8]) -> Option<Directive<'_>>
     ensures { option_map spec.directive_now result ≡ spec.directive_of content.now }
@@ -106,7 +106,7 @@ pub(crate) fn read_directive(content: &[u8]) -> Option<Directive<'_>>
     }
 }
 
-/// The name that the content of a line includes, and nothing where it includes none.
+/// The name that the content of a line includes, or an empty one if it includes none.
 pub fn included_name(content: &[u8]) -> &[u8]
     ensures { result.now ≡ spec.included_name (spec.directive_of content.now) }
 {

@@ -20,7 +20,7 @@ pub(crate) struct EntryLine<'a, 'e> {
     pub(crate) application: &'a [u8],
 }
 
-/// The line of an entry with its number and the label that it keeps, and whether a hint stands before it.
+/// The line of an entry with its number and the label that it keeps, and whether a hint comes before it.
 #[derive(Clone, Copy)]
 pub(crate) struct NumberedLine<'a, 'e> {
     pub(crate) entry: EntryLine<'a, 'e>,
@@ -30,7 +30,7 @@ pub(crate) struct NumberedLine<'a, 'e> {
 }
 
 impl<'a> EntryLine<'a, '_> {
-    /// The label behind the priority, where there is one.
+    /// The label after the priority, if there is one.
     pub(crate) fn label(&self) -> Option<&'a [u8]>
         ensures { option_map (λ label. label.now) result ≡ spec.label_of (steps.entry_now self.now).priority }
     {
@@ -40,7 +40,7 @@ impl<'a> EntryLine<'a, '_> {
         }
     }
 
-    /// Whether the priority is a number of its own.
+    /// Whether the priority is a plain number.
     fn is_number_alone(&self) -> bool
         ensures { result ≡ spec.is_number_alone (steps.entry_now self.now).priority }
     {
@@ -51,7 +51,7 @@ impl<'a> EntryLine<'a, '_> {
     }
 }
 
-/// Whether a priority without its label is a number of its own.
+/// Whether a priority without its label is a plain number.
 fn is_number_alone(written: Written<'_>) -> bool
     ensures { result ≡ spec.is_alone (view.written_now written.entry) }
 {
@@ -94,7 +94,7 @@ fn push_number(out: &mut Vec<u8>, number: u64, label: Option<&[u8]>) -> Result<(
 }
 
 impl NumberedLine<'_, '_> {
-    /// Whether a line before has given the label to the extension.
+    /// Whether an earlier line of the extension has the label.
     pub(crate) fn is_double(&self) -> bool
         ensures { result ≡ spec.is_double (spec.label_of (steps.entry_now self.now.entry).priority)
             (option_map (λ label. label.now) self.now.label) }
@@ -112,7 +112,7 @@ impl NumberedLine<'_, '_> {
             && !(self.entry.is_same && self.is_after_hint)
     }
 
-    /// What the line says with its number.
+    /// The content of the line with its number.
     fn content(&self, alloc: Global) -> Result<Vec<u8>, NoMemory>
         ensures { IfOk result (λ content. content.items
             ≡ spec.entry_content (self.now.entry.is_same && not self.now.is_after_hint) self.now.entry.extension.now.name
@@ -127,7 +127,7 @@ impl NumberedLine<'_, '_> {
         Ok(content)
     }
 
-    /// The text that is made of the line.
+    /// The text made from the line.
     pub(crate) fn text(&self, alloc: Global, line: &[u8]) -> Result<Text, NoMemory>
         ensures { IfOk result (λ text. text ≡ spec.entry_text self.now.is_after_hint line.now
             (steps.entry_now self.now.entry) self.now.number (option_map (λ label. label.now) self.now.label)) }

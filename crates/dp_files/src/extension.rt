@@ -7,9 +7,9 @@ use dp_conf::{NoMemory, Text};
 use dp_pattern::{Name, PatternFault};
 use std::alloc::Global;
 
-/// An extension: its name as a line writes it, and the spelling that all names of the extension have.
+/// An extension: its name as written in a line, and the spelling that all names of the extension share.
 ///
-/// Names of one meaning are one extension. Without their dashes names do not serve: `_[1-3]` and `_[123]` are one extension, and `_[13]`
+/// Names with one meaning are one extension. Names without their dashes would not do: `_[1-3]` and `_[123]` are one extension, and `_[13]`
 /// is another.
 #[derive(Drop)]
 pub(crate) struct Extension {
@@ -17,7 +17,7 @@ pub(crate) struct Extension {
     pub(crate) spelling: Text,
 }
 
-/// Whether a caller's number stands behind the name.
+/// Whether there is a caller's number after the name.
 pub(crate) fn has_caller(name: &[u8]) -> bool
     ensures { result ≡ spec.has_caller name.now }
 {
@@ -25,7 +25,7 @@ pub(crate) fn has_caller(name: &[u8]) -> bool
 }
 
 impl Extension {
-    /// The same extension.
+    /// A copy of the extension.
     pub(crate) fn copy(&self) -> Result<Self, NoMemory>
         ensures { IfOk result (λ copy. copy ≡ self.now) }
     {
@@ -43,7 +43,7 @@ impl Extension {
         Ok(Extension { name, spelling })
     }
 
-    /// The extension of a name without a caller's number, where the text is a name.
+    /// The extension of a name without a caller's number, if the text is a name.
     fn of_name(alloc: Global, text: &[u8]) -> Result<Option<Self>, NoMemory>
         ensures { IfOk result (λ extension. extension ≡ spec.spelled text.now (meaning_of text.now)) }
     {
@@ -58,7 +58,7 @@ impl Extension {
         }
     }
 
-    /// The extension of a name, where the text is one.
+    /// The extension of a name, if the text is one.
     #[tactic(auto, unfolding(crate::specs::ContextHistory::extension_of))]
     pub(crate) fn read(alloc: Global, name: &[u8]) -> Result<Option<Self>, NoMemory>
         ensures { IfOk result (λ extension. extension ≡ spec.extension_of name.now) }

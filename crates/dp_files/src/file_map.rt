@@ -13,14 +13,14 @@ use std::alloc::Global;
 use std::cmp::Ordering;
 use std::marker::Model;
 
-/// A file by its name.
+/// A file with its name.
 #[derive(Drop)]
 pub struct NamedText {
     pub name: Text,
     pub text: Text,
 }
 
-/// Files in memory, as those of an example or of a test. A contract sees them in the byte order of their names, each name once.
+/// Files in memory, such as those of an example or of a test. A contract sees them in the byte order of their names, each name once.
 #[derive(Drop)]
 pub struct FileMap {
     files: Vec<NamedText>,
@@ -39,7 +39,7 @@ impl FileMap {
     ghost use Rattle.std.specs.Prelude.{◌≡◌, [], OnOk, OnErr};
     ghost use Rattle.dp_files.specs.FileMaps as spec;
 
-    /// No files. It never allocates.
+    /// Without files. It never allocates.
     pub fn new(alloc: Global) -> Self
         ensures { result ≡ [] }
     {
@@ -48,7 +48,7 @@ impl FileMap {
         }
     }
 
-    /// Adds a file, or puts it in place of one of the same name. After a refused growth all is as before.
+    /// Adds a file, or replaces one with the same name. If memory runs out nothing changes.
     #[tactic(auto, using(crate::proofs::FileMapsLemmas::file_at_its_place))]
     pub fn add(&mut self, file: NamedText) -> Result<(), NoMemory>
         ensures ok { OnOk result (self.new ≡ spec.with_file file self.old) }
@@ -75,7 +75,7 @@ fn comes_before(name: &[u8], other: &[u8]) -> bool
     }
 }
 
-/// How many files stand before the first whose name does not come before this one.
+/// The number of files before the first one whose name does not come before this one.
 fn place_of(files: &[NamedText], name: &[u8]) -> usize
     ensures place { result ≡ spec.place_in name.now files.now }
     ensures within { result ≤ length files.now }
@@ -98,7 +98,7 @@ fn begins_with_name(files: &[NamedText], name: &[u8]) -> bool
     }
 }
 
-/// The text of the file of a name.
+/// The text of the file with a name.
 fn text_of<'a>(files: &'a [NamedText], name: &[u8]) -> Option<&'a [u8]>
     ensures { option_map (λ text. text.now) result ≡ spec.text_in files.now name.now }
 {
@@ -110,7 +110,7 @@ fn text_of<'a>(files: &'a [NamedText], name: &[u8]) -> Option<&'a [u8]>
     None
 }
 
-/// A copy of a text, where it has at most `most` bytes, and at most 16,777,216.
+/// A copy of a text, if it has at most `most` bytes, and at most 16,777,216.
 pub(crate) fn copy_text(
     alloc: Global,
     text: Option<&[u8]>,
@@ -129,7 +129,7 @@ pub(crate) fn copy_text(
     Ok(FileText::Bytes(bytes))
 }
 
-/// The names that one with `*` and `?` stands for.
+/// The names that match one with `*` and `?`.
 fn names_of(alloc: Global, files: &[NamedText], pattern: &[u8]) -> Result<Vec<Text>, NoMemory>
     ensures { IfOk result (λ names. names.items ≡ spec.names_in files.now pattern.now) }
 {

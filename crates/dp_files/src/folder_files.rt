@@ -25,13 +25,13 @@ use std::marker::Model;
 
 /// The files below the folder of a first file, each read once from a system.
 ///
-/// The name of the first file is its path, as it was given. Another name that begins with `/` is a path too, and any other is looked for
-/// in the folder of the first file. A path that is no UTF-8 is that of no file.
+/// The name of the first file is its path, as it was given. Another name that begins with `/` is a path too, and any other is looked for in
+/// the folder of the first file. A path that is not UTF-8 is not that of a file.
 ///
-/// What was read of a name is kept, and so are the names that one with `*` and `?` stands for: files that change while they are read are
-/// seen as they were when they were first asked for.
+/// What was read for a name is kept, and so are the names that match one with `*` and `?`: files that change while they are read are seen
+/// as they were when first requested.
 ///
-/// A contract sees the system, the path of the first file, and what is known.
+/// A contract sees the system, the path of the first file, and what is known of the files.
 #[derive(Drop)]
 pub struct FolderFiles<'a, P: Paths> {
     paths: &'a P,
@@ -56,7 +56,7 @@ impl<'a, P: Paths> FolderFiles<'a, P> {
     ghost use Rattle.std.specs.Prelude.{◌≡◌};
     ghost use Rattle.dp_files.specs.FolderFiles as spec;
 
-    /// The files below the folder of the file of this path. It reads nothing, and never allocates.
+    /// The files below the folder of the file with this path. It reads nothing, and never allocates.
     pub fn new(alloc: Global, paths: &'a P, first: &'a str) -> Self
         ensures paths { result.0 ≡ paths.now }
         ensures first { result.1 ≡ first.now }
@@ -70,7 +70,7 @@ impl<'a, P: Paths> FolderFiles<'a, P> {
         }
     }
 
-    /// All that is known is what the system may give. It does nothing.
+    /// States that everything known is something that the system may give. It does nothing.
     pub fn show_known(&self)
         ensures { spec.MayKnow (spec.MayTell (P.may_be self.now.0) (P.may_list self.now.0) self.now.1) self.now.2 }
     {
@@ -85,7 +85,7 @@ fn is_path(first: &[u8], name: &[u8]) -> bool
     name == first || name.starts_with(b"/")
 }
 
-/// What stands in a folder, and without a folder the name itself.
+/// A name in a folder, or the name itself without a folder.
 fn beside(alloc: Global, folder: Option<&[u8]>, name: &[u8]) -> Result<Text, NoMemory>
     ensures { IfOk result (λ path. path ≡ spec.beside (option_map (λ folder. folder.now) folder.entry) name.now) }
 {
@@ -99,7 +99,7 @@ fn beside(alloc: Global, folder: Option<&[u8]>, name: &[u8]) -> Result<Text, NoM
     Ok(Text::new(path))
 }
 
-/// The path at which the file of a name is opened, by the path of the first file. The error comes only where a growth was refused.
+/// The path at which the file with a name is opened, given the path of the first file. It fails only if memory runs out.
 pub fn path_of(alloc: Global, first: &[u8], name: &[u8]) -> Result<Text, NoMemory>
     ensures { IfOk result (λ path. path ≡ spec.path_of first.now name.now) }
 {
@@ -110,7 +110,7 @@ pub fn path_of(alloc: Global, first: &[u8], name: &[u8]) -> Result<Text, NoMemor
     beside(alloc, before_last(first, b'/'), name)
 }
 
-/// The path, where it is a text.
+/// The path, if it is a text.
 fn text_path(path: &[u8]) -> Option<&str>
     ensures { MatchOption result (is_utf8 path.now ≡ false) (λ text. (is_utf8 path.now ≡ true) × (text.now ≡ path.now)) }
 {
@@ -120,7 +120,7 @@ fn text_path(path: &[u8]) -> Option<&str>
     }
 }
 
-/// The file of a path, where the path is a text.
+/// The file with a path, if the path is a text.
 fn read_at<P: Paths>(alloc: Global, paths: &P, path: &[u8]) -> Result<FileText, NoMemory>
     ensures { IfOk result (λ text. spec.MayRead (spec.MayBe (P.may_be paths.now) path.now) (text_now text)) }
 {
@@ -133,7 +133,7 @@ fn read_at<P: Paths>(alloc: Global, paths: &P, path: &[u8]) -> Result<FileText, 
     }
 }
 
-/// The names of the files of a folder, where its path is a text.
+/// The names of the files in a folder, if its path is a text.
 fn list_at<P: Paths>(alloc: Global, paths: &P, path: &[u8]) -> Result<Vec<Text>, NoMemory>
     ensures { IfOk result (λ names. spec.MayList (P.may_list paths.now) path.now names.items) }
 {
@@ -146,7 +146,7 @@ fn list_at<P: Paths>(alloc: Global, paths: &P, path: &[u8]) -> Result<Vec<Text>,
     }
 }
 
-/// What is known of the file of a name once it was asked for.
+/// What is known of the file with a name after it was requested.
 fn ask_text<P: Paths>(
     alloc: Global,
     paths: &P,
@@ -160,7 +160,7 @@ fn ask_text<P: Paths>(
     Ok(known_text(text))
 }
 
-/// The names that one with `*` and `?` stands for, among those in its folder.
+/// The names in its folder that match one with `*` and `?`.
 fn names_among(alloc: Global, pattern: &[u8], found: &[Text]) -> Result<Vec<Text>, NoMemory>
     ensures { IfOk result (λ names. names.items ≡ spec.names_among pattern.now found.now) }
 {
@@ -182,7 +182,7 @@ fn sort_names(names: &mut Vec<Text>)
     names.sort_unstable_by(|left, right| left.bytes().cmp(right.bytes()));
 }
 
-/// The names that one with `*` and `?` stands for, among those in its folder, in byte order.
+/// The names in its folder that match one with `*` and `?`, in byte order.
 fn names_in_order(alloc: Global, pattern: &[u8], found: &[Text]) -> Result<NameList, NoMemory>
     ensures { IfOk result (λ names. spec.IsListing pattern.now found.now names) }
 {
@@ -192,7 +192,7 @@ fn names_in_order(alloc: Global, pattern: &[u8], found: &[Text]) -> Result<NameL
     Ok(list)
 }
 
-/// The folder in which the file of a path stands.
+/// The folder that contains the file with a path.
 fn folder_at(alloc: Global, path: &[u8]) -> Result<Text, NoMemory>
     ensures { IfOk result (λ folder. folder ≡ spec.folder_at path.now) }
 {
@@ -214,7 +214,7 @@ fn ask_folder<P: Paths>(
     Ok(found)
 }
 
-/// The names that one with `*` and `?` stands for, once its folder was asked for.
+/// The names that match one with `*` and `?`, after its folder was requested.
 fn ask_names<P: Paths>(
     alloc: Global,
     paths: &P,
@@ -260,11 +260,11 @@ impl<'a, P: Paths> Source for FolderFiles<'a, P> {
     }
 }
 
-/// The text of a dialplan that a loader reads, made of the file of a path and of the files that it includes, which are looked for in its
+/// The text of a dialplan for the loader, made from the file with a path and the files that it includes, which are looked for in its
 /// folder: [`read_dialplan`] of [`FolderFiles`].
 ///
-/// For all files that are as they were when they were asked for, it is that of the definition. What is known of them is what the system
-/// may give.
+/// For all files that are as they were when requested, it is that of the definition. What is known of them is something that the system may
+/// give.
 pub fn read_folder_dialplan<P: Paths>(
     alloc: Global,
     paths: &P,

@@ -1,4 +1,4 @@
-//! The lines of the section `[general]` that a loader reads.
+//! The lines of the section `[general]` for the loader.
 ghost use Rattle.std.specs.Prelude.{◌≡◌, ◌++◌, ◌∷◌, ℕ, List, IfOk, OnOk, slice_get};
 ghost use Rattle.dp_conf.specs.Cut as cuts;
 ghost use Rattle.dp_files.specs.ContextLines.{line_at, section_lines};
@@ -25,7 +25,7 @@ fn is_true_word(value: &[u8]) -> bool
         || same_word(value, b"on")
 }
 
-/// Whether the content of a line says that calls do not end where nothing is left to run.
+/// Whether the content of a line says that calls do not end when nothing is left to run.
 fn turns_off(content: &[u8]) -> bool
     ensures { result ≡ spec.turns_off_by (cuts.cut_once 61 content.now) }
 {
@@ -35,7 +35,7 @@ fn turns_off(content: &[u8]) -> bool
     same_word(trim(key), b"autofallthrough") && !is_true_word(trim(after_sign(value)))
 }
 
-/// What is made of a line.
+/// The result of a line.
 #[tactic(auto, unfolding(crate::specs::GeneralLines::general_made))]
 fn make_general(alloc: Global, line: &[u8]) -> Result<Made, NoMemory>
     ensures { IfOk result (λ made. made ≡ spec.general_made line.now) }
@@ -47,7 +47,7 @@ fn make_general(alloc: Global, line: &[u8]) -> Result<Made, NoMemory>
     Made::standing(alloc, line)
 }
 
-/// Adds what is made of a line.
+/// Adds the result of a line.
 fn read_line(alloc: Global, text: &mut MadeText, place: usize, line: &[u8]) -> Result<(), NoMemory>
     ensures { OnOk result ((rest : List (ℕ × List ℕ)) → steps.told text.new rest
         ≡ steps.told text.old ((place, line.now) ∷ rest)) }
@@ -57,7 +57,7 @@ fn read_line(alloc: Global, text: &mut MadeText, place: usize, line: &[u8]) -> R
     Ok(())
 }
 
-/// Adds what is made of the line at a place, where there is one.
+/// Adds the result of the line at a place, if there is one.
 fn read_place(
     alloc: Global,
     text: &mut MadeText,
@@ -73,12 +73,12 @@ fn read_place(
     }
 }
 
-/// The lines that a loader reads for those of a section `[general]`, and the remarks on these.
+/// The lines for the loader that are made from the lines of a section `[general]`, and the remarks on them.
 ///
-/// It takes the lines of all files, and the places of the section's among them, in order; a place behind the last line is passed over.
-/// All stand as they are but `autofallthrough=no`, which is left out with a note: an exchange with it does not end a call where nothing
-/// is left to run. As the Asterisk documentation's page on its configuration files says, a value is true where it is `yes`, `true`, `y`,
-/// `t`, `1` or `on` in any case, and any other says `no`. The error comes only where a growth was refused.
+/// It takes the lines of all files, and the places of the section's lines among them, in order; a place after the last line is skipped. All
+/// lines are unchanged except `autofallthrough=no`, which is left out with a note: an exchange with it does not end a call when nothing is
+/// left to run. After the Asterisk documentation's page on its configuration files, a value is true if it is `yes`, `true`, `y`, `t`, `1`
+/// or `on` in any case, and any other means `no`. It fails only if memory runs out.
 pub fn read_general(
     alloc: Global,
     lines: &[SourceLine],

@@ -14,11 +14,11 @@ use std::alloc::Global;
 pub struct SectionHeader<'a> {
     /// Its name, without blanks at its ends.
     pub name: &'a [u8],
-    /// What stands in its parentheses, where it has some.
+    /// The text in its parentheses, if it has any.
     pub options: Option<&'a [u8]>,
 }
 
-/// The parentheses of a header, from after their `(`.
+/// The parentheses of a header, given the text after their `(`.
 fn read_options<'a>(name: &'a [u8], after: &'a [u8]) -> Result<SectionHeader<'a>, LineKind>
     ensures { Answers spec.header_now (λ kind. Some kind) result
         (spec.with_options name.now (cut.cut_once 41 after.now)) }
@@ -35,10 +35,10 @@ fn read_options<'a>(name: &'a [u8], after: &'a [u8]) -> Result<SectionHeader<'a>
     })
 }
 
-/// The header of a section, by what stands after its `[` in the content of its line.
+/// The header of a section, given the text after its `[` in the content of its line.
 ///
-/// Blanks between `]` and `(` have no effect. The error is `BadHeader` where there is no `]`, where the name is empty, or where other
-/// bytes stand after the `]`; it is `Template` where there is no `)`, or where bytes other than blanks stand after it.
+/// Blanks between `]` and `(` have no effect. The error is `BadHeader` if there is no `]`, if the name is empty, or if other bytes come
+/// after the `]`; it is `Template` if there is no `)`, or if bytes other than blanks come after it.
 pub fn read_header(inside: &[u8]) -> Result<SectionHeader<'_>, LineKind>
     ensures { Answers spec.header_now (λ kind. Some kind) result (spec.header_of inside.now) }
 {
@@ -63,7 +63,7 @@ impl SectionHeader<'_> {
     ghost use Rattle.std.specs.Prelude.{◌≡◌, IfOk, map};
     ghost use Rattle.dp_files.specs.Headers as spec;
 
-    /// Whether a word in the parentheses is `!`: the section is a template, whose lines count only where other sections name it.
+    /// Whether a word in the parentheses is `!`: the section is a template, whose lines only count if other sections name it.
     pub fn makes_template(&self) -> bool
         ensures { result ≡ spec.makes_template (spec.header_now self.now) }
     {
@@ -73,7 +73,7 @@ impl SectionHeader<'_> {
         }
     }
 
-    /// Whether a word in the parentheses is `+`: the lines after the header go to the section of its name that stands before.
+    /// Whether a word in the parentheses is `+`: the lines after the header are added to the earlier section with its name.
     pub fn is_addition(&self) -> bool
         ensures { result ≡ spec.is_addition (spec.header_now self.now) }
     {
@@ -84,7 +84,8 @@ impl SectionHeader<'_> {
     }
 }
 
-/// Whether one of the words that commas part is this one. Blanks at the ends of a word have no effect (a choice of this program).
+/// Whether one of the words, which are separated by commas, is this one. Blanks at the ends of a word have no effect (a choice of this
+/// program).
 fn has_word(options: &[u8], word: &[u8]) -> bool
     ensures { result ≡ list_any (λ other. same_text other word.now) (spec.words_of options.now) }
 {
@@ -101,7 +102,7 @@ fn names_section(word: &[u8]) -> bool
     !(word.is_empty() || word == b"!".as_slice() || word == b"+".as_slice())
 }
 
-/// The words that name sections, in order. The error comes only where a growth was refused.
+/// The words that name sections, in order. It fails only if memory runs out.
 fn section_names(alloc: Global, options: &[u8]) -> Result<Vec<&[u8]>, NoMemory>
     ensures { IfOk result (λ names. map (λ name. name.now) names.items
         ≡ filter spec.names_section (spec.words_of options.now)) }
@@ -113,8 +114,7 @@ fn section_names(alloc: Global, options: &[u8]) -> Result<Vec<&[u8]>, NoMemory>
         .collect(alloc)
 }
 
-/// The names of the sections whose lines stand before those of a header's section, in order. The error comes only where a growth was
-/// refused.
+/// The names of the sections whose lines come before those of a header's section, in order. It fails only if memory runs out.
 pub(crate) fn parents_of(alloc: Global, header: SectionHeader<'_>) -> Result<Vec<&[u8]>, NoMemory>
     ensures { IfOk result (λ names. map (λ name. name.now) names.items ≡ spec.parents_of (spec.header_now header.entry)) }
 {
@@ -127,7 +127,7 @@ pub(crate) fn parents_of(alloc: Global, header: SectionHeader<'_>) -> Result<Vec
     }
 }
 
-/// The line that is made of a header with parentheses.
+/// The line made from a header with parentheses.
 fn plain_header(alloc: Global, name: &[u8]) -> Result<Text, NoMemory>
     ensures { IfOk result (λ text. text ≡ spec.plain_header name.now) }
 {
@@ -138,10 +138,9 @@ fn plain_header(alloc: Global, name: &[u8]) -> Result<Text, NoMemory>
     Ok(Text::new(line))
 }
 
-/// The line that is made of a header's line: `[NAME]` where the header has parentheses, else the line as it stands. Any other line is
-/// given as it stands.
+/// The line made from a header's line: `[NAME]` if the header has parentheses, else the line unchanged. Any other line is unchanged.
 ///
-/// The error comes only where a growth was refused.
+/// It fails only if memory runs out.
 pub fn header_text(alloc: Global, line: &[u8]) -> Result<Text, NoMemory>
     ensures { IfOk result (λ text. text ≡ spec.made_header line.now) }
 {

@@ -9,14 +9,14 @@ use dp_conf::{NoMemory, Text};
 use indexmap::IndexMap;
 use std::alloc::Global;
 
-/// A label of an extension, which is given by the spelling of its name.
+/// A label of an extension, which is identified by the spelling of its name.
 #[derive(PartialEq, Eq, Hash, Drop)]
 pub(crate) struct ExtensionLabel {
     spelling: Text,
     label: Text,
 }
 
-/// What a line says to those behind it, beside its extension.
+/// What a line leaves for those after it, in addition to its extension.
 #[derive(Clone, Copy)]
 pub(crate) enum Leaves<'a> {
     /// Not even the extension.
@@ -42,7 +42,7 @@ pub(crate) struct History {
 }
 
 impl ExtensionLabel {
-    /// The label of the extension.
+    /// The label with this text of the extension with this spelling.
     fn of(alloc: Global, spelling: &[u8], label: &[u8]) -> Result<Self, NoMemory>
         ensures { IfOk result (λ key. key ≡ steps.label_key spelling.now label.now) }
     {
@@ -52,7 +52,7 @@ impl ExtensionLabel {
     }
 }
 
-/// Adds a label, where there is one.
+/// Adds a label, if there is one.
 fn add_label(
     alloc: Global,
     labels: &mut IndexMap<ExtensionLabel, u64>,
@@ -72,7 +72,7 @@ fn add_label(
 }
 
 impl History {
-    /// Before the first line.
+    /// The value before the first line.
     pub(crate) fn new(alloc: Global) -> Self
         ensures { steps.history_in result ≡ spec.history_of [] }
     {
@@ -104,14 +104,14 @@ impl History {
         }
     }
 
-    /// Whether a hint stands behind the last number.
+    /// Whether a hint comes after the last number.
     pub(crate) fn is_after_hint(&self) -> bool
         ensures { result ≡ (steps.history_in self.now).is_after_hint }
     {
         self.is_after_hint
     }
 
-    /// The number of the label of the extension whose name is spelled so.
+    /// The number of the label of the extension with this spelling.
     pub(crate) fn number_of_label(
         &self,
         alloc: Global,
@@ -133,14 +133,14 @@ impl History {
         self.is_after_hint = true;
     }
 
-    /// Adds a line of the extension that has no number.
+    /// Adds a line of the extension without a number.
     fn name(&mut self, extension: Extension)
         ensures { steps.history_in self.new ≡ steps.after (steps.history_in self.old) (spec.Names extension) }
     {
         self.extension = Some(extension);
     }
 
-    /// Adds a line of the extension that has a number.
+    /// Adds a line of the extension with a number.
     fn count(
         &mut self,
         alloc: Global,

@@ -14,13 +14,13 @@ use dp_conf::{LineKind, NoMemory, Text, line_content};
 use std::alloc::Global;
 use std::marker::PhantomData;
 
-/// What a line asks for: the files of a name.
+/// The request of a line for the files with a name.
 #[derive(Clone, Copy)]
 pub(crate) struct Request<'a> {
     /// The place of the line.
     place: usize,
     name: &'a [u8],
-    /// Whether it is told where there is no such file.
+    /// Whether it is reported if there is no such file.
     required: bool,
 }
 
@@ -28,7 +28,7 @@ pub(crate) struct Request<'a> {
 #[derive(Clone, Copy)]
 pub(crate) struct FileRead<'a> {
     pub(crate) name: &'a [u8],
-    /// The place of the line that includes it.
+    /// The place of the line that includes the file.
     pub(crate) included_by: Option<usize>,
     pub(crate) text: &'a [u8],
 }
@@ -38,17 +38,17 @@ pub(crate) struct FileRead<'a> {
 struct LineRead<'a> {
     file: usize,
     line: usize,
-    /// Whether it has the innermost opening of block comments that are open at the end of the file.
+    /// Whether it has the innermost opening of the block comments that are open at the end of the file.
     opens: bool,
     text: &'a [u8],
 }
 
-/// How the files are read that a line asks for. How deep they may stand inside each other is in the type.
+/// How the files requested by a line are read. The type says how deep they may be nested.
 pub(crate) trait Including<S: Source> {
-    // What is read after the files that a line asks for.
+    // The result after reading the files requested by a line.
     ghost after: { Files → spec.RequestOf → spec.ReadSoFar → spec.ReadSoFar };
 
-    /// Reads the files that a line asks for.
+    /// Reads the files requested by a line.
     fn include(
         alloc: Global,
         source: &mut S,
@@ -61,7 +61,7 @@ pub(crate) trait Including<S: Source> {
         ensures same { (told : Telling) → S.may_tell source.new told → S.may_tell source.old told };
 }
 
-/// In a file that stands inside nine others no file is read.
+/// A file nested inside nine others, in which no file is read.
 pub(crate) struct Deepest;
 
 impl<S: Source> Including<S> for Deepest {
@@ -81,7 +81,7 @@ impl<S: Source> Including<S> for Deepest {
     }
 }
 
-/// Files are read, and in their lines files are read as `I` says.
+/// A file in whose lines files are read as `I` says.
 pub(crate) struct Within<I> {
     inner: PhantomData<I>,
 }
@@ -102,12 +102,12 @@ impl<S: Source, I: Including<S>> Including<S> for Within<I> {
     }
 }
 
-/// What the lines of the first file include: files may stand inside each other ten deep, the first among them.
+/// The lines of the first file: files may be nested ten deep, including the first.
 pub(crate) type First = Within<
     Within<Within<Within<Within<Within<Within<Within<Within<Deepest>>>>>>>>,
 >;
 
-/// Reads the files that a line asks for.
+/// Reads the files requested by a line.
 #[tactic(auto, unfolding(crate::specs::Reading::after_request))]
 fn include_request<S: Source, I: Including<S>>(
     alloc: Global,
@@ -129,7 +129,7 @@ fn include_request<S: Source, I: Including<S>>(
     Ok(())
 }
 
-/// Reads the files of some names, of which there are to be some.
+/// Reads the files with some names, of which there must be at least one.
 fn include_names<S: Source, I: Including<S>>(
     alloc: Global,
     source: &mut S,
@@ -152,7 +152,7 @@ fn include_names<S: Source, I: Including<S>>(
     Ok(())
 }
 
-/// Reads the file of a name, where it is there and there is room for it.
+/// Reads the file with a name, if it exists and there is room for it.
 #[tactic(auto, unfolding(crate::specs::Reading::after_name))]
 fn include_name<S: Source, I: Including<S>>(
     alloc: Global,
@@ -187,7 +187,7 @@ fn include_name<S: Source, I: Including<S>>(
     Ok(())
 }
 
-/// Reads a file that a line names, where one more may be open.
+/// Reads a file that a line names, if one more may be open.
 fn include_file<S: Source, I: Including<S>>(
     alloc: Global,
     source: &mut S,
@@ -209,7 +209,7 @@ fn include_file<S: Source, I: Including<S>>(
     Ok(())
 }
 
-/// Opens a file, and reads its lines with the files in them.
+/// Opens a file, and reads its lines and the files in them.
 #[tactic(auto, unfolding(crate::specs::Reading::after_text))]
 pub(crate) fn read_file<S: Source, I: Including<S>>(
     alloc: Global,
@@ -238,7 +238,7 @@ fn is_open_at(opening: Option<usize>, line: usize) -> bool
     }
 }
 
-/// Reads the lines of a file, with the files in them.
+/// Reads the lines of a file, and the files in them.
 fn read_lines<S: Source, I: Including<S>>(
     alloc: Global,
     source: &mut S,
@@ -263,7 +263,7 @@ fn read_lines<S: Source, I: Including<S>>(
     Ok(())
 }
 
-/// Reads a line of a file, with the files that it asks for.
+/// Reads a line of a file, and the files that it requests.
 #[tactic(auto, unfolding(crate::specs::Reading::after_line))]
 fn read_line<S: Source, I: Including<S>>(
     alloc: Global,
@@ -283,7 +283,7 @@ fn read_line<S: Source, I: Including<S>>(
     Ok(())
 }
 
-/// Does what the line at a place asks for, by its content.
+/// Handles the request of the line at a place, given its content.
 fn follow_line<S: Source, I: Including<S>>(
     alloc: Global,
     source: &mut S,

@@ -1,4 +1,4 @@
-//! What is known of files and names that were asked for.
+//! What is known of requested files and names.
 ghost use Rattle.std.specs.Prelude.{◌≡◌, ◌≤◌, List, Option, ℕ, IfOk, Some};
 ghost use Rattle.dp_files.specs.FolderFiles as spec;
 ghost use Rattle.dp_files.specs.Sources.{length_read, text_now, text_read};
@@ -9,7 +9,7 @@ use dp_conf::{NoMemory, Text};
 use std::alloc::Global;
 use std::marker::Model;
 
-/// What is known of a file that was asked for.
+/// What is known of a requested file.
 #[derive(Drop)]
 pub enum KnownText {
     /// All its bytes.
@@ -20,7 +20,7 @@ pub enum KnownText {
     TooLong,
 }
 
-/// Names, which a contract sees as the list of them.
+/// A list of names. A contract sees it as their list.
 #[derive(Drop)]
 pub struct NameList {
     names: Vec<Text>,
@@ -37,7 +37,7 @@ impl Model for NameList {
 impl NameList {
     ghost use Rattle.std.specs.Prelude.{◌≡◌, IfOk};
 
-    /// These names. It never allocates.
+    /// The list of these names. It never allocates.
     pub(crate) fn new(names: Vec<Text>) -> Self
         ensures { result ≡ names.items }
     {
@@ -53,7 +53,7 @@ impl NameList {
     }
 }
 
-/// What is known of a file once it was read.
+/// What is known of a file after it was read.
 pub(crate) fn known_text(text: FileText) -> KnownText
     ensures { result ≡ spec.known_of (text_now text) }
 {
@@ -64,7 +64,7 @@ pub(crate) fn known_text(text: FileText) -> KnownText
     }
 }
 
-/// What a file of which this is known gives, where it may have so many bytes.
+/// The result of reading a file of which this is known, if it may have this many bytes.
 #[tactic(auto, using(crate::proofs::FolderFilesLemmas::long_for_any))]
 pub(crate) fn read_known(
     alloc: Global,

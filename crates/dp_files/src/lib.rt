@@ -1,5 +1,5 @@
-//! Files as people have them: from the texts of files to a text that a loader reads, with the source line of each of its lines, and
-//! remarks on the lines that it leaves out.
+//! Dialplan files as people write them: from the texts of files to a text for the loader, with the source line of each of its lines, and
+//! remarks on the lines that are left out.
 #![tactic(auto)]
 
 mod comments;

@@ -1,4 +1,4 @@
-//! What is made of a line of a context, and what it leaves for the lines behind it.
+//! The result of a line of a context, and what it leaves for the lines after it.
 ghost use Rattle.std.specs.Prelude.{◌≡◌, IfOk, OnOk, None, Some};
 ghost use Rattle.std.specs.Option.{option_map};
 ghost use Rattle.dp_files.specs.ContextLines as spec;
@@ -16,14 +16,14 @@ use crate::remark::{Fault, Note, RemarkKind};
 use dp_conf::{NoMemory, Text, beside, line_content};
 use std::alloc::Global;
 
-/// What is made of a line: a text, unless it is left out, and a remark, where there is one.
+/// The result of a line: a text, unless the line is left out, and a remark, if there is one.
 #[derive(Drop)]
 pub(crate) struct Made {
     pub(crate) text: Option<Text>,
     pub(crate) remark: Option<RemarkKind>,
 }
 
-/// What is made of a line, and what it says to those behind it.
+/// The result of a line, and what it leaves for those after it.
 #[derive(Drop)]
 pub(crate) struct Reading<'a> {
     pub(crate) leaves: Leaves<'a>,
@@ -31,7 +31,7 @@ pub(crate) struct Reading<'a> {
 }
 
 impl Made {
-    /// The line as it stands.
+    /// The line unchanged.
     pub(crate) fn standing(alloc: Global, line: &[u8]) -> Result<Self, NoMemory>
         ensures { IfOk result (λ made. made ≡ (spec.stands line.now).made) }
     {
@@ -42,7 +42,7 @@ impl Made {
         })
     }
 
-    /// None of the line but a remark.
+    /// Only a remark, without the line.
     pub(crate) fn remark(kind: RemarkKind) -> Self
         ensures { (result.text ≡ None) × (result.remark ≡ Some kind) }
     {
@@ -53,7 +53,7 @@ impl Made {
     }
 }
 
-/// The note of a label that a line before has.
+/// The note on a label that an earlier line has.
 fn double_note(is_double: bool) -> Option<RemarkKind>
     ensures { result ≡ spec.double_note is_double }
 {
@@ -64,7 +64,7 @@ fn double_note(is_double: bool) -> Option<RemarkKind>
     }
 }
 
-/// The label, unless a line before has given it to the extension.
+/// The label, unless an earlier line of the extension has it.
 fn kept_label<'a>(
     alloc: Global,
     history: &History,
@@ -83,7 +83,7 @@ fn kept_label<'a>(
     }
 }
 
-/// What an entry leaves that is left out for its caller's number.
+/// What an entry leaves if it is left out because of its caller's number.
 fn caller_leaves(outcome: Outcome, label: Option<&[u8]>) -> Leaves<'_>
     ensures { (extension : Extension) → steps.said_by extension result
         ≡ spec.caller_said extension (option_map (λ label. label.now) label.entry) outcome }
@@ -126,7 +126,7 @@ fn numbered_reading<'a>(
     })
 }
 
-/// A line of an extension that is left out.
+/// A line of an extension, left out.
 fn left_out<'a>(leaves: Leaves<'a>, note: Note) -> Reading<'a>
     ensures { (extension : Extension) → steps.reading_now extension result
         ≡ spec.left_out (steps.said_by extension leaves.entry) (note_kind note) }
@@ -137,7 +137,7 @@ fn left_out<'a>(leaves: Leaves<'a>, note: Note) -> Reading<'a>
     }
 }
 
-/// A line of an extension that stands as it is.
+/// A line of an extension, unchanged.
 fn standing(alloc: Global, line: &[u8]) -> Result<Reading<'static>, NoMemory>
     ensures { IfOk result (λ reading. (extension : Extension) → steps.reading_now extension reading ≡ spec.stands line.now) }
 {
@@ -148,7 +148,7 @@ fn standing(alloc: Global, line: &[u8]) -> Result<Reading<'static>, NoMemory>
     })
 }
 
-/// The line of an entry, with the label that it keeps, and whether a hint stands before it.
+/// The line of an entry, with the label that it keeps, and whether a hint comes before it.
 #[derive(Clone, Copy)]
 struct KeptLine<'a, 'e> {
     entry: EntryLine<'a, 'e>,
@@ -156,7 +156,7 @@ struct KeptLine<'a, 'e> {
     is_after_hint: bool,
 }
 
-/// The reading of an entry of an extension without a caller's number.
+/// The reading of an entry whose extension has no caller's number.
 fn plain_reading<'a>(
     alloc: Global,
     line: &[u8],
@@ -208,7 +208,7 @@ fn entry_reading<'a>(
     plain_reading(alloc, line, &kept, outcome)
 }
 
-/// The line of an entry, whose extension may be none, as its texts.
+/// The line of an entry, given as its texts, whose extension may not be valid.
 #[derive(Clone, Copy)]
 struct EntrySource<'a> {
     line: &'a [u8],
@@ -216,7 +216,7 @@ struct EntrySource<'a> {
     text: EntryText<'a>,
 }
 
-/// Makes the line of an entry of the extension.
+/// Makes the line of an entry with the extension.
 fn make_entry(
     alloc: Global,
     history: &mut History,
@@ -238,7 +238,7 @@ fn make_entry(
     Ok(made)
 }
 
-/// Makes the line of an entry, where its extension is one.
+/// Makes the line of an entry, if its extension is valid.
 fn make_known(
     alloc: Global,
     history: &mut History,
@@ -255,7 +255,7 @@ fn make_known(
     }
 }
 
-/// Makes a line of a context, and adds what it says to those behind it.
+/// Makes a line of a context, and adds what it leaves for those after it.
 #[tactic(auto, unfolding(crate::specs::ContextLines::line_reading))]
 pub(crate) fn make_line(alloc: Global, history: &mut History, line: &[u8]) -> Result<Made, NoMemory>
     ensures made { IfOk result (λ made. made ≡ (spec.line_reading (steps.history_in history.old) line.now).made) }

@@ -1,4 +1,4 @@
-//! Lines that are made of the lines of files, and what is remarked on these.
+//! Lines made from the lines of files, and the remarks on these.
 ghost use Rattle.std.specs.Prelude.{◌≡◌, ◌++◌, OnOk};
 ghost use Rattle.dp_files.specs.ContextLines as spec;
 ghost use Rattle.dp_files.specs.ToldSteps as steps;
@@ -9,14 +9,14 @@ use crate::source_line::MadeLine;
 use dp_conf::{NoMemory, Text};
 use std::alloc::Global;
 
-/// Lines that a loader reads, made of those of a section or of all sections, and what is remarked on these, both in their order.
+/// Lines for the loader, made from those of one section or of all sections, and the remarks on these, both in order.
 #[derive(Drop)]
 pub struct MadeText {
     pub lines: Vec<MadeLine>,
     pub remarks: Vec<Remark>,
 }
 
-/// Adds the text of a line, where there is one.
+/// Adds the text of a line, if there is one.
 fn push_text(lines: &mut Vec<MadeLine>, source: usize, text: Option<Text>) -> Result<(), NoMemory>
     ensures { OnOk result (lines.new.items ≡ lines.old.items ++ steps.line_of source text) }
 {
@@ -29,7 +29,7 @@ fn push_text(lines: &mut Vec<MadeLine>, source: usize, text: Option<Text>) -> Re
     }
 }
 
-/// Adds a remark on a line, where there is one.
+/// Adds a remark on a line, if there is one.
 fn push_remark(
     remarks: &mut Vec<Remark>,
     source: usize,
@@ -49,7 +49,7 @@ fn push_remark(
 impl MadeText {
     ghost use Rattle.std.specs.Prelude.{◌≡◌, ◌++◌, [], OnOk, OnErr};
 
-    /// No lines. It never allocates.
+    /// Without lines. It never allocates.
     pub(crate) fn new(alloc: Global) -> Self
         ensures lines { result.lines.items ≡ [] }
         ensures remarks { result.remarks.items ≡ [] }
@@ -70,7 +70,7 @@ impl MadeText {
         Ok(())
     }
 
-    /// Adds what is made of a line.
+    /// Adds the result of a line.
     pub(crate) fn push(&mut self, source: usize, made: Made) -> Result<(), NoMemory>
         ensures lines { OnOk result (self.new.lines.items ≡ self.old.lines.items ++ spec.made_line (source, made)) }
         ensures remarks { OnOk result (self.new.remarks.items ≡ self.old.remarks.items ++ spec.remark_on (source, made)) }

@@ -1,4 +1,4 @@
-//! What becomes of a priority.
+//! The outcome of a priority.
 ghost use Rattle.std.specs.Prelude.{◌≡◌, IfOk};
 ghost use Rattle.dp_files.specs.ContextLines as spec;
 ghost use Rattle.dp_files.specs.ContextSteps as steps;
@@ -10,20 +10,20 @@ use crate::priority::{Base, Priority, Written, within_limit};
 use dp_conf::NoMemory;
 use std::alloc::Global;
 
-/// What becomes of a priority.
+/// The outcome of a priority.
 #[derive(Clone, Copy)]
 pub(crate) enum Outcome {
     /// The loader refuses it.
     Refused,
     /// It is a hint.
     Hinted,
-    /// It is an `n` behind a hint, of which the exchange makes no number.
+    /// It is an `n` after a hint, for which the exchange has no number.
     AfterTheHint,
     /// It is this number.
     Numbered(u64),
 }
 
-/// The number with what is added to it, unless the sum is too great.
+/// The number with the added number, unless the sum is too great.
 #[tactic(auto, using(crate::proofs::LimitLemmas::within_limit_capped))]
 fn sum_of(base: Option<u64>, more: Option<u64>) -> Option<u64>
     ensures { result ≡ spec.sum_of base more }
@@ -34,7 +34,7 @@ fn sum_of(base: Option<u64>, more: Option<u64>) -> Option<u64>
     }
 }
 
-/// The number that a priority counts from, for an extension whose name is spelled so.
+/// The number from which a priority counts, for an extension with this spelling.
 fn base_number(
     alloc: Global,
     history: &History,
@@ -62,7 +62,7 @@ fn is_next(base: Base<'_>) -> bool
     }
 }
 
-/// The outcome of a number, where there is one.
+/// The outcome of a number, if there is one.
 fn numbered(number: Option<u64>) -> Outcome
     ensures { result ≡ spec.numbered number }
 {
@@ -94,7 +94,7 @@ fn written_outcome(
     }
 }
 
-/// The outcome of a priority of the extension whose name is spelled so.
+/// The outcome of a priority of the extension with this spelling.
 pub(crate) fn outcome_of(
     alloc: Global,
     history: &History,

@@ -12,16 +12,16 @@ use dp_conf::{cut_once, read_number, same_word, trim};
 /// The greatest priority of an entry.
 const MOST_PRIORITY: u64 = 2_147_483_647;
 
-/// What a priority is counted from.
+/// The base of a priority, from which it counts.
 #[derive(Clone, Copy)]
 pub(crate) enum Base<'a> {
-    /// A number of its own.
+    /// A plain number.
     Number(u64),
-    /// `n` or `next`: the priority after that of the line before.
+    /// `n` or `next`: the priority after that of the previous line.
     Next,
-    /// `s` or `same`: the priority of the line before.
+    /// `s` or `same`: the priority of the previous line.
     Same,
-    /// The priority of the line of the extension that has this label.
+    /// The priority of the line of the extension with this label.
     Label(&'a [u8]),
 }
 
@@ -29,11 +29,11 @@ pub(crate) enum Base<'a> {
 #[derive(Clone, Copy)]
 pub(crate) enum Written<'a> {
     Hint,
-    /// A base, and the number behind a `+`, where there is one.
+    /// A base, and the number after a `+`, if there is one.
     Counted { base: Base<'a>, more: Option<u64> },
 }
 
-/// A priority as it stands in its line.
+/// A priority as written in its line.
 #[derive(Clone, Copy)]
 pub(crate) struct Priority<'a> {
     pub(crate) written: Written<'a>,
@@ -77,7 +77,7 @@ fn number_base(number: u64) -> Option<Base<'static>>
     }
 }
 
-/// What a priority is counted from.
+/// The base of a priority.
 #[tactic(auto, using(crate::proofs::LimitLemmas::number_base_capped))]
 fn read_base(text: &[u8]) -> Option<Base<'_>>
     ensures { option_map view.base_now result ≡ spec.base_of text.now }
@@ -88,7 +88,7 @@ fn read_base(text: &[u8]) -> Option<Base<'_>>
     }
 }
 
-/// The number behind a `+`.
+/// The number after a `+`.
 #[tactic(auto, using(crate::proofs::LimitLemmas::within_limit_capped))]
 fn read_added(text: &[u8]) -> Option<u64>
     ensures { result ≡ spec.added text.now }
@@ -99,7 +99,7 @@ fn read_added(text: &[u8]) -> Option<u64>
     }
 }
 
-/// A base that a number is added to.
+/// A base with an added number.
 fn read_sum<'a>(base: &'a [u8], more: &[u8]) -> Option<Written<'a>>
     ensures { option_map view.written_now result ≡ spec.counted base.now (Some (base.now, more.now)) }
 {
@@ -112,7 +112,7 @@ fn read_sum<'a>(base: &'a [u8], more: &[u8]) -> Option<Written<'a>>
     }
 }
 
-/// A base with or without a number that is added to it.
+/// A base with or without an added number.
 fn read_counted(text: &[u8]) -> Option<Written<'_>>
     ensures { option_map view.written_now result ≡ spec.counted text.now (cuts.cut_once 43 text.now) }
 {
@@ -136,7 +136,7 @@ fn read_written(text: &[u8]) -> Option<Written<'_>>
     read_counted(text)
 }
 
-/// The text without its last byte, where that is a `)`.
+/// The text without its last byte, if that is a `)`.
 fn before_closing(text: &[u8]) -> Option<&[u8]>
     ensures { MatchOption result (spec.without_last 41 text.now ≡ None)
         (λ front. spec.without_last 41 text.now ≡ Some front.now) }
@@ -148,21 +148,21 @@ fn before_closing(text: &[u8]) -> Option<&[u8]>
     Some(front)
 }
 
-/// Whether each byte of the text is a digit.
+/// Whether the text has only digits.
 fn has_digits_alone(text: &[u8]) -> bool
     ensures { result ≡ list_all numbers.is_digit text.now }
 {
     text.iter().all(u8::is_ascii_digit)
 }
 
-/// Whether a parenthesis stands in the text.
+/// Whether the text contains a parenthesis.
 fn has_parenthesis(text: &[u8]) -> bool
     ensures { result ≡ spec.has_parenthesis text.now }
 {
     text.iter().any(|byte| *byte == b'(' || *byte == b')')
 }
 
-/// The label of what stands behind the first `(` of a priority.
+/// The label, given the text after the first `(` of a priority.
 #[tactic(auto, unfolding(crate::specs::Priorities::label_within))]
 fn read_label(text: &[u8]) -> Option<&[u8]>
     ensures { option_map (λ label. label.now) result ≡ spec.label_within text.now }
@@ -190,7 +190,7 @@ fn read_labelled<'a>(written: &'a [u8], label: &'a [u8]) -> Option<Priority<'a>>
     }
 }
 
-/// The priority that the text writes, or None where it is faulty in itself.
+/// The priority that the text writes, or None if it is malformed.
 #[tactic(auto, unfolding(crate::specs::Priorities::priority_of))]
 pub(crate) fn read_priority(text: &[u8]) -> Option<Priority<'_>>
     ensures { option_map view.priority_now result ≡ spec.priority_of text.now }

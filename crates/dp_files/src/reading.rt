@@ -1,4 +1,4 @@
-//! What was read of files that include each other.
+//! The result of reading files that include each other.
 ghost use Rattle.std.specs.Prelude.{◌≡◌, None, IfOk};
 ghost use Rattle.dp_conf.specs.Answers.{Answers};
 ghost use Rattle.dp_files.specs.Reading as spec;
@@ -12,29 +12,29 @@ use dp_conf::{MOST_BYTES, NoMemory, Text};
 use std::alloc::{AllocError, Global};
 use std::marker::Model;
 
-/// How many files may be opened.
+/// The greatest number of opened files.
 const MOST_FILES: usize = 100_000;
 
-/// The files that were read, with the lines that they have together.
+/// The files that were read, with all their lines.
 #[derive(Drop)]
 pub struct FilesRead {
-    /// The files in the order in which they were opened, the first of which is that of the call.
+    /// The files in the order in which they were opened, beginning with the requested one.
     pub files: Vec<SourceFile>,
-    /// The lines of the first file, and after each line that includes files the lines of these.
+    /// The lines of the first file, with the lines of included files after each line that includes them.
     pub lines: Vec<SourceLine>,
-    /// What is told of the lines, in the order in which it is met. That is the order of the lines, but where a line names several files
-    /// with `*` or `?`: what is told of it for one of them comes after what is told of the lines of those before.
+    /// The remarks on the lines, in the order in which they are found. That is the order of the lines, except if a line names several files
+    /// with `*` or `?`: a remark on it for one of them comes after the remarks on the lines of earlier ones.
     pub remarks: Vec<Remark>,
 }
 
 /// Why nothing was read.
 #[derive(Clone, Copy, Debug, PartialEq, Eq)]
 pub enum ReadingFault {
-    /// The first file is not there, or cannot be read.
+    /// The first file does not exist, or cannot be read.
     NotFound,
     /// The first file has more than 16,777,216 bytes.
     TooLong,
-    /// The allocator had no memory.
+    /// Memory ran out.
     NoMemory,
 }
 
@@ -49,7 +49,7 @@ impl From<AllocError> for ReadingFault {
     }
 }
 
-/// What was read so far.
+/// The result of reading so far.
 #[derive(Drop)]
 pub(crate) struct Reading {
     files: Vec<SourceFile>,
@@ -75,7 +75,7 @@ impl Reading {
     ghost use Rattle.std.specs.Prelude.{◌≡◌, IfOk, OnOk, length, nat_le};
     ghost use Rattle.dp_files.specs.Reading as spec;
 
-    /// Nothing. It never allocates.
+    /// The value before the first file. It never allocates.
     fn new(alloc: Global) -> Self
         ensures { result ≡ spec.nothing_read }
     {
@@ -87,21 +87,21 @@ impl Reading {
         }
     }
 
-    /// How many bytes a further file may have.
+    /// The number of bytes that a further file may have.
     pub(crate) fn room(&self) -> usize
         ensures { result ≡ self.now.room }
     {
         self.room
     }
 
-    /// Whether as many files are open as may be.
+    /// Whether as many files are open as allowed.
     pub(crate) fn is_full(&self) -> bool
         ensures { result ≡ nat_le spec.most_files (length self.now.files) }
     {
         MOST_FILES <= self.files.len()
     }
 
-    /// Tells a remark of the line at a place.
+    /// Adds a remark on the line at a place.
     pub(crate) fn tell(&mut self, place: usize, kind: RemarkKind) -> Result<(), NoMemory>
         ensures { OnOk result (self.new ≡ spec.told place kind self.old) }
     {
@@ -112,7 +112,7 @@ impl Reading {
         Ok(())
     }
 
-    /// Notes that block comments are open at the end of a file, at the line of the innermost opening.
+    /// Notes that block comments are open at the end of a file, on the line of the innermost opening.
     pub(crate) fn note_comment(&mut self, opens: bool, place: usize) -> Result<(), NoMemory>
         ensures { OnOk result (self.new ≡ spec.after_comment opens place self.old) }
     {
@@ -122,7 +122,7 @@ impl Reading {
         Ok(())
     }
 
-    /// Tells that a file is not there, where it is to be there.
+    /// Reports that a file does not exist, if it must.
     pub(crate) fn miss(&mut self, required: bool, place: usize) -> Result<(), NoMemory>
         ensures { OnOk result (self.new ≡ spec.after_miss required place self.old) }
     {
@@ -132,7 +132,7 @@ impl Reading {
         Ok(())
     }
 
-    /// Adds a line of a file, and gives its place.
+    /// Adds a line of a file, and returns its place.
     pub(crate) fn add_line(
         &mut self,
         alloc: Global,
@@ -149,7 +149,7 @@ impl Reading {
         Ok(place)
     }
 
-    /// Opens a file of so many bytes, and gives its number.
+    /// Opens a file with this many bytes, and returns its number.
     pub(crate) fn open_file(
         &mut self,
         alloc: Global,
@@ -167,7 +167,7 @@ impl Reading {
         Ok(number)
     }
 
-    /// What was read.
+    /// The files that were read.
     fn into_files_read(self) -> FilesRead
         ensures { spec.files_read result ≡ spec.files_of self }
     {
@@ -185,7 +185,7 @@ impl Reading {
     }
 }
 
-/// The lines of the first file, of which this is the text, and of the files that it includes.
+/// The lines of the first file, which has this text, and of the files that it includes.
 fn read_first<S: Source>(
     alloc: Global,
     source: &mut S,
@@ -207,17 +207,17 @@ fn read_first<S: Source>(
     Ok(reading.into_files_read())
 }
 
-/// The lines of a file and of the files that it includes, with what is told of them.
+/// The lines of a file and of the files that it includes, with the remarks on them.
 ///
 /// Block comments are left out of each line, and a line keeps the comment that ends it. A line whose content begins with `#` is a
-/// directive, whose word may be in any case. After `#include NAME` come the lines of the file of that name, or where the last part of
-/// NAME has a `*` or a `?` those of all files that it stands for, in byte order. `#tryinclude NAME` is the same, and tells nothing of a
-/// file that is not there. NAME may stand in `"`, in `'`, or in `<` and `>`. `#exec` is noted and runs nothing.
+/// directive, whose word may be in any case. After `#include NAME` come the lines of the file with that name, or, if the last part of NAME
+/// contains a `*` or a `?`, those of all matching files, in byte order. `#tryinclude NAME` is the same, but reports nothing if a file does
+/// not exist. NAME may be in `"`, in `'`, or in `<` and `>`. `#exec` is noted and runs nothing.
 ///
-/// Files may stand inside each other at most 10 deep, the first among them. They may be 100,000 and have 16,777,216 bytes together:
-/// a file that goes past this is left out with a fault at the line that names it, and each other line is read.
+/// Files may be nested at most 10 deep, including the first. There may be 100,000 files with 16,777,216 bytes in total: a file beyond this
+/// is left out with a fault on the line that names it, and every other line is read.
 ///
-/// The fault is `NotFound` where the first file is not there, `TooLong` where it has too many bytes, or out-of-memory.
+/// The fault is `NotFound` if the first file does not exist or cannot be read, `TooLong` if it has too many bytes, or out-of-memory.
 #[tactic(auto, unfolding(crate::specs::Reading::reading_of))]
 pub fn read_files<S: Source>(
     alloc: Global,

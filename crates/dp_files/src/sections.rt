@@ -1,5 +1,5 @@
-//! The sections of the lines of files, after the Asterisk documentation's pages on configuration files: on their format, on includes and
-//! on templates.
+//! The sections in the lines of files, after the Asterisk documentation's pages on configuration files: on their format, on includes and on
+//! templates.
 ghost use Rattle.std.specs.Prelude.{◌≡◌, ◌≤◌, ◌++◌, ◌∷◌, [], IfOk, OnOk, IfSome, Ok, Some, None, map, vec_len};
 ghost use Rattle.std.specs.Option.{option_map, option_zip};
 ghost use Rattle.dp_conf.specs.Changes.{changed_at};
@@ -15,10 +15,10 @@ use dp_conf::{ConfFault, LineKind, NoMemory, Text, line_content, read_line, same
 use std::alloc::Global;
 use std::marker::Model;
 
-/// How many places of lines the headers of all files may copy, so that templates of templates do not fill the memory.
+/// The greatest number of line places that the headers of all files may copy, so that templates of templates do not fill the memory.
 pub const MOST_COPIED: usize = 16_777_216;
 
-/// Places of lines among the lines of all files, in the order in which a section has them.
+/// Places of lines among the lines of all files, in the order of a section.
 ///
 /// A contract sees it as the list of the places.
 #[derive(Drop)]
@@ -37,14 +37,14 @@ impl Model for Places {
 impl Places {
     ghost use Rattle.std.specs.Prelude.{◌≡◌, ◌++◌, OnOk, OnErr};
 
-    /// These places. It never allocates.
+    /// The list of these places. It never allocates.
     pub fn new(places: Vec<usize>) -> Self
         ensures { result ≡ places.items }
     {
         Places { places }
     }
 
-    /// Adds places after the others. After a refused growth all is as before.
+    /// Adds places at the end. If memory runs out nothing changes.
     pub fn extend(&mut self, more: &[usize]) -> Result<(), NoMemory>
         ensures ok { OnOk result (self.new ≡ self.old ++ more.now) }
         ensures err { OnErr result (self.new ≡ self.old) }
@@ -61,20 +61,20 @@ impl Places {
     }
 }
 
-/// A section of the lines of files.
+/// A section in the lines of files.
 #[derive(Drop)]
 pub struct SourceSection {
-    /// The place of the line that is its header. None for the first section, of the lines before any header.
+    /// The place of its header's line. None for the first section, which has the lines before any header.
     pub header: Option<usize>,
-    /// The name in its header, and no byte without one.
+    /// The name in its header, or an empty one without a header.
     pub name: Text,
-    /// Its lines count only where other sections name it.
+    /// Whether its lines only count if other sections name it.
     pub is_template: bool,
     /// The places of its lines: first those of the sections that its header names, then its own.
     pub lines: Places,
 }
 
-/// The sections of the lines of files, with remarks on lines.
+/// The sections in the lines of files, with remarks on lines.
 #[derive(Drop)]
 pub struct Sections {
     /// The sections in the order of their headers. The first has no header.
@@ -90,35 +90,35 @@ struct HeaderLine<'a> {
     header: SectionHeader<'a>,
 }
 
-/// Which section a header opens.
+/// The section that a header opens.
 #[derive(Clone, Copy)]
 enum Opening {
     /// A new one.
     New,
-    /// The one at a place, which stands already.
+    /// The existing one at a place.
     Extends(usize),
 }
 
-/// The section that a header opens, and those that it names.
+/// The section that a header opens, and the sections that it names.
 #[derive(Drop)]
 struct NamedSections {
     opening: Opening,
-    /// Those whose lines it copies.
+    /// The sections whose lines it copies.
     parents: Vec<usize>,
 }
 
-/// What was read so far.
+/// The result of reading so far.
 #[derive(Drop)]
 struct Reading {
     sections: Vec<SourceSection>,
     remarks: Vec<Remark>,
-    /// For each file the section that is open after its last line so far.
+    /// For each file, the section that is open after its last line so far.
     open_in: Vec<Option<usize>>,
-    /// How many places may still be copied.
+    /// The number of places that may still be copied.
     room: usize,
 }
 
-/// The place of the first section of a name, in any case.
+/// The place of the first section with a name, in any case.
 fn place_of(sections: &[SourceSection], name: &[u8]) -> Option<usize>
     ensures { result ≡ spec.place_of sections.now name.now }
 {
@@ -127,7 +127,7 @@ fn place_of(sections: &[SourceSection], name: &[u8]) -> Option<usize>
         .position(|section| same_word(section.name.bytes(), name))
 }
 
-/// The places of the sections of these names, where there is one of each.
+/// The places of the sections with these names, if all of them exist.
 fn places_of(
     alloc: Global,
     sections: &[SourceSection],
@@ -156,7 +156,7 @@ fn lines_at(sections: &[SourceSection], place: usize) -> &[usize]
     }
 }
 
-/// The lines of the sections at these places, one section after another, where they are no more than may be copied.
+/// The lines of the sections at these places, one section after another, unless there are more than may be copied.
 #[tactic(auto, unfolding(crate::specs::Sections::copies_within))]
 fn copies_within(
     alloc: Global,
@@ -179,7 +179,7 @@ fn copies_within(
     Ok(Some(copies))
 }
 
-/// Which section a header opens: a new one, or with `+` the first one of its name, where there is one.
+/// The section that a header opens: a new one, or with `+` the first one with its name, if there is one.
 #[tactic(auto, unfolding(crate::specs::Sections::opening_of))]
 fn opening_of(sections: &[SourceSection], header: SectionHeader<'_>) -> Option<Opening>
     ensures { result ≡ spec.opening_of sections.now (headers.header_now header.entry) }
@@ -193,7 +193,7 @@ fn opening_of(sections: &[SourceSection], header: SectionHeader<'_>) -> Option<O
     }
 }
 
-/// The section that a header opens, and those that it names, where there is one of each name.
+/// The section that a header opens, and the sections that it names, if all of them exist.
 fn named_sections(
     alloc: Global,
     sections: &[SourceSection],
@@ -227,7 +227,7 @@ fn add_lines(
     Ok(())
 }
 
-/// Extends the section at a place by a header.
+/// Extends the section at a place with a header.
 fn extend_section(
     sections: &mut Vec<SourceSection>,
     place: usize,
@@ -265,7 +265,7 @@ fn begin_section(
     Ok(())
 }
 
-/// Opens the section of a header with these lines of other sections, and gives its place.
+/// Opens the section of a header with these lines of other sections, and returns its place.
 #[tactic(auto, unfolding(crate::specs::Sections::sections_after))]
 fn open_section(
     alloc: Global,
@@ -291,7 +291,7 @@ fn open_section(
     }
 }
 
-/// Tells a fault of the line at a place.
+/// Reports a fault of the line at a place.
 fn tell(remarks: &mut Vec<Remark>, place: usize, fault: Fault) -> Result<(), NoMemory>
     ensures { OnOk result (remarks.new.items ≡ remarks.old.items ++ parts.fault_at place fault ∷ []) }
 {
@@ -302,7 +302,7 @@ fn tell(remarks: &mut Vec<Remark>, place: usize, fault: Fault) -> Result<(), NoM
     Ok(())
 }
 
-/// The lines that a header copies: those of its parents, or none where they are too many, with a remark.
+/// The lines that a header copies: those of its parents, or none with a remark if there are too many.
 #[tactic(auto, unfolding(crate::specs::Sections::with_copies))]
 fn lines_to_copy(
     alloc: Global,
@@ -325,7 +325,7 @@ fn lines_to_copy(
     }
 }
 
-/// Takes a header where a section is open, and gives the section that is open after it.
+/// Takes a header, given the open section, and returns the section that is open after it.
 #[tactic(auto, unfolding(crate::specs::Sections::after_named_header))]
 fn take_header(
     alloc: Global,
@@ -377,7 +377,7 @@ fn take_header_line(
     }
 }
 
-/// Takes a line that is no header and no directive.
+/// Takes a line that is neither a header nor a directive.
 #[tactic(auto, unfolding(crate::specs::Sections::after_item))]
 fn take_plain_line(
     reading: &mut Reading,
@@ -398,7 +398,7 @@ fn take_plain_line(
     Ok(())
 }
 
-/// Takes a line, by its content, where a section is open, and gives the section that is open after it.
+/// Takes a line, given its content and the open section, and returns the section that is open after it.
 #[tactic(auto, unfolding(crate::specs::Sections::after_content))]
 fn take_content(
     alloc: Global,
@@ -433,7 +433,7 @@ fn open_after(open_in: &[Option<usize>], file: usize) -> Option<usize>
     }
 }
 
-/// The file whose line includes a file.
+/// The file with the line that includes a file.
 fn including(files: &[SourceFile], lines: &[SourceLine], file: usize) -> Option<usize>
     ensures { result ≡ spec.including files.now lines.now file }
 {
@@ -461,7 +461,7 @@ fn section_of_next(
     }
 }
 
-/// Keeps the section that is open after the last line of a file.
+/// Keeps the section that is open after the last line of a file so far.
 fn keep_open(open_in: &mut Vec<Option<usize>>, file: usize, current: usize)
     ensures { open_in.new.items ≡ changed_at (λ _. Some current) file open_in.old.items }
 {
@@ -487,14 +487,14 @@ fn take_line(
     Ok(())
 }
 
-/// For each file that it has no open section yet.
+/// For each file, no open section yet.
 fn none_open(alloc: Global, files: &[SourceFile]) -> Result<Vec<Option<usize>>, NoMemory>
     ensures { IfOk result (λ open_in. open_in.items ≡ map (λ file. None) files.now) }
 {
     files.iter().map(|_file| None).collect(alloc)
 }
 
-/// What is read before the first line: a section without a header.
+/// The value before the first line: one section without a header.
 fn before_lines(alloc: Global, files: &[SourceFile]) -> Result<Reading, NoMemory>
     ensures { IfOk result (λ reading. parts.reading_now reading ≡ spec.before_lines files.now) }
 {
@@ -514,24 +514,24 @@ fn before_lines(alloc: Global, files: &[SourceFile]) -> Result<Reading, NoMemory
     })
 }
 
-/// The sections of the lines of files: all lines of all files in the order in which they are read, each include's own line and then those
-/// of the file that it includes.
+/// The sections in the lines of files: all lines of all files in the order in which they are read, where each include's own line comes
+/// before those of the file that it includes.
 ///
 /// A line belongs to the section of the last header before it in its file; before the first header of a file, to the section that is open
-/// in the file that includes it; else to the first section, which has no header. A line without a content stays in its section, and a
-/// line that begins with `#` is in none.
+/// in the file that includes it; else to the first section, which has no header. A line without content stays in its section, and a line
+/// that begins with `#` is in none.
 ///
-/// A header begins a section, even if one of its name stands before. With the word `!` the section is a template. With `+` the header
-/// adds to the first section of its name, and begins none. Each other word names a section before it: the lines that the first section of
-/// that name has so far are copied to the front of this one, or with `+` to the end of the one that is there, in the order of the words.
-/// Names are compared without regard to case.
+/// A header begins a section, even if there is an earlier one with its name. With the word `!` the section is a template. With `+` the
+/// header adds to the first section with its name, and begins none. Every other word names an earlier section: the lines that the first
+/// section with that name has so far are copied to the front of this one, or with `+` to the end of the existing one, in the order of the
+/// words. Names are compared without regard to case.
 ///
-/// A faulty line gets a remark, and is in no section: a pair before any header (`NoSection`), a line with no `=` (`NoEquals`), and a faulty
-/// header, which begins no section (`BadHeader`, or `Template` for its parentheses and for a word that names no section). All headers
-/// together copy no more than [`MOST_COPIED`] lines: one that would copy more gets the remark `TooLong`, and copies none. This limit, and
-/// that only the faulty line is left out, are choices of this program.
+/// A faulty line gets a remark, and is in no section: a pair before any header (`NoSection`), a line without a `=` (`NoEquals`), and a
+/// faulty header, which begins no section (`BadHeader`, or `Template` for its parentheses and for a word that names no section). All
+/// headers together copy at most [`MOST_COPIED`] lines: one that would copy more gets the remark `TooLong`, and copies none. This limit,
+/// and leaving out only the faulty line, are choices of this program.
 ///
-/// The error comes only where a growth was refused.
+/// It fails only if memory runs out.
 #[tactic(auto, unfolding(crate::specs::Sections::sections_of))]
 pub fn read_sections(
     alloc: Global,

@@ -1,11 +1,11 @@
-//! The lines of the files that were read, and the lines that are made of them.
+//! The lines of the files that were read, and the lines made from them.
 
 use dp_conf::Text;
 
-/// A file that was opened. Files are numbered from 0 in the order in which they are opened; one that is opened twice has two numbers.
+/// An opened file. Files are numbered from 0 in the order in which they are opened; one that is opened twice has two numbers.
 #[derive(Debug, PartialEq, Eq, Drop)]
 pub struct SourceFile {
-    /// The name as it was opened.
+    /// The name with which it was opened.
     pub name: Text,
     /// The place, among the lines of all files, of the line that includes the file. None for the first file.
     pub included_by: Option<usize>,
@@ -18,14 +18,14 @@ pub struct SourceLine {
     pub file: usize,
     /// Its number in the file, counted from 1.
     pub line: usize,
-    /// Its bytes, without those that block comments cover.
+    /// Its bytes, without those in block comments.
     pub text: Text,
 }
 
 /// A line of the text that is made.
 #[derive(Debug, PartialEq, Eq, Drop)]
 pub struct MadeLine {
-    /// The place, among the lines of all files, of the line that it is made of.
+    /// The place, among the lines of all files, of the line from which it is made.
     pub source: usize,
     /// Its bytes.
     pub text: Text,

@@ -1,4 +1,4 @@
-//! Names of files with `*` and `?`, as `#include` takes them, after the Asterisk documentation's page on its configuration files.
+//! Names of files with `*` and `?`, as in `#include`, after the Asterisk documentation's page on its configuration files.
 ghost use Rattle.std.specs.Prelude.{◌≡◌, drop};
 ghost use Rattle.std.specs.Option.{option_map};
 ghost use Rattle.dp_conf.specs.Cut.{begins_with};
@@ -7,7 +7,7 @@ ghost use Rattle.dp_files.specs.steps.Wildcards as steps;
 
 use dp_conf::before_last;
 
-/// A `*` that was met: what comes after it in the pattern, and where in the name it ends for now.
+/// A `*` that was found: the rest of the pattern after it, and the place in the name where it ends for now.
 #[derive(Clone, Copy)]
 struct Star<'a> {
     pattern: &'a [u8],
@@ -34,7 +34,7 @@ fn begins_with_star(pattern: &[u8]) -> bool
     }
 }
 
-/// Whether the first byte of a pattern, which is no `*`, stands for the first byte of a name.
+/// Whether the first byte of a pattern, which is not a `*`, matches the first byte of a name.
 fn first_fits(pattern: &[u8], name: &[u8]) -> bool
     ensures { result ≡ steps.first_fits pattern.now name.now }
 {
@@ -44,7 +44,7 @@ fn first_fits(pattern: &[u8], name: &[u8]) -> bool
     }
 }
 
-/// The last `*`, where it may end one byte later.
+/// The last `*`, ending one byte later if possible.
 fn next_star(star: Option<Star<'_>>) -> Option<Star<'_>>
     ensures { option_map steps.star_now result ≡ steps.next_star (option_map steps.star_now star.entry) }
 {
@@ -56,9 +56,9 @@ fn next_star(star: Option<Star<'_>>) -> Option<Star<'_>>
     })
 }
 
-/// Whether a pattern stands for a text. `*` stands for any bytes, also for none, `?` for one byte, and each other byte for itself.
+/// Whether a pattern matches a text. `*` matches any number of bytes, `?` matches one byte, and every other byte matches itself.
 ///
-/// It never allocates, and its time grows with the product of both lengths at most.
+/// It never allocates, and takes time at most proportional to the product of both lengths.
 pub fn matches_wildcard(pattern: &[u8], text: &[u8]) -> bool
     ensures { result ≡ spec.matches pattern.now text.now }
 {
@@ -86,7 +86,7 @@ pub fn matches_wildcard(pattern: &[u8], text: &[u8]) -> bool
     true
 }
 
-/// The last part of a name: what stands after its last `/`, or all of it.
+/// The last part of a name: the text after its last `/`, or all of it.
 #[tactic(auto, using(crate::proofs::WildcardsLemmas::folder_shorter))]
 fn last_part(name: &[u8]) -> &[u8]
     ensures { result.now ≡ spec.last_part name.now }
@@ -97,7 +97,7 @@ fn last_part(name: &[u8]) -> &[u8]
     }
 }
 
-/// Whether the last part of a name has a `*` or a `?`, so that it stands for other names.
+/// Whether the last part of a name contains a `*` or a `?`, so that it matches other names.
 pub fn is_wildcard(name: &[u8]) -> bool
     ensures { result ≡ spec.is_wildcard name.now }
 {
@@ -116,8 +116,8 @@ fn same_folder(a: Option<&[u8]>, b: Option<&[u8]>) -> bool
     }
 }
 
-/// Whether a name with `*` and `?` in its last part stands for a name. Up to the last `/` both are the same, and what comes after it
-/// matches as [`matches_wildcard`] has it. A name that begins with `.` is like any other (a choice of this program).
+/// Whether a name with `*` and `?` in its last part matches a name. Up to the last `/` both are the same, and the rest matches in the sense
+/// of [`matches_wildcard`]. A name that begins with `.` is like any other (a choice of this program).
 #[tactic(auto, unfolding(crate::specs::Wildcards::stands_for))]
 pub fn stands_for(pattern: &[u8], name: &[u8]) -> bool
     ensures { result ≡ spec.stands_for pattern.now name.now }

@@ -1,4 +1,4 @@
--- A dialplan that can be written and read again, and the lines that say it.
+-- A dialplan that can be written and read again, and its lines.
 use Rattle.std.proofs.Common.{◌≡◌, ℕ, ◌+◌, Bool, false, List, [], ◌∷◌, ◌++◌, map, codes}
 use Rattle.std.specs.List.{AllByRecursion, flat_map}
 use Rattle.dp_conf.specs.Lines.{LineOf, Header, Pair}
@@ -10,16 +10,16 @@ use Rattle.dp_plan.specs.declared.plan.GlobalVariable.{GlobalVariable}
 use Rattle.dp_plan.proofs.PartsKnown.{IsContextName, IsGlobal, IsEntry, IsIncluded}
 use Rattle.dp_lister.specs.Listing.{priority_text}
 
--- none of the elements is taken by those before it
+-- no element is taken by those before it
 abbrev pub IsFresh : {X : Type 0} → (List X → X → Bool) → List X → List X → Type 0
 IsFresh taken before [] = Unit {0}
 IsFresh taken before (x ∷ xs) = (taken before x ≡ false) × IsFresh taken (before ++ x ∷ []) xs
 
--- the entries of a context, as lines add them
+-- the entries of a context, as its lines add them
 abbrev pub additions_of : PlanContext → List Addition
 additions_of context = map (λ entry. record { context = context.name; entry = entry }) context.entries
 
--- a context, of whose entries none takes the place or the label of one before it
+-- a context in which no entry takes the place or the label of one before it
 pub record IsContext (context : PlanContext) : Type 0 where
   pub name : IsContextName context.name
   pub entries : AllByRecursion IsEntry context.entries
@@ -32,7 +32,7 @@ pub record IsCanonical (plan : PlanOf) : Type 0 where
   pub contexts : AllByRecursion IsContext plan.contexts
   pub names : IsFresh is_named [] (map (λ context. context.name) plan.contexts)
 
--- ---- the lines that say a dialplan
+-- ---- the lines of a dialplan
 
 -- an application with its arguments
 abbrev pub called_text : List ℕ → List ℕ → List ℕ
@@ -43,7 +43,7 @@ abbrev pub entry_text : Entry → List ℕ
 entry_text entry =
     spelling entry.name ++ 44 ∷ (priority_text entry.priority entry.label ++ 44 ∷ called_text entry.application entry.arguments)
 
--- the lines, by their numbers
+-- the lines, given their numbers
 abbrev pub header_of : List ℕ → ℕ → LineOf
 header_of name line = Header line name
 

@@ -1,4 +1,4 @@
--- The line of an entry is read as the entry again.
+-- The line of an entry is read as the same entry.
 use Rattle.std.proofs.Common.{◌≡◌, ℕ, ◌+◌, ◌*◌, ◌<◌, ◌≤◌, ◌^◌, true, false, ◌&&◌, ◌==◌, eqb, nat_le, List, [], ◌∷◌, ◌++◌, fold, length, Option, Some, None, Ok, decimal, refl, ap, ◌∙◌, sym, subst, arith, append_assoc, append-nil}
 use Rattle.std.specs.List.{AllByRecursion, list_any, list_all}
 use Rattle.std.specs.Char.{digit_value}
@@ -95,7 +95,7 @@ written_of-digits first rest number digits value priority =
     let all : list_all is_digit (first ∷ rest) ≡ true = all-digits (first ∷ rest) digits in
     simp (no_h, no_n, no_s, no_plus, all, value, no_zero, fits) refl
 
--- a priority with its label, where it has one, is read as it is
+-- a priority with its label, if it has one, is read as it was written
 written_priority-again : (priority : ℕ) (label : Option (List ℕ)) → IsPriority priority → IsLabelled label → written_priority (priority_text priority label) ≡ Ok (Number priority, label)
 unfolding written_priority
 written_priority-again priority None fine labelled =
@@ -163,7 +163,7 @@ called_text-trimmed name arguments fine =
 fine_byte : (b : ℕ) → is_bad b ≡ false → is_blank b ≡ false
 fine_byte b e = grind (arith, nat_tests)
 
--- no byte of a spelling is a blank
+-- a spelling contains no blank
 pub spelling-firm : (name : Meaning) → IsName name → AllByRecursion (λ b. is_blank b ≡ false) (spelling name)
 spelling-firm name known =
     each-weaker (λ b. is_bad b ≡ false) (λ b. is_blank b ≡ false) fine_byte (spelling name) (none-any is_bad (spelling name) (spells_cleanly.fine name known))
@@ -214,7 +214,7 @@ firm-before : (text rest : List ℕ) → AllByRecursion (λ b. is_blank b ≡ fa
 firm-before [] rest firm = refl
 firm-before (b ∷ text) rest firm = firm.0
 
--- the value of an entry's line is trimmed and one line
+-- the value of an entry's line is trimmed and a single line
 pub entry_text-value : (entry : Entry) → IsEntry entry → IsValue (entry_text entry)
 entry_text-value entry fine =
     let closed = trim_end-after (40 ∷ entry.arguments) 41 [] refl in

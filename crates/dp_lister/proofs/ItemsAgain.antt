@@ -1,4 +1,4 @@
--- The lines that say a dialplan are read as its items.
+-- The lines of a dialplan are read as its items.
 use Rattle.std.proofs.Common.{◌≡◌, ℕ, ◌+◌, ◌==◌, List, [], ◌∷◌, ◌++◌, map, Result, Ok, codes, refl, ap, ◌∙◌, sym, subst, append_assoc}
 use Rattle.std.specs.List.{AllByRecursion, flat_map}
 use Rattle.std.specs.Option.{option_or, unwrap_or}
@@ -23,7 +23,7 @@ use Rattle.dp_plan.proofs.ItemsKnown.{IsFineSection}
 
 -- ---- items and their lines
 
--- the line that says an item
+-- the line of an item
 abbrev say : ℕ → Item → LineOf
 say line x =
     by_item (λ y. LineOf) (by_section (λ s. LineOf) (Header line (codes "general")) (Header line (codes "globals")) (Header line))
@@ -36,23 +36,23 @@ with_line line x =
     by_item (λ y. Item) (λ section. Begins section) (λ global. Sets global) (λ old context entry. Adds line context entry)
     (λ old context name. Includes line context name) (λ old. Unknown line) x
 
--- the items at the lines after so many
+-- the items at the lines after this many
 abbrev pub items_from : ℕ → List Item → List Item
 items_from n [] = []
 items_from n (x ∷ xs) = with_line (n + 1) x ∷ items_from (n + 1) xs
 
--- what says the items, by the number of the line
+-- the lines of the items, given their numbers
 abbrev says : List Item → List (ℕ → LineOf)
 says xs = map (λ x line. say line x) xs
 
--- ---- items that stand in their sections
+-- ---- items in their sections
 
 -- the section after an item
 abbrev pub section_after : Section → Item → Section
 section_after section x =
     by_item (λ y. Section) (λ next. next) (λ global. section) (λ line context entry. section) (λ line context name. section) (λ line. section) x
 
--- the item may stand in the section
+-- the item is allowed in the section
 abbrev pub Stands : Section → Item → Type 0
 Stands section x =
     by_item (λ y. Type 0) IsFineSection (λ global. (section ≡ Globals) × IsGlobal global)
@@ -147,7 +147,7 @@ says-plan plan =
     ap (numbered_lines 0) (map-append (λ x line. say line x) (items_of_globals plan.globals) (items_of_contexts plan.contexts)
     ∙ (λ k. say_globals plan.globals k ++ say_contexts plan.contexts k))
 
--- those items stand in their sections
+-- those items are in their sections
 
 stand-globals : (globals : List GlobalVariable) (rest : List Item) → AllByRecursion IsGlobal globals → AllStand Globals rest → AllStand Globals (map (λ g. Sets g) globals ++ rest)
 stand-globals [] rest fine after = after

@@ -1,4 +1,4 @@
--- The lines that are written for items are read as headers and pairs again.
+-- The lines written for items are read as headers and pairs again.
 use Rattle.std.proofs.Common.{◌≡◌, ℕ, ◌+◌, Bool, true, false, cond, ◌||◌, ◌==◌, List, [], ◌∷◌, ◌++◌, map, length, drop, Result, Ok, Err, codes, refl, ap, ◌∙◌, sym, subst, append_assoc, length-append}
 use Rattle.std.specs.List.{AllByRecursion, list_any}
 use Rattle.std.specs.Str.{byte}
@@ -17,7 +17,7 @@ use Rattle.dp_lister.specs.Listing.{header_line, text_of}
 use Rattle.dp_plan.proofs.PartsKnown.{IsKey, IsValue, IsHeaderName}
 use Rattle.dp_conf.proofs.TextLemmas.{Avoids, each-append, IsTrimmed, trim-trimmed, trim_end-after, trim_end-blank, firm-after, trim-blank_after, trim-blank_before, cut_once-here}
 
--- ---- a line that is written
+-- ---- a written line
 
 drop-all : {X : Type 0} (xs : List X) → drop (length xs) xs ≡ []
 drop-all [] = refl
@@ -27,7 +27,7 @@ drop-all (x ∷ xs) = drop-all xs
 comment_of-escape_text : (text : List ℕ) → comment_of (escape_text text) ≡ []
 comment_of-escape_text text = ap (λ n. drop n (escape_text text)) (comment_start-escape_text line_feed text) ∙ drop-all (escape_text text)
 
--- a written line is read by its trimmed text
+-- a written line is read from its trimmed text
 part_item-written : (in_section : Bool) (line : ℕ) (text : List ℕ) → part_item in_section line (escape_text text) ≡ item_of in_section line (trim text)
 part_item-written in_section line text =
     ap (λ (comment : List ℕ). cond {A = Result (List LineOf) LineKind} (opens_block comment) (Err BlockComment) (item_of in_section line (content_of (escape_text text)))) (comment_of-escape_text text)
@@ -56,7 +56,7 @@ header_reads in_section line name fine =
 abbrev pub pair_line : List ℕ → List ℕ → List ℕ
 pair_line key value = key ++ (codes " => " ++ value)
 
--- what a trimmed line shows of a value
+-- the value in a trimmed line
 abbrev value_shown : List ℕ → List ℕ
 value_shown [] = []
 value_shown (v ∷ value) = 32 ∷ v ∷ value
@@ -100,7 +100,7 @@ escape_text-one_line (b ∷ text) a = by (escape_text-one_line text a.1) (b == b
   by rest true e = subst (Avoids 10) (sym (escape_text-semicolon b text e)) (refl, (a.0, rest))
   by rest false e = subst (Avoids 10) (sym (escape_text-other b text e)) (a.0, rest)
 
--- the parts of lines that are written are these lines, escaped, and an empty part
+-- the parts of written lines are these lines, escaped, and an empty part
 parts_of-text_of : (lines : List (List ℕ)) → AllByRecursion (Avoids 10) lines → parts_of (text_of lines) ≡ map escape_text lines ++ [] ∷ []
 parts_of-text_of [] a = refl
 parts_of-text_of (line ∷ lines) a =
@@ -110,15 +110,15 @@ parts_of-text_of (line ∷ lines) a =
 
 -- ---- lines one after another
 
--- a line is read as what it says, after a header
+-- a line is read as its item, after a header
 abbrev pub ReadsAs : List ℕ → (ℕ → LineOf) → Type 0
 ReadsAs text item = (line : ℕ) → item_of true line (trim text) ≡ Ok (item line ∷ [])
 
--- the lines beside what they are read as
+-- the lines together with the items as which they are read
 abbrev pub ReadAs : List (List ℕ × (ℕ → LineOf)) → Type 0
 ReadAs = AllByRecursion (λ wording. Avoids 10 wording.0 × ReadsAs wording.0 wording.1)
 
--- the items of lines, numbered after so many lines
+-- the items of lines, numbered after this many lines
 abbrev pub conf_lines : ℕ → List (List ℕ × (ℕ → LineOf)) → List LineOf
 conf_lines n [] = []
 conf_lines n (wording ∷ wordings) = wording.1 (n + 1) ∷ conf_lines (n + 1) wordings
@@ -139,7 +139,7 @@ read-wordings (wording ∷ wordings) before n opened count read =
     ap (λ (r : Result (List LineOf) LineFault). all_of (r ∷ each_after reading_of (before ++ escape_text wording.0 ∷ []) (map escape_text (map (λ wording. wording.0) wordings) ++ [] ∷ []))) (reading_of-written before true n wording.0 (wording.1 (n + 1)) opened count (read.0.1 (n + 1)))
     ∙ ap (with_front (wording.1 (n + 1) ∷ [])) (read-wordings wordings (before ++ escape_text wording.0 ∷ []) (n + 1) opened_on count_on read.1)
 
--- lines of which the first is a header
+-- lines that begin with a header
 pub lines_of-written : (name : List ℕ) (wordings : List (List ℕ × (ℕ → LineOf))) → IsHeaderName name → ReadAs wordings → lines_of (text_of (header_line name ∷ map (λ wording. wording.0) wordings)) ≡ Ok (Header 1 name ∷ conf_lines 1 wordings)
 unfolding lines_of
 lines_of-written name wordings fine read =

@@ -1,4 +1,4 @@
--- The listing of a dialplan that loads is read as the dialplan again.
+-- The listing of a dialplan that loads is read as the same dialplan.
 use Rattle.std.proofs.Common.{◌≡◌, ℕ, ◌+◌, ◌<◌, ◌==◌, true, false, List, [], ◌∷◌, ◌++◌, map, Ok, codes, refl, ap, ◌∙◌, sym, subst, append_assoc}
 use Rattle.std.specs.List.{AllByRecursion, flat_map}
 use Rattle.std.proofs.lemmas.List.{map-append}
@@ -23,7 +23,7 @@ use Rattle.dp_plan.specs.Loaded.{IsLoaded}
 use Rattle.dp_lister.specs.Listing.{global_line, global_lines, priority_text, application_text, after_name, entry_line, include_line, header_line, context_lines, text_of, listing}
 use Rattle.dp_lister.proofs.LinesAgain.{header_reads, pair_line, pair_reads, ReadsAs, ReadAs, conf_lines, lines_of-written, lines_of-nothing}
 
--- a line beside what it is read as
+-- a line together with the item as which it is read
 abbrev Wording : Type 0
 Wording = List ℕ × (ℕ → LineOf)
 
@@ -118,7 +118,7 @@ contexts-read [] fine = tt
 contexts-read (context ∷ contexts) fine =
     (header_wording context.name fine.0.name.header, each-append IsWording (wordings_after context) (wordings_of_contexts contexts) (after-read context fine.0) (contexts-read contexts fine.1))
 
--- their texts, and what they are read as
+-- their texts, and the items as which they are read
 
 abbrev texts : List Wording → List (List ℕ)
 texts wordings = map (λ wording. wording.0) wordings
@@ -172,7 +172,7 @@ globals_name = record {
   one_line = none-any (λ b. b == 10) (codes "globals") refl;
 }
 
--- lines of which the first is a header, by their texts and by what they are read as
+-- lines that begin with a header, given their texts and their items
 read_by : (name : List ℕ) (wordings : List Wording) (lines : List (List ℕ)) (makes : List (ℕ → LineOf)) → IsHeaderName name → ReadAs wordings → texts wordings ≡ lines → says wordings ≡ makes → lines_of (text_of (header_line name ∷ lines)) ≡ Ok (numbered_lines 0 (header_of name ∷ makes))
 read_by name wordings lines makes fine read text said =
     ap (λ (ls : List (List ℕ)). lines_of (text_of (header_line name ∷ ls))) (sym text)
@@ -199,7 +199,7 @@ lines_of-listing plan fine = lines-again plan.globals plan.contexts fine.globals
 
 -- ---- the law
 
--- the listing of a dialplan that loads is loaded as the dialplan again
+-- the listing of a dialplan that loads is loaded as the same dialplan
 pub list-load : (plan : PlanOf) → IsLoaded plan → LoadsAs plan (listing plan)
 list-load plan from =
     let fine = plan_and_notes-known from.text plan from.notes (each_by_index (λ b. b < 256) from.text (λ k within. from.bytes k within)) from.loads in

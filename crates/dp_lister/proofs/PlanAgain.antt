@@ -1,4 +1,4 @@
--- The items of a dialplan make the dialplan again, with no note but on includes of unknown contexts.
+-- The items of a dialplan give the dialplan again, with no notes except on includes of unknown contexts.
 use Rattle.std.proofs.Common.{◌≡◌, ℕ, ◌+◌, Bool, true, false, cond, ◌&&◌, ◌||◌, List, [], ◌∷◌, ◌++◌, map, Option, Some, None, Ok, refl, ap, ap₂, ◌∙◌, ◌==◌, sym, subst, append_assoc, append-nil}
 use Rattle.std.specs.List.{AllByRecursion, list_any, filter, filter_map, cons_option, flat_map}
 use Rattle.std.specs.Cmp.Lexicographic.{nat_list_eq_equiv}
@@ -30,7 +30,7 @@ filter_map-items_from : {Y : Type 0} (h : Item → Option Y) → ((n : ℕ) (x :
 filter_map-items_from h same n [] = refl
 filter_map-items_from h same n (x ∷ xs) = λ i. cons_option (same (n + 1) x i) (filter_map-items_from h same (n + 1) xs i)
 
--- all that an item gives
+-- everything that an item gives
 abbrev given_in : Item → Option Addition × Option Inclusion × Option (List ℕ) × Option GlobalVariable
 given_in x = (added_in x, included_in x, context_in x, global_in x)
 
@@ -38,7 +38,7 @@ given-items_from : (n : ℕ) (x : Item) → given_in (with_line n x) ≡ given_i
 given-items_from n =
     by_item (λ x. given_in (with_line n x) ≡ given_in x) (λ section. refl) (λ global. refl) (λ line context entry. refl) (λ line context name. refl) (λ line. refl)
 
--- items made of a list, each giving nothing, or something
+-- items made from a list, each giving nothing, or one thing
 gives-none : {X Y : Type 0} (h : Item → Option Y) (f : X → Item) (xs : List X) → ((x : X) → h (f x) ≡ None) → filter_map h (map f xs) ≡ []
 gives-none h f [] e = refl
 gives-none h f (x ∷ xs) e = λ i. cons_option (e x i) (gives-none h f xs e i)
@@ -95,12 +95,12 @@ of-globals : {Y : Type 0} (h : Item → Option Y) → h (Begins Globals) ≡ Non
 of-globals h header each [] = refl
 of-globals h header each (g ∷ globals) = λ i. cons_option (header i) (gives-none h (λ g. Sets g) (g ∷ globals) each i)
 
--- what is made of each element and taken out again
+-- values made from each element and read back
 back : {X Y : Type 0} (f : Y → X) (g : X → Y) (xs : List X) → ((x : X) → f (g x) ≡ x) → map f (map g xs) ≡ xs
 back f g [] e = refl
 back f g (x ∷ xs) e = λ i. e x i ∷ back f g xs e i
 
--- what is so of each element that is made
+-- what holds of each element that is made
 each-made : {X Y : Type 0} (P : Y → Type 0) (f : X → Y) (xs : List X) → ((x : X) → P (f x)) → AllByRecursion P (map f xs)
 each-made P f [] e = tt
 each-made P f (x ∷ xs) e = (e x, each-made P f xs e)
@@ -124,7 +124,7 @@ additions plan = flat_map additions_of plan.contexts
 abbrev inclusions : PlanOf → List Inclusion
 inclusions plan = flat_map inclusions_of plan.contexts
 
--- what the items give is what those of the global variables give, and then those of the contexts
+-- the items give what those of the global variables give, and then what those of the contexts give
 items-give : {Y : Type 0} (h : Item → Option Y) (part : PlanContext → List Y) → ((n : ℕ) (x : Item) → h (with_line n x) ≡ h x)
     → ((context : PlanContext) → filter_map h (items_of_context context) ≡ part context)
     → (plan : PlanOf) → filter_map h (items plan) ≡ filter_map h (items_of_globals plan.globals) ++ flat_map part plan.contexts
@@ -161,7 +161,7 @@ name_of context = context.name
 same_text-symm : (a b : List ℕ) → same_text a b ≡ false → same_text b a ≡ false
 same_text-symm a b e = nat_list_eq_equiv.symm b a ∙ e
 
--- what is not among the names and one more
+-- a name that is not among the names and one more
 unnamed : (names : List (List ℕ)) (name other : List ℕ) → is_named (names ++ name ∷ []) other ≡ false → (is_named names other ≡ false) × (same_text other name ≡ false)
 unnamed names name other e =
     let both = either-false (is_named names other) (same_text other name || false) (sym (list_any-append (same_text other) names (name ∷ [])) ∙ e) in
@@ -192,7 +192,7 @@ kept-fresh taken before [] fresh = refl
 kept-fresh taken before (x ∷ xs) fresh =
     rw fresh.0 (ap (λ (ys : List _). x ∷ ys) (kept-fresh taken (before ++ x ∷ []) xs fresh.1))
 
--- the addition is one to the context
+-- the addition belongs to the context
 abbrev pub is_of : List ℕ → Addition → Bool
 is_of name addition = same_text name addition.context
 
@@ -209,7 +209,7 @@ other-context name a b here there =
     let apart : same_text a.context b.context ≡ false = sym (nat_list_eq_equiv.congr name a.context b.context here) ∙ there in
     ap (λ t. t && same_name a.entry.name b.entry.name) apart
 
--- only entries of its own context take an entry's place or label
+-- only entries of the same context take an entry's place or label
 pub taken-local : (name : List ℕ) (before : List Addition) (a : Addition) → is_of name a ≡ true → is_taken before a ≡ is_taken (filter (is_of name) before) a
 taken-local name before a here =
     let place : list_any (same_place a) before ≡ list_any (same_place a) (filter (is_of name) before) =
@@ -222,7 +222,7 @@ filter-push : (name : List ℕ) (first second : List Addition) (y : Addition) �
 filter-push name first second y e =
     filter-append (is_of name) first (y ∷ []) ∙ (ap (λ (xs : List Addition). xs ++ filter (is_of name) (y ∷ [])) e ∙ sym (filter-append (is_of name) second (y ∷ [])))
 
--- what stands in other contexts takes nothing of these
+-- entries of other contexts take nothing of these
 pub fresh-local : (name : List ℕ) (ys first second : List Addition) → AllByRecursion (λ y. is_of name y ≡ true) ys → filter (is_of name) first ≡ filter (is_of name) second → IsFresh is_taken first ys → IsFresh is_taken second ys
 fresh-local name [] first second here e fresh = tt
 fresh-local name (y ∷ ys) first second here e fresh = (
@@ -251,7 +251,7 @@ key-additions name entries = each-made (λ (a : Addition). a.context ≡ name) (
 key-inclusions : (name : List ℕ) (names : List (List ℕ)) → AllByRecursion (λ (i : Inclusion). i.context ≡ name) (map (λ k. record { context = name; name = k }) names)
 key-inclusions name names = each-made (λ (i : Inclusion). i.context ≡ name) (λ k. record { context = name; name = k }) names (λ k. refl)
 
--- what stands before has nothing of contexts that are not named
+-- the elements before contain nothing of contexts that are not named
 abbrev Absent : {X : Type 0} → (X → List ℕ) → List (List ℕ) → List X → Type 0
 Absent key named before = (name : List ℕ) → is_named named name ≡ false → filter (λ x. same_text name (key x)) before ≡ []
 
@@ -260,7 +260,7 @@ absent-more key named before name xs own absent other e =
     let apart = unnamed named name other e in
     filter-append (λ x. same_text other (key x)) before xs ∙ (λ i. absent other apart.0 i ++ of-other key other name xs own apart.1 i)
 
--- the entries of all contexts are kept where those of each are
+-- the entries of all contexts are kept if those of each are
 fresh-additions : (contexts : List PlanContext) (named : List (List ℕ)) (before : List Addition) → Absent (λ (a : Addition). a.context) named before → IsFresh is_named named (map name_of contexts) → AllByRecursion IsContext contexts → IsFresh is_taken before (flat_map additions_of contexts)
 fresh-additions [] named before absent names fine = tt
 fresh-additions (context ∷ contexts) named before absent names fine =
@@ -270,7 +270,7 @@ fresh-additions (context ∷ contexts) named before absent names fine =
 
 -- ---- contexts
 
--- a name that stands among those before is none of the names after
+-- a name among those before is none of the names after
 fresh-apart : (before : List (List ℕ)) (name : List ℕ) (contexts : List PlanContext) → ((other : List ℕ) → is_named before other ≡ false → same_text name other ≡ false) → IsFresh is_named before (map name_of contexts) → AllByRecursion (λ (c : PlanContext). same_text name c.name ≡ false) contexts
 fresh-apart before name [] among fresh = tt
 fresh-apart before name (context ∷ contexts) among fresh =
@@ -282,7 +282,7 @@ of-others key part own name (context ∷ contexts) apart =
     filter-append (λ x. same_text name (key x)) (part context) (flat_map part contexts)
     ∙ (λ i. of-other key name context.name (part context) (own context) apart.0 i ++ of-others key part own name contexts apart.1 i)
 
--- what is of a context among that of contexts before it, its own, and that of contexts after it
+-- the elements of a context among those of contexts before it, its own, and those of contexts after it
 of-context : {X : Type 0} (key : X → List ℕ) (part : PlanContext → List X) → ((c : PlanContext) → AllByRecursion (λ x. key x ≡ c.name) (part c)) → (before : List X) (context : PlanContext) (contexts : List PlanContext) → filter (λ x. same_text context.name (key x)) before ≡ [] → AllByRecursion (λ (c : PlanContext). same_text context.name c.name ≡ false) contexts → filter (λ x. same_text context.name (key x)) (before ++ (part context ++ flat_map part contexts)) ≡ part context
 of-context key part own before context contexts none apart =
     filter-append (λ x. same_text context.name (key x)) before (part context ++ flat_map part contexts)
@@ -314,7 +314,7 @@ kept-are plan fine =
 names-are : (plan : PlanOf) → IsCanonical plan → names_in (items plan) ≡ map name_of plan.contexts
 names-are plan fine = ap (kept_by is_named []) (mentions-are plan) ∙ names-again [] plan.contexts fine.names
 
--- the items of a dialplan make it
+-- the items of a dialplan give the dialplan
 pub plan_of-items : (plan : PlanOf) → IsCanonical plan → plan_of (items plan) ≡ plan
 unfolding plan_of
 plan_of-items plan fine =
@@ -347,7 +347,7 @@ entry_note-none line kept a free =
     let both = either-false (is_place_taken kept a) (is_label_taken kept a) free in
     rw (both.0, both.1) refl
 
--- the notes of items after others, of which all entries are kept
+-- the notes on items after others, if all entries are kept
 abbrev notes_after : List (List ℕ) → List Item → List Item → List Note
 notes_after names before xs = flat_map (λ notes. notes) (each_after (note_of names) before xs)
 
@@ -396,7 +396,7 @@ canonical_notes-only plan fine =
     notes-only (names_in (items plan)) [] General 0 (items_of plan) (stand-plan plan.globals plan.contexts fine.globals fine.contexts)
     (subst (IsFresh is_taken []) (sym (additions-are plan)) (fresh-additions plan.contexts [] [] (λ name e. refl) fine.names fine.contexts))
 
--- with no fault the dialplan is that of the items
+-- without a fault the dialplan is that of the items
 plan_and_notes-items : (text : List ℕ) (lines : List LineOf) (xs : List Item) → lines_of text ≡ Ok lines → items_after [] lines ≡ Ok xs → plan_and_notes text ≡ Ok (plan_of xs, notes_of xs)
 unfolding plan_and_notes
 plan_and_notes-items text lines xs read e = ap of_lines read ∙ ap of_items e

@@ -1,4 +1,4 @@
--- What is known of each dialplan that a text loads as.
+-- Facts about each dialplan that a text loads as.
 use Rattle.std.proofs.Common.{◌≡◌, ℕ, ◌<◌, Bool, true, false, cond, List, [], ◌∷◌, ◌++◌, map, Ok, refl, ap, ◌∙◌, sym, subst, append-nil}
 use Rattle.std.specs.List.{AllByRecursion, filter, filter_map, cons_option}
 use Rattle.std.proofs.lemmas.List.Elements.{filter-append}
@@ -25,7 +25,7 @@ passes {X} test (x ∷ xs) = by (test x) refl (passes test xs)
     by true e rest = (e, rest)
     by false e rest = rest
 
--- none of what is kept is taken by what was kept before it
+-- no kept element is taken by those kept before it
 fresh-kept : {X : Type 0} (taken : List X → X → Bool) (before xs : List X) → IsFresh taken before (kept_by taken before xs)
 fresh-kept taken before [] = tt
 fresh-kept {X} taken before (x ∷ xs) = by (taken before x) refl (fresh-kept taken before xs) (fresh-kept taken (before ++ x ∷ []) xs)
@@ -34,7 +34,7 @@ fresh-kept {X} taken before (x ∷ xs) = by (taken before x) refl (fresh-kept ta
     by true e rest kept = rest
     by false e rest kept = (e, kept)
 
--- the same of the entries of one context
+-- the same for the entries of one context
 fresh-filter : (name : List ℕ) (before xs : List Addition) → IsFresh is_taken before xs → IsFresh is_taken (filter (is_of name) before) (filter (is_of name) xs)
 fresh-filter name before [] fresh = tt
 fresh-filter name before (x ∷ xs) fresh = by (is_of name x) refl (fresh-filter name (before ++ x ∷ []) xs fresh.1)
@@ -77,7 +77,7 @@ contexts-known kept included (name ∷ names) additions inclusions fresh fine =
 
 -- ---- the dialplan of items
 
--- what an item gives is known: the include, the global variable, and the name of the context
+-- facts about what an item gives: the include, the global variable, and the name of the context
 abbrev IsFineGiven : Item → Type 0
 IsFineGiven x =
     AllByRecursion IsFineInclusion (cons_option (included_in x) []) × AllByRecursion IsGlobal (cons_option (global_in x) []) × AllByRecursion IsContextName (cons_option (context_in x) [])

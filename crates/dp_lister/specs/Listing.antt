@@ -1,4 +1,4 @@
--- The canonical listing of a dialplan: one way to write it.
+-- The canonical listing of a dialplan, which is one way to write it.
 use Rattle.std.specs.Prelude.{ℕ, List, [], ◌∷◌, ◌++◌, map, Option, None, Some, codes, decimal}
 use Rattle.std.specs.List.{flat_map}
 use Rattle.dp_conf.specs.Escape.{escape_text}
@@ -13,7 +13,7 @@ use Rattle.dp_plan.specs.declared.plan.GlobalVariable.{GlobalVariable}
 abbrev pub global_line : GlobalVariable → List ℕ
 global_line global = global.name ++ codes " => " ++ global.value
 
--- the lines of the global variables below their header, which is left out where there are none
+-- the lines of the global variables below their header, which is left out if there are none
 abbrev pub global_lines : List GlobalVariable → List (List ℕ)
 global_lines [] = []
 global_lines (global ∷ globals) = codes "[globals]" ∷ map global_line (global ∷ globals)
@@ -23,7 +23,7 @@ abbrev pub label_text : Option (List ℕ) → List ℕ
 label_text None = []
 label_text (Some label) = codes "(" ++ label ++ codes ")"
 
--- a priority with its label, where it has one
+-- a priority with its label, if it has one
 abbrev pub priority_text : ℕ → Option (List ℕ) → List ℕ
 priority_text priority label = decimal priority ++ label_text label
 
@@ -36,7 +36,7 @@ abbrev pub after_name : Entry → List ℕ
 after_name entry =
     codes "," ++ priority_text entry.priority entry.label ++ codes "," ++ application_text entry.application entry.arguments
 
--- the line of an entry, its name in the canonical spelling
+-- the line of an entry, with its name in the canonical spelling
 abbrev pub entry_line : Entry → List ℕ
 entry_line entry = codes "exten => " ++ spelling entry.name ++ after_name entry
 
@@ -56,7 +56,7 @@ context_lines context = header_line context.name ∷ map entry_line context.entr
 abbrev pub plan_lines : PlanOf → List (List ℕ)
 plan_lines plan = global_lines plan.globals ++ flat_map context_lines plan.contexts
 
--- a line as it is written: each `;` as `\;`, and a line feed at its end
+-- a line as written: each `;` as `\;`, and a line feed at its end
 abbrev pub line_text : List ℕ → List ℕ
 line_text line = escape_text line ++ line_feed ∷ []
 

@@ -1,4 +1,4 @@
-//! The lister: the one canonical text of a dialplan.
+//! The lister, which writes the canonical text of a dialplan.
 #![tactic(auto)]
 
 mod listing;

@@ -32,7 +32,7 @@ fn push_each_global(out: &mut Vec<u8>, globals: &[GlobalVariable]) -> Result<(),
     Ok(())
 }
 
-/// Adds the lines of the global variables, where there are any.
+/// Adds the lines of the global variables, if there are any.
 fn push_globals(out: &mut Vec<u8>, globals: &[GlobalVariable]) -> Result<(), NoMemory>
     ensures { OnOk result (out.new.items ≡ out.old.items ++ spec.text_of (spec.global_lines globals.now)) }
 {
@@ -44,7 +44,7 @@ fn push_globals(out: &mut Vec<u8>, globals: &[GlobalVariable]) -> Result<(), NoM
     Ok(())
 }
 
-/// Adds a priority with its label, where it has one.
+/// Adds a priority with its label, if it has one.
 fn push_priority(
     out: &mut Vec<u8>,
     priority: u32,
@@ -73,7 +73,7 @@ fn push_application(out: &mut Vec<u8>, name: &[u8], arguments: &[u8]) -> Result<
     Ok(())
 }
 
-/// Adds what stands after the name in the line of an entry.
+/// Adds the text after the name in the line of an entry.
 fn push_after_name(out: &mut Vec<u8>, entry: &Entry) -> Result<(), NoMemory>
     ensures { OnOk result (out.new.items ≡ out.old.items ++ escape_text (spec.after_name entry.now)) }
 {
@@ -166,14 +166,14 @@ fn listing_of(alloc: Global, plan: &Dialplan) -> Result<Vec<u8>, NoMemory>
     Ok(out)
 }
 
-/// The canonical listing of a dialplan: its global variables, if it has any, below `[globals]`, and each context with its
-/// entries and then its includes, all in the order of the file. A name of an extension stands in its canonical spelling,
-/// each priority as a number, each application with parentheses, and each `;` as `\;`. That there is one such text is
-/// this program's own choice.
+/// The canonical listing of a dialplan: its global variables, if it has any, below `[globals]`, and each context with
+/// its entries and then its includes, all in file order. The names of extensions have their canonical spelling,
+/// priorities are numbers, applications have parentheses, and each `;` is written `\;`. Having one such text is this
+/// program's own choice.
 ///
-/// The listing loads as this dialplan again, with no note but `UnknownContext`.
+/// The listing loads as this dialplan again, with no notes other than `UnknownContext`.
 ///
-/// The error comes only where a growth was refused.
+/// It fails only if memory runs out.
 pub fn list(alloc: Global, plan: &Dialplan) -> Result<Vec<u8>, NoMemory>
     ensures listing { IfOk result (λ text. text.items ≡ spec.listing plan.now) }
     ensures again { IfOk result (λ text. LoadsAs plan.now text.items) }
@@ -183,9 +183,9 @@ pub fn list(alloc: Global, plan: &Dialplan) -> Result<Vec<u8>, NoMemory>
     Ok(text)
 }
 
-/// The listing of each dialplan that some text loads as loads as this dialplan again, with no note but
-/// `UnknownContext`: the same global variables, contexts, entries and includes, each name by what it means. It does
-/// nothing.
+/// States that the listing of each dialplan that some text loads as loads as this dialplan again, with no notes other
+/// than `UnknownContext`: the same global variables, contexts, entries and includes, with names of the same meaning. It
+/// does nothing.
 pub fn listings_load_again()
     ensures { (plan : PlanOf) → IsLoaded plan → LoadsAs plan (spec.listing plan) }
 {}

@@ -33,7 +33,7 @@ get-set [] i x within = absurd (omega arith)
 get-set (z ∷ xs) zero x within = refl
 get-set (z ∷ xs) (suc i) x within = get-set xs i x (omega arith)
 
--- the mark of a number says whether the order has it
+-- the mark of a number says whether the order contains it
 pub mark_says : (order : List ℕ) (marks : List Bool) (number : ℕ) (b : Bool) → IsMarked order marks → number < length marks → get_or marks number false ≡ b → has order number ≡ b
 mark_says order marks number b marked within e =
     same_Some (has order number) b (sym (marked number within) ∙ (slice_get-get_or marks number false within ∙ ap Some e))
@@ -49,7 +49,7 @@ ne_eqb : (a k : ℕ) → k ≢ a → (b : Bool) → eqb a k ≡ b → b ≡ fals
 ne_eqb a k other true e = absurd (other (sym (eqb-true a k e)))
 ne_eqb a k other false e = refl
 
--- a mark that is taken away
+-- a mark that is cleared
 pub unmark_step : (order : List ℕ) (i : ℕ) (marks : List Bool) → i < length order → ((k : ℕ) → slice_get marks k ≡ Some true → has (drop i order) k ≡ true) → (k : ℕ) → slice_get (set marks (get_or order i 0) false) k ≡ Some true → has (drop (i + 1) order) k ≡ true
 unmark_step order i marks within before k marked = elim (cases_eq k (get_or order i 0)) [
   | inl same ↦ absurd (true≢false (get-set_same marks (get_or order i 0) false true (ap (λ j. slice_get (set marks (get_or order i 0) false) j) (sym same) ∙ marked)))
@@ -57,7 +57,7 @@ unmark_step order i marks within before k marked = elim (cases_eq k (get_or orde
       (sym (has-drop order i k within) ∙ before k (sym (get-set_other marks (get_or order i 0) k false other) ∙ marked))
 ]
 
--- where each mark is one of an order that has ended, there is none
+-- if all marks are those of an empty rest of the order, none is set
 pub unmarked : (order : List ℕ) (i : ℕ) (marks : List Bool) → length order ≤ i → ((k : ℕ) → slice_get marks k ≡ Some true → has (drop i order) k ≡ true) → IsMarked [] marks
 unmarked order i marks ended before k within = by_mark (get_or marks k false) (slice_get-get_or marks k false within)
   where
@@ -65,7 +65,7 @@ unmarked order i marks ended before k within = by_mark (get_or marks k false) (s
     by_mark true e = absurd (true≢false (sym (before k e) ∙ ap (λ left. has left k) (drop_all i order ended)))
     by_mark false e = e
 
--- ---- includes that are still to come
+-- ---- remaining includes
 
 pub pending-push : (plan : PlanOf) (frames : List ContextVisit) (frame : ContextVisit) → pending plan (frames ++ frame ∷ []) ≡ links_left plan frame ++ pending plan frames
 pending-push plan [] frame = sym (append-nil (links_left plan frame))
@@ -94,7 +94,7 @@ next_some plan frames rest frame name is_last here =
     ∙ (ap (λ links. links ++ pending plan rest) (drop-map_some (link_of plan) (includes_at plan frame.context) frame.next name here)
     ∙ ap (λ links. link_of plan name ∷ links) (sym (pending-push plan rest (record { context = frame.context; next = frame.next + 1 })))))
 
--- the last context has none
+-- the last context has no include left
 pub next_none : (plan : PlanOf) (frames rest : List ContextVisit) (frame : ContextVisit) → frames ≡ rest ++ frame ∷ [] → slice_get (includes_at plan frame.context) frame.next ≡ None → pending plan frames ≡ pending plan rest
 next_none plan frames rest frame is_last ended =
     ap (pending plan) is_last
@@ -134,7 +134,7 @@ work-enter plan order frames number within new =
     let parts = length-append (links_at plan number) (pending plan frames) in
     omega (arith, seen, added, parts)
 
--- an order that has not every context has room
+-- an order without every context has room for one more
 pub room_left : (plan : PlanOf) (order : List ℕ) (marks : List Bool) (frames : List ContextVisit) (number : ℕ) → IsFilling plan order marks frames → number < context_count plan → has order number ≡ false → length order < context_count plan
 room_left plan order marks frames number filling within new =
     let seen = unseen-push one (context_count plan) order number within new in
@@ -163,7 +163,7 @@ filling-enter plan order marks frames number filling within in_marks new = recor
   within = All-push (λ c. c < context_count plan) order number filling.within within;
 }
 
--- nothing is seen at first
+-- nothing has been seen at first
 pub unseen-nil : (bound : ℕ) → unseen one bound [] ≡ bound
 unseen-nil zero = refl
 unseen-nil (suc bound) = let rest = unseen-nil bound in omega (arith, rest)
@@ -179,7 +179,7 @@ filling-empty plan order marks frames no_order no_frames marked = subst (λ (o :
       within = λ k d below. absurd (omega (arith, below));
     }
 
--- fewer contexts that are gone through
+-- fewer contexts in progress
 pub filling-fewer : (plan : PlanOf) (order : List ℕ) (marks : List Bool) (frames fewer : List ContextVisit) → IsFilling plan order marks frames → length fewer ≤ length frames → IsFilling plan order marks fewer
 filling-fewer plan order marks frames fewer filling few = record {
   marked = filling.marked;
@@ -188,7 +188,7 @@ filling-fewer plan order marks frames fewer filling few = record {
   within = filling.within;
 }
 
--- ---- an include that no context has
+-- ---- an include without a context
 
 nothing_open : (plan : PlanOf) (order : List ℕ) → is_open plan order (context_count plan) ≡ false
 nothing_open plan order = ap (λ b. b && not (has order (context_count plan))) (not_below (context_count plan) (nat_lt (context_count plan) (context_count plan)) refl)
@@ -197,7 +197,7 @@ nothing_open plan order = ap (λ b. b && not (has order (context_count plan))) (
     not_below n true e = let below = ltb-true n n e in absurd (omega (arith, below))
     not_below n false e = refl
 
--- an include that no context has is passed over
+-- an include without a context is skipped
 pub past_unknown : (plan : PlanOf) (order before after : List ℕ) (name : List ℕ) → before ≡ link_of plan name ∷ after → number_of plan name ≡ None → fold (visit plan) order after ≡ fold (visit plan) order before
 past_unknown plan order before after name next unknown =
     let link : link_of plan name ≡ context_count plan = ap (λ o. unwrap_or o (context_count plan)) unknown in

@@ -1,4 +1,4 @@
--- What is found by a test is the least entry that the test allows, in any dialplan.
+-- A look-up with a test finds the least entry that passes, in any dialplan.
 use Rattle.std.proofs.Common.{◌≡◌, ◌≢◌, ℕ, zero, suc, ◌<◌, ◌≤◌, Bool, true, false, cond, ◌&&◌, ◌==◌, true≢false, eq-eqb, eqb-true, Decides, List, [], ◌∷◌, length, get_or, Option, Some, None, MatchOption, Contains, inl, inr, arith, refl, sym, ap, ◌∙◌, subst, nat_cmp, Ordering, Less, Equal, Greater}
 use Rattle.std.specs.Prelude.{◌↔◌, IsTrue, is_some, slice_get, All}
 use Rattle.std.specs.Cmp.{IsTotalOrder, nat_cmp_is}
@@ -46,7 +46,7 @@ module _ {X : Type 0} (cmp : X → X → Ordering) (In : X → Type 0) (back : (
       let other_way = back x y here there ∙ ap ordering_reverse less in
       few (sym e ∙ other_way)
 
-  -- none of these is less than that one
+  -- none of these is less than the given one
   record IsLeastOf (xs : List X) (x : X) : Type 0 where
     inside : In x
     none_less : AllByRecursion (Below cmp x) xs
@@ -73,7 +73,7 @@ module _ {X : Type 0} (cmp : X → X → Ordering) (In : X → Type 0) (back : (
   least_of_all [] each = refl
   least_of_all (x ∷ xs) each = least_of_more x xs each.0 each.1
 
--- in a total order, what is not less than that which is not less than one is not less than that one
+-- in a total order, not being less is transitive
 chain_total : {K : Type 0} (R : K → K → Ordering) → IsTotalOrder R → (x y z : K) → Below R x y → Below R y z → Below R x z
 chain_total R total x y z low high less = by (R y x) refl
   where
@@ -108,17 +108,17 @@ id_cmp_is plan a b x y ea eb =
     ap (λ o. option_map_or (λ x. option_map_or (entry_cmp x) (entry_at plan b) Equal) o Equal) ea
     ∙ ap (λ o. option_map_or (entry_cmp x) o Equal) eb
 
--- the entry of a number, among those of its context
+-- the entry with a number, among those of its context
 entry_among : (o : Option PlanContext) (k : ℕ) (entry : Entry) → option_and_then (λ context. slice_get context.entries k) o ≡ Some entry → slice_get (option_map_or (λ context. context.entries) o []) k ≡ Some entry
 entry_among None k entry there = absurd (none-some entry there)
 entry_among (Some context) k entry there = there
 
--- no entry of the context is one that is asked for
+-- no entry of the context is a wanted one
 abbrev pub NoneIn : PlanOf → ℕ → (Entry → Type 0) → Type 0
 NoneIn plan number Wanted =
     (id : EntryId) (entry : Entry) → id.context ≡ number → entry_at plan id ≡ Some entry → Wanted entry → ⊥
 
--- the entry of the context is one that is asked for, and no other such entry of it is less
+-- the entry of the context is a wanted one, and no other wanted one in it is less
 pub record IsLeastIn (plan : PlanOf) (number : ℕ) (Wanted : Entry → Type 0) (id : EntryId) : Type 0 where
   pub entry : Entry
   pub here : id.context ≡ number
@@ -126,12 +126,12 @@ pub record IsLeastIn (plan : PlanOf) (number : ℕ) (Wanted : Entry → Type 0) 
   pub asked : Wanted entry
   pub least : (other : EntryId) (a : Entry) → other.context ≡ number → entry_at plan other ≡ Some a → Wanted a → entry_cmp a entry ≢ Less
 
--- no entry of the first so many contexts of the order is one that is asked for
+-- none of the first contexts in the order, this many, has a wanted entry
 abbrev NoneFirst : PlanOf → List ℕ → (Entry → Type 0) → ℕ → Type 0
 NoneFirst plan order Wanted count =
     (place : ℕ) (id : EntryId) (entry : Entry) → place < count → StandsAt plan order place id entry → Wanted entry → ⊥
 
--- the entry at the first place of the order that has one that is asked for, and the least there
+-- the entry is at the first place of the order with a wanted one, and the least there
 record IsFirstAt (plan : PlanOf) (order : List ℕ) (Wanted : Entry → Type 0) (place : ℕ) (id : EntryId) (entry : Entry) : Type 0 where
   stands : StandsAt plan order place id entry
   asked : Wanted entry
@@ -143,7 +143,7 @@ record SomeFirst (plan : PlanOf) (order : List ℕ) (Wanted : Entry → Type 0) 
   entry : Entry
   first : IsFirstAt plan order Wanted place id entry
 
--- the entry is a least one, and of those of its name it has the lowest priority
+-- the entry is a least one, and has the lowest priority of those with its name
 record SomeLeast (plan : PlanOf) (order : List ℕ) (Wanted : Entry → Type 0) (id : EntryId) : Type 0 where
   place : ℕ
   entry : Entry
@@ -156,17 +156,17 @@ below_less i j a b below = ap (λ o. ordering_then o (name_cmp a.name b.name)) (
 above_greater : (i j : ℕ) (a b : Entry) → j < i → found_cmp i a j b ≡ Greater
 above_greater i j a b above = ap (λ o. ordering_then o (name_cmp a.name b.name)) (sym (nat_cmp_is i j Greater above))
 
--- at one place the names decide
+-- at the same place the names decide
 same_place : (i j : ℕ) (a b : Entry) → i ≡ j → found_cmp i a j b ≡ name_cmp a.name b.name
 same_place i j a b same = ap (λ o. ordering_then o (name_cmp a.name b.name)) (sym (nat_cmp_is i j Equal same))
 
--- two entries at one place are of one context
+-- two entries at the same place are in the same context
 one_context : (plan : PlanOf) (order : List ℕ) (i j : ℕ) (other id : EntryId) (a b : Entry) → StandsAt plan order i other a → StandsAt plan order j id b → i ≡ j → other.context ≡ id.context
 one_context plan order i j other id a b here there same =
     same_Some other.context id.context (sym here.context ∙ (ap (slice_get order) same ∙ there.context))
 
 module _ (plan : PlanOf) (test : Entry → Bool) (Wanted : Entry → Type 0) (decides : (id : EntryId) (entry : Entry) → entry_at plan id ≡ Some entry → Decides (test entry) (Wanted entry)) where
-  -- an entry of the context that is asked for
+  -- a wanted entry of the context
   record AskedIn (number : ℕ) (id : EntryId) : Type 0 where
     entry : Entry
     here : id.context ≡ number
@@ -180,7 +180,7 @@ module _ (plan : PlanOf) (test : Entry → Bool) (Wanted : Entry → Type 0) (de
       by None there e = absurd (true≢false (sym e))
       by (Some entry) there e = record { entry = entry; here = here; there = there; asked = (decides id entry there).0 e }
 
-  -- each that passes is asked for
+  -- each one that passes is wanted
   each_asked : (number : ℕ) → AllByRecursion (AskedIn number) (passing plan test number)
   each_asked number = by (passing plan test number) pass here
     where
@@ -199,7 +199,7 @@ module _ (plan : PlanOf) (test : Entry → Bool) (Wanted : Entry → Type 0) (de
       by [] pass here = tt
       by (id ∷ ids) pass here = (asked_in number id here.0 pass.0, by ids pass.1 here.1)
 
-  -- each that is asked for passes
+  -- each wanted one passes
   stands_in : (number : ℕ) (id : EntryId) → AskedIn number id → Contains (passing plan test number) id
   stands_in number id asked =
       let entries = entries_at plan number in
@@ -227,7 +227,7 @@ module _ (plan : PlanOf) (test : Entry → Bool) (Wanted : Entry → Type 0) (de
       (λ e. high (id_cmp_is plan z y at_z.entry at_y.entry at_z.there at_y.there ∙ e))
       (sym (id_cmp_is plan z x at_z.entry at_x.entry at_z.there at_x.there) ∙ less)
 
-  -- the least of those that pass is the least that is asked for
+  -- the least one that passes is the least wanted one
   pub least_asked : (number : ℕ) → MatchOption (least plan (passing plan test number)) (NoneIn plan number Wanted) (IsLeastIn plan number Wanted)
   least_asked number = by (passing plan test number) (stands_in number) (each_asked number)
     where
@@ -252,7 +252,7 @@ module _ (plan : PlanOf) (test : Entry → Bool) (Wanted : Entry → Type 0) (de
 
   -- ---- the contexts of an order
 
-  -- what is found stands at the first place that has an entry that is asked for
+  -- the found entry is at the first place with a wanted entry
   found_first : (order : List ℕ) → MatchOption (found_by plan test order) (NoneAsked Wanted plan order) (SomeFirst plan order Wanted)
   found_first [] = λ place id entry stands asked. absurd (none-some id.context stands.context)
   found_first (number ∷ order) = by (least plan (passing plan test number)) (least_asked number) (found_first order)
@@ -292,7 +292,7 @@ module _ (plan : PlanOf) (test : Entry → Bool) (Wanted : Entry → Type 0) (de
         };
       }
 
-  -- what stands first is least
+  -- the first one is the least
   least_from_first : (order : List ℕ) (id : EntryId) → SomeFirst plan order Wanted id → SomeLeast plan order Wanted id
   least_from_first order id found = record {
     place = place;
@@ -333,7 +333,7 @@ module _ (plan : PlanOf) (test : Entry → Bool) (Wanted : Entry → Type 0) (de
         | inr (inr above) ↦ omega (arith, above)
       ]
 
-  -- what is found by the test is the least entry that is asked for
+  -- the entry found with the test is the least wanted one
   found_least : (order : List ℕ) → MatchOption (found_by plan test order) (NoneAsked Wanted plan order) (SomeLeast plan order Wanted)
   found_least order = by (found_by plan test order) (found_first order)
     where
@@ -341,9 +341,9 @@ module _ (plan : PlanOf) (test : Entry → Bool) (Wanted : Entry → Type 0) (de
       by None none = none
       by (Some id) found = least_from_first order id found
 
--- ---- what is asked for
+-- ---- wanted entries
 
--- two tests decide two facts together
+-- two tests together decide two facts together
 both_decide : (s t : Bool) (P Q : Type 0) → Decides s P → Decides t Q → Decides (s && t) (P × Q)
 both_decide true true P Q p q = (λ e. (p.0 refl, q.0 refl), λ both. refl)
 both_decide true false P Q p q = (λ e. absurd (true≢false (sym e)), λ both. q.1 both.1)
@@ -372,7 +372,7 @@ begins_later-decides text entry named =
 
 -- ---- the laws
 
--- the entry that is found is the least one of the priority
+-- the found entry is the least one with the priority
 pub found_entry-least : (plan : PlanOf) (order text : List ℕ) (priority : ℕ) → MatchOption (found_entry plan order text priority) (NoneAsked (HasPriority text priority) plan order) (IsFound plan order text priority)
 unfolding found_entry
 found_entry-least plan order text priority =
@@ -383,7 +383,7 @@ found_entry-least plan order text priority =
     by None none = none
     by (Some id) found = record { place = found.place; entry = found.entry; least = found.least }
 
--- the priority that is found is that of the least one of the label
+-- the found priority is that of the least entry with the label
 pub found_label-least : (plan : PlanOf) (order text label : List ℕ) → MatchOption (found_label plan order text label) (NoneAsked (HasLabel text label) plan order) (IsFoundLabel plan order text label)
 unfolding found_label
 found_label-least plan order text label =
@@ -397,7 +397,7 @@ found_label-least plan order text label =
         subst (λ (o : Option ℕ). MatchOption o (NoneAsked (HasLabel text label) plan order) (IsFoundLabel plan order text label)) (sym there)
         (record { place = found.place; id = id; entry = found.entry; least = found.least; lowest = found.lowest; same = refl })
 
--- the entry of these numbers has a name that some text means
+-- the name of the entry with these numbers is the meaning of some text
 named_at : (plan : PlanOf) → All (λ (context : PlanContext). AreNamed context.entries) plan.contexts → (id : EntryId) (entry : Entry) → entry_at plan id ≡ Some entry → IsName entry.name
 named_at plan named id entry there = by (slice_get plan.contexts id.context) refl there
   where
@@ -408,7 +408,7 @@ named_at plan named id entry there = by (slice_get plan.contexts id.context) ref
         let names : AreNamed context.entries = subst (λ (c : PlanContext). AreNamed c.entries) (get_or_from_slice_get plan.contexts id.context context context known) (named id.context context within) in
         subst (λ (e : Entry). IsName e.name) (get_or_from_slice_get context.entries id.entry entry entry there) (names id.entry entry (slice_get_within context.entries id.entry entry there))
 
--- more may be dialled where some entry of priority 1 has a name that goes on
+-- more may be dialled if some entry of priority 1 has a name that goes on
 pub goes_on_more-some : (plan : PlanOf) (order text : List ℕ) → All (λ (context : PlanContext). AreNamed context.entries) plan.contexts → IsTrue (goes_on_more plan order text) ↔ SomeGoesOn plan order text
 unfolding goes_on_more
 goes_on_more-some plan order text named =
@@ -422,7 +422,7 @@ goes_on_more-some plan order text named =
 
 -- ---- one answer
 
--- two least entries stand at one place and have one name
+-- two least entries are at the same place and have the same name
 module _ (plan : PlanOf) (order : List ℕ) (Wanted : Entry → Type 0) (i j : ℕ) (a_id b_id : EntryId) (a b : Entry) (one : IsLeast Wanted plan order i a_id a) (two : IsLeast Wanted plan order j b_id b) where
   one_order_place : i ≡ j
   one_order_place = elim (cases_order i j) [
@@ -440,7 +440,7 @@ module _ (plan : PlanOf) (order : List ℕ) (Wanted : Entry → Type 0) (i j : �
       by Greater e = absurd (one.least j b_id b two.stands two.asked
           (same_place j i b a (sym one_order_place) ∙ (name_cmp_total.antisymm b.name a.name ∙ ap ordering_reverse e)))
 
--- two entries that tie in one context, whose entries are apart, are one
+-- two equal entries in a context whose entries are apart are the same
 one_id : (plan : PlanOf) → All (λ (context : PlanContext). AreApart context.entries) plan.contexts → (a_id b_id : EntryId) (a b : Entry) → a_id.context ≡ b_id.context → entry_at plan a_id ≡ Some a → entry_at plan b_id ≡ Some b → entry_cmp a b ≡ Equal → a_id ≡ b_id
 one_id plan apart a_id b_id a b same at_a at_b tied =
     by (slice_get plan.contexts b_id.context) refl
@@ -454,7 +454,7 @@ one_id plan apart a_id b_id a b same at_a at_b tied =
         let numbers = one_place context.entries here a_id.entry b_id.entry a b at_a at_b tied in
         λ i. record { context = same i; entry = numbers i }
 
--- one entry at most is found, where the entries of each context are apart
+-- at most one entry is found, if the entries of each context are apart
 pub found_once : (plan : PlanOf) (order text : List ℕ) (priority : ℕ) → All (λ (context : PlanContext). AreApart context.entries) plan.contexts → (a b : EntryId) → IsFound plan order text priority a → IsFound plan order text priority b → a ≡ b
 found_once plan order text priority apart a b one two =
     let place = one_order_place plan order (HasPriority text priority) one.place two.place a b one.entry two.entry one.least two.least in
@@ -466,7 +466,7 @@ found_once plan order text priority apart a b one two =
     (ap (λ o. ordering_then o (nat_cmp one.entry.priority two.entry.priority)) name
     ∙ sym (nat_cmp_is one.entry.priority two.entry.priority Equal number))
 
--- one priority at most is found
+-- at most one priority is found
 pub label_once : (plan : PlanOf) (order text label : List ℕ) (a b : ℕ) → IsFoundLabel plan order text label a → IsFoundLabel plan order text label b → a ≡ b
 label_once plan order text label a b one two =
     let place = one_order_place plan order (HasLabel text label) one.place two.place one.id two.id one.entry two.entry one.least two.least in

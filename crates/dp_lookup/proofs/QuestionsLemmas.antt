@@ -1,4 +1,4 @@
--- What the code asks of an entry is what the question's test says.
+-- The code's condition for an entry is the test of that condition.
 use Rattle.std.proofs.Common.{◌≡◌, ℕ, Bool, true, false, ◌&&◌, ◌==◌, eq-eqb, List, Some, refl, sym, ap, ◌∙◌, Bor}
 use Rattle.std.specs.Prelude.{◌↔◌, IsTrue}
 use Rattle.std.specs.Cmp.Lexicographic.{bytes_decides}
@@ -20,14 +20,14 @@ and_so : (m t : Bool) → t ≡ true → m ≡ (m && t)
 and_so true t e = sym e
 and_so false t e = refl
 
--- a test that decides whether the text matches an entry of the priority
+-- a test that decides whether the text matches an entry with the priority
 pub asks-priority : (question : LookUp) (number : ℕ) (text : List ℕ) (entry : Entry) (r : Bool) → question ≡ Priority number → entry.priority ≡ number → IsTrue r ↔ Matches entry.name text → r ≡ asks question text entry
 asks-priority question number text entry r is same decides =
     same_from_decides r (matches_name entry.name text) decides (matched entry.name text)
     ∙ (and_so (matches_name entry.name text) (entry.priority == number) (eq-eqb entry.priority number same)
     ∙ ap (λ q. asks q text entry) (sym is))
 
--- the same of an entry of the label
+-- the same for an entry with the label
 pub asks-label : (question : LookUp) (label : Bor (List ℕ)) (text : List ℕ) (entry : Entry) (r : Bool) → question ≡ Label label → entry.label ≡ Some label.now → IsTrue r ↔ Matches entry.name text → r ≡ asks question text entry
 asks-label question label text entry r is same decides =
     same_from_decides r (matches_name entry.name text) decides (matched entry.name text)

@@ -1,4 +1,4 @@
--- The first of the ranked entries of a context that passes a test is the least of those that pass.
+-- The first of a context's ranked entries that passes a test is the least of those that pass.
 use Rattle.std.proofs.Common.{◌≡◌, ℕ, zero, suc, ◌<◌, Bool, true, false, cond, true≢false, List, [], ◌∷◌, length, Option, Some, None, MatchOption, inl, inr, ◌⊎◌, arith, refl, sym, ap, ◌∙◌, Less}
 use Rattle.std.specs.Prelude.{slice_get, All}
 use Rattle.std.specs.List.{find, range_with_len}
@@ -21,12 +21,12 @@ use Rattle.dp_lookup.proofs.FoundLemmas.{NoneIn, IsLeastIn, least_asked}
 abbrev Passes : (Entry → Bool) → Entry → Type 0
 Passes test entry = test entry ≡ true
 
--- none of the first so many entries is one that is asked for
+-- none of the first entries, this many, is a wanted one
 abbrev NoneBefore : PlanOf → List EntryId → (Entry → Type 0) → ℕ → Type 0
 NoneBefore plan ids Wanted count =
     (k : ℕ) (id : EntryId) (entry : Entry) → k < count → slice_get ids k ≡ Some id → entry_at plan id ≡ Some entry → Wanted entry → ⊥
 
--- the first of these entries that is asked for
+-- the first of these entries that is wanted
 record IsFirst (plan : PlanOf) (ids : List EntryId) (Wanted : Entry → Type 0) (id : EntryId) : Type 0 where
   place : ℕ
   entry : Entry
@@ -35,7 +35,7 @@ record IsFirst (plan : PlanOf) (ids : List EntryId) (Wanted : Entry → Type 0) 
   asked : Wanted entry
   before : NoneBefore plan ids Wanted place
 
--- the entry of the context that is asked for and stands before every other such entry
+-- the wanted entry of the context that comes before every other one
 record IsFirstIn (plan : PlanOf) (number : ℕ) (Wanted : Entry → Type 0) (id : EntryId) : Type 0 where
   entry : Entry
   here : id.context ≡ number
@@ -45,7 +45,7 @@ record IsFirstIn (plan : PlanOf) (number : ℕ) (Wanted : Entry → Type 0) (id 
 
 -- ---- the first of a list
 
--- what is found first in a list, by the places of those before it
+-- the first one found in a list, in terms of the places before it
 first_of : (plan : PlanOf) (test : Entry → Bool) (ids : List EntryId) → MatchOption (find (passes plan test) ids) (NoneBefore plan ids (Passes test) (length ids)) (IsFirst plan ids (Passes test))
 first_of plan test [] = λ k id entry below at_place there asked. absurd (omega (arith, below))
 first_of plan test (x ∷ ids) = by (entry_at plan x) refl (first_of plan test ids)
@@ -86,7 +86,7 @@ first_of plan test (x ∷ ids) = by (entry_at plan x) refl (first_of plan test i
 abbrev id_at : ℕ → ℕ → EntryId
 id_at number k = record { context = number; entry = k }
 
--- the numbers of a ranking are those of its context
+-- the numbers in a ranking are those of its context
 ids_here : (number : ℕ) (entries : List Entry) (ids : List EntryId) → IsRanking number entries ids → All (λ (id : EntryId). id.context ≡ number) ids
 ids_here number entries ids ranking =
     All-permutation (λ (id : EntryId). id.context ≡ number) (ids_of number entries) ids ranking.whole
@@ -100,7 +100,7 @@ place_of number entries ids ranking k within =
     let held = Contains-permutation (ids_of number entries) ids (id_at number k) ranking.whole (k, omega (arith, size, within), here) in
     (held.0, slice_get_read ids (length ids) held.0 (id_at number k) refl held.1 (sym held.2))
 
--- the entry of a number, in its context
+-- the entry with a number, in its context
 entry_in : (plan : PlanOf) (number : ℕ) (context : PlanContext) (id : EntryId) (entry : Entry) → slice_get plan.contexts number ≡ Some context → id.context ≡ number → entry_at plan id ≡ Some entry → slice_get context.entries id.entry ≡ Some entry
 entry_in plan number context id entry known here there =
     sym (ap (option_and_then (λ (c : PlanContext). slice_get c.entries id.entry)) (ap (slice_get plan.contexts) here ∙ known)) ∙ there
@@ -151,11 +151,11 @@ in_context plan number ids Wanted (Some id) (Some context) known ranking first =
         let all = ids_here number context.entries ids ranking first.place id (slice_get_within ids first.place id first.at_place) in
         ap (λ (x : EntryId). x.context) (sym (get_or_from_slice_get ids first.place id id first.at_place)) ∙ all
 
--- the first of the ranked entries that is asked for stands before every other such entry of the context
+-- the first of the ranked entries that is wanted comes before every other one of the context
 first_in : (plan : PlanOf) (number : ℕ) (ids : List EntryId) (Wanted : Entry → Type 0) (r : Option EntryId) → IsRankedAt plan number ids → MatchOption r (NoneBefore plan ids Wanted (length ids)) (IsFirst plan ids Wanted) → MatchOption r (NoneIn plan number Wanted) (IsFirstIn plan number Wanted)
 first_in plan number ids Wanted r ranking found = in_context plan number ids Wanted r (slice_get plan.contexts number) refl ranking found
 
--- a least one and one that stands before every other are one
+-- a least one and one before every other are the same
 one_least : (plan : PlanOf) (number : ℕ) (Wanted : Entry → Type 0) (r o : Option EntryId) → MatchOption r (NoneIn plan number Wanted) (IsFirstIn plan number Wanted) → MatchOption o (NoneIn plan number Wanted) (IsLeastIn plan number Wanted) → r ≡ o
 one_least plan number Wanted None None none least = refl
 one_least plan number Wanted None (Some id) none least = absurd (none id least.entry least.here least.there least.asked)

@@ -1,4 +1,4 @@
--- The contexts that were seen, and how many are left.
+-- The contexts that were seen, and the number of remaining ones.
 use Rattle.std.proofs.Common.{◌≡◌, ◌≢◌, ℕ, zero, suc, ◌+◌, ◌<◌, ◌≤◌, Bool, true, false, ◌&&◌, ◌||◌, eqb, List, [], ◌∷◌, ◌++◌, cond, inl, inr, arith, refl, sym, ap, ◌∙◌}
 use Rattle.std.proofs.lemmas.Bool.{eqb-true, eq-eqb, ltb-true, not-true, cases_lt}
 use Rattle.dp_plan.specs.Plan.{PlanOf}
@@ -17,7 +17,7 @@ or_assoc : (a b c : Bool) → (a || (b || c)) ≡ ((a || b) || c)
 or_assoc true b c = refl
 or_assoc false b c = refl
 
--- one more that is seen
+-- one more context is seen
 has-push : (seen : List ℕ) (c k : ℕ) → has (seen ++ c ∷ []) k ≡ (has seen k || eqb c k)
 has-push [] c k = or-false (eqb c k)
 has-push (x ∷ seen) c k = ap (λ b. eqb x k || b) (has-push seen c k) ∙ or_assoc (eqb x k) (has seen k) (eqb c k)
@@ -43,7 +43,7 @@ open_parts plan seen c e =
     let parts = and_parts _ _ e in
     (ltb-true c (context_count plan) parts.0, not-true (has seen c) parts.1)
 
--- a context that is seen beyond the bound does not count
+-- a context beyond the bound does not count
 pub unseen-push_above : (weight : ℕ → ℕ) (bound : ℕ) (seen : List ℕ) (c : ℕ) → bound ≤ c → unseen weight bound (seen ++ c ∷ []) ≡ unseen weight bound seen
 unseen-push_above weight zero seen c above = refl
 unseen-push_above weight (suc bound) seen c above =
@@ -67,7 +67,7 @@ push_at weight bound seen c same new =
     let here = ap (λ b. cond b 0 (weight bound)) before in
     omega (arith, rest, none, here, ap weight same)
 
--- one more that is seen is one less that is left
+-- one more seen is one less remaining
 pub unseen-push : (weight : ℕ → ℕ) (bound : ℕ) (seen : List ℕ) (c : ℕ) → c < bound → has seen c ≡ false → unseen weight bound (seen ++ c ∷ []) + weight c ≡ unseen weight bound seen
 unseen-push weight zero seen c within new = absurd (omega arith)
 unseen-push weight (suc bound) seen c within new =
@@ -77,7 +77,7 @@ unseen-push weight (suc bound) seen c within new =
       | inr above ↦ push_at weight bound seen c (omega arith) new
     ]
 
--- what is seen leaves no more than before
+-- seeing more leaves no more than before
 pub unseen-push_le : (weight : ℕ → ℕ) (bound : ℕ) (seen : List ℕ) (c : ℕ) → unseen weight bound (seen ++ c ∷ []) ≤ unseen weight bound seen
 unseen-push_le weight zero seen c = omega arith
 unseen-push_le weight (suc bound) seen c =
@@ -91,7 +91,7 @@ unseen-push_le weight (suc bound) seen c =
     weight-or false true w = omega arith
     weight-or false false w = omega arith
 
--- there are no more than the bound
+-- there are at most as many as the bound
 pub unseen_all : (bound : ℕ) (seen : List ℕ) → unseen one bound seen ≤ bound
 unseen_all zero seen = omega arith
 unseen_all (suc bound) seen =

@@ -1,4 +1,4 @@
--- The visit of a context meets its equation, and nothing else does.
+-- The visit of a context satisfies its equation, and nothing else does.
 use Rattle.std.proofs.Common.{◌≡◌, ℕ, zero, suc, ◌+◌, ◌≤◌, Bool, true, false, List, [], ◌∷◌, ◌++◌, cond, arith, refl, sym, ap, ◌∙◌}
 use Rattle.std.specs.Prelude.{fold}
 use Rattle.dp_plan.specs.Plan.{PlanOf}
@@ -7,11 +7,11 @@ use Rattle.dp_lookup.specs.steps.Filling.{unseen, one}
 use Rattle.dp_lookup.proofs.SeenLemmas.{open_parts, unseen-push, unseen-push_le, unseen_all}
 
 module _ (plan : PlanOf) where
-  -- how many contexts are still to be visited
+  -- the number of contexts still to be visited
   abbrev unvisited_count : List ℕ → ℕ
   unvisited_count seen = unseen one (context_count plan) seen
 
-  -- an open context is one of those that are left
+  -- an open context is one of the remaining ones
   unvisited_count-open : (seen : List ℕ) (c : ℕ) → is_open plan seen c ≡ true → unvisited_count (seen ++ c ∷ []) + 1 ≡ unvisited_count seen
   unvisited_count-open seen c e = let parts = open_parts plan seen c e in unseen-push one (context_count plan) seen c parts.0 parts.1
 
@@ -56,17 +56,17 @@ module _ (plan : PlanOf) where
   none_open seen c few true e = let one_less = unvisited_count-open seen c e in absurd (omega (arith, one_less, few))
   none_open seen c few false e = e
 
-  -- where no more visits stand inside one another than contexts are left, only one family meets the steps
+  -- if visits are nested no deeper than the number of remaining contexts, only one family satisfies the steps
   agree : (f : ℕ → Visit) → ((most : ℕ) (seen : List ℕ) (c : ℕ) → f (suc most) seen c ≡ visited_by plan (f most) seen c) → ((seen : List ℕ) (c : ℕ) → is_open plan seen c ≡ false → f zero seen c ≡ seen) → (most : ℕ) → AgreeUpTo most (f most) (visit_in most plan)
   agree f step last zero seen c few = last seen c (none_open seen c few (is_open plan seen c) refl)
   agree f step last (suc most) seen c few =
       step most seen c ∙ visited-agree most (f most) (visit_in most plan) (visit_in-shrinks most) (agree f step last most) seen c few (is_open plan seen c) refl
 
-  -- nothing is visited where the context is not open
+  -- nothing is visited if the context is not open
   pub closed : (f : Visit) (seen : List ℕ) (c : ℕ) → is_open plan seen c ≡ false → visited_by plan f seen c ≡ seen
   closed f seen c e = ap (λ b. cond b (fold f (seen ++ c ∷ []) (links_at plan c)) seen) e
 
-  -- one visit more inside changes nothing
+  -- one more level of visits changes nothing
   visit_in-more : (seen : List ℕ) (c : ℕ) → visit_in (suc (context_count plan)) plan seen c ≡ visit_in (context_count plan) plan seen c
   visit_in-more seen c =
       agree (λ most. visit_in (suc most) plan) (λ most seen c. refl) (λ seen c e. closed (visit_in zero plan) seen c e) (context_count plan) seen c (unseen_all (context_count plan) seen)

@@ -1,4 +1,4 @@
--- What a look-up finds.
+-- The entries that a look-up finds.
 use Rattle.std.specs.Prelude.{◌≡◌, ◌≢◌, ℕ, ◌≤◌, List, slice_get, Some}
 use Rattle.std.specs.Ordering.{ordering_then, nat_cmp}
 use Rattle.std.specs.declared.cmp.Ordering.{Ordering}
@@ -26,26 +26,26 @@ pub record BeginsLater (text : List ℕ) (entry : Entry) : Type 0 where
   pub going_on : GoesOn entry.name text
   pub first : entry.priority ≡ 1
 
--- the entry of these numbers stands in the context at that place of the order
+-- the entry with these numbers is in the context at that place of the order
 pub record StandsAt (plan : PlanOf) (order : List ℕ) (place : ℕ) (id : EntryId) (entry : Entry) : Type 0 where
   pub context : slice_get order place ≡ Some id.context
   pub there : entry_at plan id ≡ Some entry
 
--- the order of entries that stand at places: by the places, and at one place by the names
+-- the order of entries at places: by the places, and at the same place by the names
 abbrev pub found_cmp : ℕ → Entry → ℕ → Entry → Ordering
 found_cmp i a j b = ordering_then (nat_cmp i j) (name_cmp a.name b.name)
 
--- the entry is one that is asked for, and none that is asked for is less
+-- the entry is a wanted one, and no wanted one is less
 pub record IsLeast (Asked : Entry → Type 0) (plan : PlanOf) (order : List ℕ) (place : ℕ) (id : EntryId) (entry : Entry) : Type 0 where
   pub stands : StandsAt plan order place id entry
   pub asked : Asked entry
   pub least : (i : ℕ) (other : EntryId) (a : Entry) → StandsAt plan order i other a → Asked a → found_cmp i a place entry ≢ Less
 
--- no entry is one that is asked for
+-- no entry is a wanted one
 abbrev pub NoneAsked : (Entry → Type 0) → PlanOf → List ℕ → Type 0
 NoneAsked Asked plan order = (place : ℕ) (id : EntryId) (entry : Entry) → StandsAt plan order place id entry → Asked entry → ⊥
 
--- the entry of these numbers is found: the least of those that match the text and have the priority
+-- the entry with these numbers is found: the least of those that match the text and have the priority
 pub record IsFound (plan : PlanOf) (order text : List ℕ) (priority : ℕ) (id : EntryId) : Type 0 where
   pub place : ℕ
   pub entry : Entry
@@ -56,7 +56,7 @@ pub record SomeFound (plan : PlanOf) (order text : List ℕ) (priority : ℕ) : 
   pub id : EntryId
   pub found : IsFound plan order text priority id
 
--- the priority is that of the least entry that matches the text and has the label; of several of one name, it is the lowest
+-- the priority is that of the least entry that matches the text and has the label; of several with the same name, it is the lowest
 pub record IsFoundLabel (plan : PlanOf) (order text label : List ℕ) (priority : ℕ) : Type 0 where
   pub place : ℕ
   pub id : EntryId

@@ -1,4 +1,4 @@
--- The entry and the label that a look-up finds, by the entries of the contexts in the order of the file.
+-- The entry and the label that a look-up finds, given the entries of the contexts in file order.
 use Rattle.std.specs.Prelude.{ℕ, Bool, false, ◌&&◌, ◌==◌, List, [], ◌∷◌, slice_get, Option, None, Some, is_some}
 use Rattle.std.specs.List.{filter, reduce}
 use Rattle.std.specs.Option.{option_and_then, option_map, option_map_or, option_or}
@@ -18,7 +18,7 @@ use Rattle.dp_plan.specs.declared.entry.EntryId.{EntryId}
 abbrev pub matches_name : Meaning → List ℕ → Bool
 matches_name name text = is_match (tail_of name) (walk_after (classes_of name) (without_dashes text))
 
--- whether some ending makes the text match the name, which some text means and which has no tail `!`
+-- whether some ending makes the text match the name, if the name is the meaning of some text and has no tail `!`
 abbrev pub goes_on_from : Meaning → List ℕ → Bool
 goes_on_from name text = goes_on (tail_of name) (walk_after (classes_of name) (without_dashes text))
 
@@ -34,27 +34,27 @@ has_label text label entry = matches_name entry.name text && shares_label entry.
 abbrev pub begins_later : List ℕ → Entry → Bool
 begins_later text entry = goes_on_from entry.name text && entry.priority == 1
 
--- the entries of the context of a number, in the order of the file; where there is none, there are no entries
+-- the entries of the context with a number, in file order; there are none if there is no such context
 abbrev pub entries_at : PlanOf → ℕ → List Entry
 entries_at plan number = option_map_or (λ context. context.entries) (slice_get plan.contexts number) []
 
--- whether the entry of these numbers passes the test
+-- whether the entry with these numbers passes the test
 abbrev pub passes : PlanOf → (Entry → Bool) → EntryId → Bool
 passes plan test id = option_map_or test (entry_at plan id) false
 
--- the numbers of the entries of a context that pass the test, in the order of the file
+-- the numbers of the entries of a context that pass the test, in file order
 abbrev pub passing : PlanOf → (Entry → Bool) → ℕ → List EntryId
 passing plan test number = filter (passes plan test) (ids_of number (entries_at plan number))
 
--- the order of the entries of these numbers; a number that has no entry is equal to any
+-- the order of the entries with these numbers; a number without an entry is equal to any
 abbrev pub id_cmp : PlanOf → EntryId → EntryId → Ordering
 id_cmp plan a b = option_map_or (λ x. option_map_or (entry_cmp x) (entry_at plan b) Equal) (entry_at plan a) Equal
 
--- the lesser of two, and the first where they are equal
+-- the lesser of two, or the first if they are equal
 abbrev pub lesser : PlanOf → EntryId → EntryId → EntryId
 lesser plan a b = min_by_ordering (id_cmp plan a b) a b
 
--- the least of these, where there are any
+-- the least of these, if there are any
 abbrev pub least : PlanOf → List EntryId → Option EntryId
 least plan ids = reduce (lesser plan) ids
 
@@ -63,7 +63,7 @@ abbrev pub found_by : PlanOf → (Entry → Bool) → List ℕ → Option EntryI
 found_by plan test [] = None
 found_by plan test (number ∷ order) = option_or (least plan (passing plan test number)) (found_by plan test order)
 
--- the priority of the entry of these numbers
+-- the priority of the entry with these numbers
 abbrev pub priority_at : PlanOf → EntryId → Option ℕ
 priority_at plan id = option_map (λ entry. entry.priority) (entry_at plan id)
 

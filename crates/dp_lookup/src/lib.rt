@@ -1,5 +1,5 @@
-//! Look-up in a dialplan, after the Asterisk documentation's pages on the dialplan and on pattern matching. That it
-//! goes through a context and then its includes, depth first, is this program's own choice, after the classic search.
+//! Look-up in a dialplan, after the Asterisk documentation's pages on the dialplan and on pattern matching. Searching a
+//! context and then its includes, depth first, is this program's own choice, as in the classic search.
 #![tactic(auto)]
 
 mod look_up;

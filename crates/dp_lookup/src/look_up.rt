@@ -13,14 +13,14 @@ use crate::order::SearchOrder;
 use dp_pattern::{could_match_more, matches};
 use dp_plan::{Dialplan, Entry, EntryId};
 
-/// What an entry is asked for, beside a text.
+/// The condition for an entry, in addition to a text.
 #[derive(Clone, Copy)]
 enum LookUp<'a> {
-    /// That it matches the text and has this priority.
+    /// It matches the text and has this priority.
     Priority(u32),
-    /// That it matches the text and has this label.
+    /// It matches the text and has this label.
     Label(&'a [u8]),
-    /// That it has priority 1 and its name goes on from the text.
+    /// It has priority 1 and its name goes on from the text.
     More,
 }
 
@@ -33,7 +33,7 @@ fn has_label(entry: &Entry, label: &[u8]) -> bool
     }
 }
 
-/// Whether the entry is one that the question asks for.
+/// Whether the entry meets the condition.
 fn is_asked(question: LookUp<'_>, text: &[u8], entry: &Entry) -> bool
     ensures { result ≡ asks question.entry text.now entry.now }
 {
@@ -46,7 +46,7 @@ fn is_asked(question: LookUp<'_>, text: &[u8], entry: &Entry) -> bool
     }
 }
 
-/// The first of these entries that the question asks for.
+/// The first of these entries that meets the condition.
 fn first_of(plan: &Dialplan, ids: &[EntryId], question: LookUp<'_>, text: &[u8]) -> Option<EntryId>
     ensures { result ≡ lists.find (passes plan.now (asks question.entry text.now)) ids.now }
 {
@@ -60,14 +60,14 @@ fn first_of(plan: &Dialplan, ids: &[EntryId], question: LookUp<'_>, text: &[u8])
     None
 }
 
-/// The least entry of the context of this number that the question asks for.
+/// The least entry of the context with this number that meets the condition.
 fn find_in(plan: &Dialplan, number: usize, question: LookUp<'_>, text: &[u8]) -> Option<EntryId>
     ensures { result ≡ least plan.now (passing plan.now (asks question.entry text.now) number) }
 {
     first_of(plan, plan.ranked_at(number), question, text)
 }
 
-/// The least entry that the question asks for, in the first of the contexts of these numbers that has such an entry.
+/// The least entry that meets the condition, in the first of the contexts with these numbers that has such an entry.
 fn find_first(
     plan: &Dialplan,
     order: &[usize],
@@ -85,12 +85,12 @@ fn find_first(
     None
 }
 
-/// The entry of the order's contexts that matches the dialled text and has the priority, or None where there is none.
+/// The entry of the order's contexts that matches the dialled text and has the priority, or None if there is none.
 ///
-/// Of several, it is in the context that stands first in the order, and there it has the most specific name, after
-/// the Asterisk documentation's page on pattern matching. The priority is asked before the name is chosen (a choice of
-/// this program), and the extensions `s`, `i`, `t` and `h` are found as any other text is. It never allocates. A
-/// number in the order that no context of the dialplan has finds nothing.
+/// If there are several, it is in the context that comes first in the order, and there it has the most specific name,
+/// after the Asterisk documentation's page on pattern matching. The priority is checked before the name is chosen (a
+/// choice of this program), and the extensions `s`, `i`, `t` and `h` are found like any other text. It never allocates.
+/// A number in the order that is not that of a context finds nothing.
 pub fn find(plan: &Dialplan, order: &SearchOrder, text: &[u8], priority: u32) -> Option<EntryId>
     ensures found { MatchOption result (NoneAsked (HasPriority text.now priority) plan.now order.now.contexts)
         (IsFound plan.now order.now.contexts text.now priority) }
@@ -102,11 +102,11 @@ pub fn find(plan: &Dialplan, order: &SearchOrder, text: &[u8], priority: u32) ->
     find_first(plan, order.contexts(), LookUp::Priority(priority), text)
 }
 
-/// The priority of the entry of the order's contexts that matches the dialled text and has the label, or None where
-/// there is none.
+/// The priority of the entry of the order's contexts that matches the dialled text and has the label, or None if there
+/// is none.
 ///
-/// Of several entries it is the one that `find` would choose, by the context and then by the name (a choice of this
-/// program); of one name, the one of the lowest priority. It never allocates.
+/// If there are several entries, it is the one that `find` would choose, by the context and then by the name (a choice
+/// of this program); of those with the same name, the one with the lowest priority. It never allocates.
 pub fn find_label(plan: &Dialplan, order: &SearchOrder, text: &[u8], label: &[u8]) -> Option<u32>
     ensures found { MatchOption result (NoneAsked (HasLabel text.now label.now) plan.now order.now.contexts)
         (IsFoundLabel plan.now order.now.contexts text.now label.now) }
@@ -128,8 +128,8 @@ pub fn exists(plan: &Dialplan, order: &SearchOrder, text: &[u8], priority: u32) 
 }
 
 /// Whether some ending of one or more bytes other than `-` makes the dialled text match an entry of priority 1 whose
-/// name does not end with `!`: a caller who has dialled so far may go on. It never allocates, and is a choice of this
-/// program.
+/// name does not end with `!`: then a caller who has dialled the text may go on. It never allocates, and is a choice of
+/// this program.
 pub fn could_be_more(plan: &Dialplan, order: &SearchOrder, text: &[u8]) -> bool
     ensures found { IsTrue result ↔ SomeGoesOn plan.now order.now.contexts text.now }
     ensures value { result ≡ goes_on_more plan.now order.now.contexts text.now }
@@ -138,8 +138,9 @@ pub fn could_be_more(plan: &Dialplan, order: &SearchOrder, text: &[u8]) -> bool
     find_first(plan, order.contexts(), LookUp::More, text).is_some()
 }
 
-/// What `found_entry` finds, in any dialplan: the least entry of the priority, and None exactly where there is none.
-/// Where no two entries of a context have the same name and priority, as in every loaded dialplan, there is no other.
+/// States what `found_entry` finds, in any dialplan: the least entry with the priority, and None exactly if there is
+/// none. If no two entries of a context have the same name and priority, as in every loaded dialplan, there is no
+/// other. It does nothing.
 pub fn found_entry_is_the_least()
     ensures found { (plan : PlanOf) (order text : List ℕ) (priority : ℕ)
         → MatchOption (found_entry plan order text priority) (NoneAsked (HasPriority text priority) plan order)
@@ -149,8 +150,8 @@ pub fn found_entry_is_the_least()
         → (a b : EntryId) → IsFound plan order text priority a → IsFound plan order text priority b → a ≡ b }
 {}
 
-/// What `found_label` finds, in any dialplan: the priority of the least entry of the label, and None exactly where there
-/// is none. There is no other.
+/// States what `found_label` finds, in any dialplan: the priority of the least entry with the label, and None exactly
+/// if there is none. There is no other. It does nothing.
 pub fn found_label_is_of_the_least()
     ensures found { (plan : PlanOf) (order text label : List ℕ)
         → MatchOption (found_label plan order text label) (NoneAsked (HasLabel text label) plan order)
@@ -159,8 +160,8 @@ pub fn found_label_is_of_the_least()
         → IsFoundLabel plan order text label b → a ≡ b }
 {}
 
-/// What `goes_on_more` says, in any dialplan whose names are what some texts mean, as those of every loaded dialplan
-/// are: that some ending of the text would match an entry of priority 1.
+/// States what `goes_on_more` says, in any dialplan whose names are meanings of texts, as in every loaded dialplan:
+/// some ending of the text would match an entry of priority 1. It does nothing.
 pub fn goes_on_more_is_some_ending()
     ensures { (plan : PlanOf) (order text : List ℕ) → All (λ context. AreNamed context.entries) plan.contexts
         → IsTrue (goes_on_more plan order text) ↔ SomeGoesOn plan order text }

@@ -8,12 +8,12 @@ use dp_plan::{Dialplan, NoMemory, Text};
 use std::alloc::Global;
 use std::marker::Model;
 
-/// The contexts in which a look-up searches, in their order, and room for every context of a dialplan. A contract sees
-/// it as the numbers of its contexts, and how many contexts each of its lists has room for: where that number stays, no
-/// list has grown.
+/// The contexts in which a look-up searches, in order, with room for every context of a dialplan. A contract sees it as
+/// the numbers of its contexts, and the number of contexts for which each of its lists has room: if that number does
+/// not change, no list has grown.
 ///
-/// After the Asterisk documentation's page on the dialplan, a context is searched and then its includes, in the order
-/// of the file. That they are searched depth first, each context once, is this program's own choice.
+/// After the Asterisk documentation's page on the dialplan, a context is searched and then its includes, in file order.
+/// Searching depth first, each context once, is this program's own choice.
 pub struct SearchOrder {
     contexts: Vec<usize>,
     marks: Vec<bool>,
@@ -39,7 +39,7 @@ impl Model for SearchOrder {
 
     ghost view = { λ order. record { contexts = order.contexts.items; room = vec_len order.marks } };
 
-    // The marks are those of the order, and each list has room for every context, and for no more.
+    // The marks are those of the order, and each list has room for exactly as many contexts as there are.
     ghost invariant = { λ order.
         IsMarked order.contexts.items order.marks.items
         × All (λ number. number < vec_len order.marks) order.contexts.items
@@ -48,7 +48,7 @@ impl Model for SearchOrder {
         × (vec_capacity order.frames ≡ vec_len order.marks) };
 }
 
-/// So many marks, each of them taken away, with room for no more.
+/// This many marks, none of them set, with room for no more. It fails only if memory runs out.
 fn no_marks(alloc: Global, count: usize) -> Result<Vec<bool>, NoMemory>
     ensures marks { IfOk result (λ marks. marks.items ≡ replicate count false) }
     ensures room { IfOk result (λ marks. vec_capacity marks ≡ count) }
@@ -61,7 +61,7 @@ fn no_marks(alloc: Global, count: usize) -> Result<Vec<bool>, NoMemory>
 }
 
 impl SearchOrder {
-    /// An empty order with room for every context of the dialplan.
+    /// An empty order with room for every context of the dialplan. It fails only if memory runs out.
     pub fn room(alloc: Global, plan: &Dialplan) -> Result<Self, NoMemory>
         ensures { IfOk result (λ order. order ≡ record { contexts = []; room = context_count plan.now }) }
     {
@@ -76,9 +76,9 @@ impl SearchOrder {
         })
     }
 
-    /// The order of the context of this name: the context, then its includes in the order of the file, depth first.
-    /// A context that stands in it already is skipped, and so is an include of an unknown context. An unknown context
-    /// has an empty order.
+    /// The order of the context with this name: the context, then its includes in file order, depth first. A context
+    /// that is already in it is skipped, and so is an include of an unknown context. An unknown context has an empty
+    /// order. It fails only if memory runs out.
     pub fn of(alloc: Global, plan: &Dialplan, context: &Text) -> Result<Self, NoMemory>
         ensures order { IfOk result (λ order. order.contexts ≡ search_order plan.now context.now) }
         ensures room { IfOk result (λ order. order.room ≡ context_count plan.now) }
@@ -89,9 +89,9 @@ impl SearchOrder {
         Ok(order)
     }
 
-    /// Makes this the order of the context of this name, as `of` gives it. There is room for every context of the
-    /// dialplan, as in an order that `room` made for it. It never allocates, since each list keeps the room that it has,
-    /// and costs the order that stood here before and the includes of the contexts that it visits.
+    /// Makes this the order of the context with this name, as `of` gives it. There must be room for every context of
+    /// the dialplan, as in an order that `room` made for it. It never allocates, because each list keeps its room. The
+    /// cost depends on the previous order and on the includes of the contexts that are visited.
     pub fn fill(&mut self, plan: &Dialplan, context: &Text)
         requires { context_count plan.now ≤ self.old.room }
         ensures order { self.new.contexts ≡ search_order plan.now context.now }
@@ -119,9 +119,9 @@ impl SearchOrder {
     }
 }
 
-/// What a visit of a context is, for any dialplan: where the context does not stand in the order yet, it is added, and
-/// then each of its includes is visited in turn; where it does, nothing is visited. The visit meets this equation, and
-/// nothing else does.
+/// States what a visit of a context is, for any dialplan: a context that is not in the order yet is added, and then
+/// each of its includes is visited in turn; for any other context nothing is visited. The visit satisfies this
+/// equation, and nothing else does. It does nothing.
 pub fn visit_is_the_visit()
     ensures { (plan : PlanOf) → IsTheVisit plan (visit plan) }
 {}

@@ -1,18 +1,18 @@
-//! The walk through a dialplan's contexts. It never allocates, and no call of it stands inside another.
+//! The walk through a dialplan's contexts. It never allocates, and does not recurse.
 ghost use Rattle.std.specs.Prelude.{◌≡◌, ◌<◌, ◌≤◌, [], ◌∷◌, length, fold, All, vec_len, vec_capacity, MatchOption};
 ghost use Rattle.dp_lookup.specs.SearchOrder.{context_count, link_of, visit, AreContexts};
 ghost use Rattle.dp_lookup.specs.steps.Filling.{pending, work, IsMarked, IsFilling};
 
 use dp_plan::{Dialplan, Text};
 
-/// A context whose includes are visited: those from this one on are still to come.
+/// A context whose includes are being visited: those from this one on remain.
 #[derive(Clone, Copy)]
 pub(crate) struct ContextVisit {
     context: usize,
     next: usize,
 }
 
-/// Takes the marks of the contexts of the order away.
+/// Clears the marks of the contexts in the order.
 pub(crate) fn unmark(order: &[usize], marks: &mut [bool])
     requires marked { IsMarked order.now marks.old }
     requires within { All (λ number. number < length marks.old) order.now }
@@ -23,7 +23,7 @@ pub(crate) fn unmark(order: &[usize], marks: &mut [bool])
     }
 }
 
-/// Adds a context that does not stand in the order yet, with all its includes still to come.
+/// Adds a context that is not in the order yet, with all its includes remaining.
 fn enter(
     plan: &Dialplan,
     number: usize,
@@ -53,7 +53,7 @@ fn enter(
     }
 }
 
-/// Takes the next include that is still to come.
+/// Takes the next remaining include.
 fn next_include<'a>(plan: &'a Dialplan, frames: &mut Vec<ContextVisit>) -> Option<&'a Text>
     requires { vec_len frames.old ≤ vec_capacity frames.old }
     ensures next { MatchOption result (pending plan.now frames.old.items ≡ [])

@@ -1,4 +1,5 @@
 pub mod AskLemmas
+pub mod DigitLemmas
 pub mod IsolationLemmas
 pub mod LookupLemmas
 pub mod RefusedLemmas

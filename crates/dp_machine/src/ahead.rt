@@ -2,19 +2,15 @@
 ghost use Rattle.std.specs.Prelude.{◌≡◌, IfOk, List};
 ghost use Rattle.std.specs.Option.{option_map};
 ghost use Rattle.dp_machine.specs.Events as spec;
-ghost use Rattle.dp_machine.specs.Seen.{arguments_seen};
 ghost use Rattle.dp_machine.specs.World as worlds;
 ghost use Rattle.dp_machine.specs.declared.channel.Channel.{Channel as AnyChannel};
-ghost use Rattle.dp_machine.specs.steps.Templates.{IsOf};
 
 use crate::channel::Channel;
 use crate::directory::Directory;
 use crate::exchange::Exchange;
 use crate::seen::expand_arguments;
-use crate::shared_state::SharedState;
-use crate::templates::{Arguments, EntryTemplate};
 use dp_app::Phase;
-use dp_plan::{Entry, EntryId, NoMemory};
+use dp_plan::{EntryId, NoMemory};
 use dp_vars::Functions;
 use std::alloc::Global;
 
@@ -56,28 +52,6 @@ pub(crate) fn entry_ahead_of(plan: &mut Directory, channel: &Channel) -> Option<
     }
 }
 
-/// The arguments of an entry with this template, expanded for the channel with this number.
-#[tactic(auto, unfolding(crate::specs::Seen::arguments_seen))]
-pub(crate) fn expanded<F: Functions>(
-    alloc: Global,
-    shared: &SharedState,
-    number: u32,
-    channel: &Channel,
-    entry: &Entry,
-    template: &EntryTemplate,
-) -> Result<Vec<u8>, NoMemory>
-    requires { IsOf entry.now template.now }
-    ensures { IfOk result (λ text. text.items ≡ arguments_seen F.table shared.now number channel.now entry.now.arguments) }
-{
-    let arguments = entry.arguments.bytes();
-    match &template.arguments {
-        Arguments::Plain => Vec::from_slice(alloc, arguments),
-        Arguments::Read(pieces) => {
-            expand_arguments::<F>(alloc, shared, number, channel, arguments, pieces)
-        }
-    }
-}
-
 /// The expanded arguments of the entry that the next step of the channel would run.
 pub(crate) fn arguments_ahead_of<F: Functions>(
     alloc: Global,
@@ -92,8 +66,7 @@ pub(crate) fn arguments_ahead_of<F: Functions>(
     let Some(id) = entry_ahead_of(&mut exchange.plan, channel) else {
         return Ok(None);
     };
-    let entry = exchange.plan.entry(id);
-    let template = exchange.plan.template(id);
-    let text = expanded::<F>(alloc, &exchange.shared, number, channel, entry, template)?;
+    let prepared = exchange.plan.prepared_entry(id);
+    let text = expand_arguments::<F>(alloc, &exchange.shared, number, channel, prepared)?;
     Ok(Some(text))
 }

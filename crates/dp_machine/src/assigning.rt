@@ -38,6 +38,13 @@ fn set_target(
     Ok(Reply::Done)
 }
 
+/// A name, and the value to which it is set from outside.
+#[derive(Clone, Copy)]
+pub(crate) struct Assignment<'a> {
+    pub(crate) name: &'a [u8],
+    pub(crate) value: &'a [u8],
+}
+
 /// Sets a name of the channel with this number from outside: the functions say what the name sets. A channel that is over keeps its values.
 #[tactic(auto, unfolding(crate::specs::Events::assign_row))]
 pub(crate) fn assign<F: Functions>(
@@ -45,16 +52,21 @@ pub(crate) fn assign<F: Functions>(
     exchange: &mut Exchange,
     number: u32,
     channel: &mut Channel,
-    name: &[u8],
-    value: &[u8],
+    setting: Assignment<'_>,
 ) -> Result<Reply, NoMemory>
-    ensures { Follows (spec.assign_row F.table name.now value.now exchange.old.plan exchange.old.shared number channel.old)
-        exchange.old exchange.new channel.old channel.new result }
+    ensures { Follows (spec.assign_row F.table setting.entry.name.now setting.entry.value.now
+        exchange.old.plan exchange.old.shared number channel.old) exchange.old exchange.new channel.old channel.new result }
 {
     if is_over(&channel.phase) {
         return Ok(Reply::Refused(Refusal::Ended));
     }
-    set_target(alloc, exchange, channel, F::target(name), value)
+    set_target(
+        alloc,
+        exchange,
+        channel,
+        F::target(setting.name),
+        setting.value,
+    )
 }
 
 /// Sets a global from outside.

@@ -1,14 +1,14 @@
 //! The dialplan, and the tables that its look-ups search. No look-up allocates.
-ghost use Rattle.std.specs.Prelude.{◌≡◌, IfOk, IfSome, IsSome, Some};
+ghost use Rattle.std.specs.Prelude.{◌≡◌, IfOk, IsSome, Some};
 ghost use Rattle.dp_plan.specs.Lookup.{entry_at};
 ghost use Rattle.dp_machine.specs.Found as spec;
 ghost use Rattle.dp_machine.specs.steps.Tables.{AreTables};
 ghost use Rattle.dp_machine.specs.steps.Templates.{IsOf};
 
-use crate::templates::{EntryTemplate, Templates};
+use crate::templates::{PreparedEntry, Templates};
 use dp_app::{AppTable, Place};
 use dp_lookup::SearchOrder;
-use dp_plan::{Dialplan, Entry, EntryId, NoMemory, Text};
+use dp_plan::{Dialplan, EntryId, NoMemory, Text};
 use dp_trie::Finder;
 use std::alloc::Global;
 use std::marker::Model;
@@ -115,26 +115,19 @@ impl Directory {
         self.tables.finder.find_label(exten, label)
     }
 
-    /// The entry with these numbers, which is in the dialplan.
-    pub(crate) fn entry(&self, id: EntryId) -> &Entry
+    /// The entry with these numbers, which is in the dialplan, with its template.
+    pub(crate) fn prepared_entry(&self, id: EntryId) -> PreparedEntry<'_>
         requires { IsSome (entry_at self.now id) }
-        ensures { Some result.now ≡ entry_at self.now id }
+        ensures entry { Some result.entry.now ≡ entry_at self.now id }
+        ensures template { IsOf result.entry.now result.template.now }
     {
-        match self.plan.entry(id) {
-            Some(entry) => entry,
-            None => unreachable!(),
-        }
-    }
-
-    /// The template of the entry with these numbers, which is in the dialplan.
-    pub(crate) fn template(&self, id: EntryId) -> &EntryTemplate
-        requires { IsSome (entry_at self.now id) }
-        ensures { IfSome (entry_at self.now id) (λ entry. IsOf entry result.now) }
-    {
-        match self.tables.templates.of_entry(id) {
-            Some(template) => template,
-            None => unreachable!(),
-        }
+        let Some(entry) = self.plan.entry(id) else {
+            unreachable!()
+        };
+        let Some(template) = self.tables.templates.of_entry(id) else {
+            unreachable!()
+        };
+        PreparedEntry { entry, template }
     }
 
     /// The entry that answers at a place, found with a separate search order.

@@ -12,7 +12,7 @@ ghost use Rattle.dp_machine.specs.World as worlds;
 
 use crate::agents::{agent_done, answer, decline, offer};
 use crate::ahead::{arguments_ahead_of, entry_ahead_of, next_entry_of};
-use crate::assigning::{assign, assign_global};
+use crate::assigning::{Assignment, assign, assign_global};
 use crate::channel::Channel;
 use crate::channel_event::ChannelEvent;
 use crate::dialling::take_result;
@@ -89,7 +89,8 @@ fn answer_to<T: AppTable>(
         ChannelEvent::Hangup => hang_up_channel(alloc, exchange, number, channel),
         ChannelEvent::DialResult(status) => take_result(alloc, exchange, number, channel, status),
         ChannelEvent::Assign(name, value) => {
-            assign::<T::Functions>(alloc, exchange, number, channel, name, value)
+            let setting = Assignment { name, value };
+            assign::<T::Functions>(alloc, exchange, number, channel, setting)
         }
         ChannelEvent::Redirect(place) => redirect(exchange, number, channel, place),
     }

@@ -1,18 +1,17 @@
 //! The values that the texts of a channel read.
 ghost use Rattle.std.specs.Prelude.{◌≡◌, IfOk, Some};
-ghost use Rattle.std.specs.Option.{option_map};
 ghost use Rattle.dp_queue.specs.Counted.{counts_of};
-ghost use Rattle.dp_vars.specs.Pieces.{AreOf};
 ghost use Rattle.dp_vars.specs.Sights.{maps_of, sight_of};
 ghost use Rattle.dp_machine.specs.Seen as spec;
-ghost use Rattle.dp_machine.specs.Unknown.{unknown_seen};
+ghost use Rattle.dp_machine.specs.steps.Templates.{IsOf};
 
 use crate::channel::Channel;
 use crate::shared_state::SharedState;
+use crate::templates::{Arguments, PreparedEntry};
 use dp_app::Place;
 use dp_plan::NoMemory;
 use dp_queue::Queues;
-use dp_vars::{ChannelSeen, Functions, Pieces, Scope, value_of};
+use dp_vars::{ChannelSeen, Functions, Scope, value_of};
 use std::alloc::Global;
 
 /// What the texts of the channel with this number see.
@@ -39,41 +38,28 @@ pub(crate) fn scope_of<'a>(
     }
 }
 
-/// The arguments of an entry that consist of these pieces, expanded by these functions with what the channel with this number sees.
+/// The arguments of an entry, expanded by these functions with what the channel with this number sees.
 #[tactic(auto, unfolding(crate::specs::Seen::arguments_seen))]
 pub(crate) fn expand_arguments<F: Functions>(
     alloc: Global,
     shared: &SharedState,
     number: u32,
     channel: &Channel,
-    arguments: &[u8],
-    pieces: &Pieces,
+    prepared: PreparedEntry<'_>,
 ) -> Result<Vec<u8>, NoMemory>
-    requires { AreOf arguments.now pieces.now }
-    ensures { IfOk result (λ bytes. bytes.items ≡ spec.arguments_seen F.table shared.now number channel.now arguments.now) }
+    requires { IsOf prepared.entry.now prepared.template.now }
+    ensures { IfOk result (λ bytes. bytes.items
+        ≡ spec.arguments_seen F.table shared.now number channel.now prepared.entry.entry.now.arguments) }
 {
-    let scope = scope_of(shared, number, channel);
-    let bytes = pieces.expand_with::<F, Place, Queues>(alloc, arguments, &scope)?;
-    Ok(bytes)
-}
-
-/// The first group of the arguments that these functions do not know, with what the channel with this number sees.
-#[tactic(auto, unfolding(crate::specs::Unknown::unknown_seen))]
-pub(crate) fn unknown_in_pieces<F: Functions>(
-    alloc: Global,
-    shared: &SharedState,
-    number: u32,
-    channel: &Channel,
-    arguments: &[u8],
-    pieces: &Pieces,
-) -> Result<Option<Vec<u8>>, NoMemory>
-    requires { AreOf arguments.now pieces.now }
-    ensures { IfOk result (λ unknown. option_map (λ text. text.items) unknown
-        ≡ unknown_seen F.table shared.now number channel.now arguments.now) }
-{
-    let scope = scope_of(shared, number, channel);
-    let unknown = pieces.first_unknown::<F, Place, Queues>(alloc, arguments, &scope)?;
-    Ok(unknown)
+    let arguments = prepared.entry.arguments.bytes();
+    match &prepared.template.arguments {
+        Arguments::Plain => Vec::from_slice(alloc, arguments),
+        Arguments::Read(pieces) => {
+            let scope = scope_of(shared, number, channel);
+            let bytes = pieces.expand_with::<F, Place, Queues>(alloc, arguments, &scope)?;
+            Ok(bytes)
+        }
+    }
 }
 
 /// The value of a name in the channel with this number.

@@ -21,9 +21,9 @@ use crate::reply::Reply;
 use crate::seen::expand_arguments;
 use crate::shared_state::SharedState;
 use crate::target::land;
-use crate::templates::{Arguments, EntryTemplate};
+use crate::templates::{Arguments, PreparedEntry};
 use dp_app::{AppNumber, AppTable, Cell, Exten, Move, Phase, Place};
-use dp_plan::{Entry, EntryId, NoMemory};
+use dp_plan::{EntryId, NoMemory};
 use std::alloc::Global;
 
 /// Moves the channel after an application, which a table may lack.
@@ -51,25 +51,25 @@ pub(crate) fn go_on(channel: &mut Channel)
     channel.phase = Phase::Ready;
 }
 
-/// The application that an entry calls, by name, and where the table first looks for it.
+/// The application that an entry calls, by name, where the table first looks for it, and its arguments.
 #[derive(Clone, Copy)]
 struct AppCall<'a> {
     number: AppNumber,
     name: &'a [u8],
+    arguments: &'a [u8],
 }
 
-/// Runs the application with this name on its expanded arguments, for the channel with this number, if the table has it. It lends the
-/// application what that may change.
+/// Runs the application that is called, for the channel with this number, if the table has it. It lends the application what that may
+/// change.
 fn run_application<T: AppTable>(
     alloc: Global,
     shared: &mut SharedState,
     number: u32,
     channel: &mut Channel,
-    application: AppCall<'_>,
-    arguments: &[u8],
+    call: AppCall<'_>,
 ) -> Result<Option<Move>, NoMemory>
     requires { MayRun (spec.cell_of shared.old number channel.old) }
-    ensures { Runs (after_dispatch (T.rows application.entry.name.now) arguments.now (spec.cell_of shared.old number channel.old))
+    ensures { Runs (after_dispatch (T.rows call.entry.name.now) call.entry.arguments.now (spec.cell_of shared.old number channel.old))
         shared.old shared.new channel.old channel.new result }
 {
     let mut cell = Cell {
@@ -81,13 +81,7 @@ fn run_application<T: AppTable>(
         globals: &mut shared.globals,
         queues: &mut shared.queues,
     };
-    T::run_by_number(
-        alloc,
-        application.number,
-        application.name,
-        arguments,
-        &mut cell,
-    )
+    T::run_by_number(alloc, call.number, call.name, call.arguments, &mut cell)
 }
 
 /// Runs the application of the entry, after it has expanded the arguments with their template.
@@ -97,34 +91,30 @@ fn run_entry<T: AppTable>(
     shared: &mut SharedState,
     number: u32,
     channel: &mut Channel,
-    entry: &Entry,
-    template: &EntryTemplate,
+    prepared: PreparedEntry<'_>,
 ) -> Result<Option<Move>, NoMemory>
     requires run { MayRun (spec.cell_of shared.old number channel.old) }
-    requires template { IsOf entry.now template.now }
-    ensures { Runs (after_dispatch (T.rows entry.now.application)
-        (arguments_seen T.Functions.table shared.old number channel.old entry.now.arguments) (spec.cell_of shared.old number channel.old))
-        shared.old shared.new channel.old channel.new result }
+    requires template { IsOf prepared.entry.now prepared.template.now }
+    ensures { Runs (after_dispatch (T.rows prepared.entry.entry.now.application)
+        (arguments_seen T.Functions.table shared.old number channel.old prepared.entry.entry.now.arguments)
+        (spec.cell_of shared.old number channel.old)) shared.old shared.new channel.old channel.new result }
 {
-    let application = AppCall {
-        number: template.number,
-        name: entry.application.bytes(),
+    let call = AppCall {
+        number: prepared.template.number,
+        name: prepared.entry.application.bytes(),
+        arguments: prepared.entry.arguments.bytes(),
     };
-    let arguments = entry.arguments.bytes();
-    match &template.arguments {
-        Arguments::Plain => run_application::<T>(
-            alloc,
-            shared,
-            number,
-            channel,
-            application,
-            arguments,
-        ),
-        Arguments::Read(pieces) => {
+    match &prepared.template.arguments {
+        Arguments::Plain => run_application::<T>(alloc, shared, number, channel, call),
+        Arguments::Read(_) => {
             let arguments = expand_arguments::<T::Functions>(
-                alloc, shared, number, channel, arguments, pieces,
+                alloc, shared, number, channel, prepared,
             )?;
-            run_application::<T>(alloc, shared, number, channel, application, &arguments)
+            let expanded = AppCall {
+                arguments: &arguments,
+                ..call
+            };
+            run_application::<T>(alloc, shared, number, channel, expanded)
         }
     }
 }
@@ -187,18 +177,10 @@ fn step_found<T: AppTable>(
         (entry_found exchange.old.plan channel.old.place)) exchange.old exchange.new channel.old channel.new result }
     ensures sound { OnOk result (IsSoundIn channel.new.phase channel.new) }
 {
-    let entry = exchange.plan.entry(id);
+    let prepared = exchange.plan.prepared_entry(id);
     // The channel stands at the entry's priority, which is at most 2,147,483,647.
-    let _ = entry.priority.get();
-    let template = exchange.plan.template(id);
-    let going = run_entry::<T>(
-        alloc,
-        &mut exchange.shared,
-        number,
-        channel,
-        entry,
-        template,
-    )?;
+    let _ = prepared.entry.priority.get();
+    let going = run_entry::<T>(alloc, &mut exchange.shared, number, channel, prepared)?;
     go(&mut exchange.plan, channel, going);
     Ok(Reply::Ran(id))
 }

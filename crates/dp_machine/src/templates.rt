@@ -50,6 +50,13 @@ impl EntryTemplate {
     }
 }
 
+/// An entry with its template.
+#[derive(Clone, Copy)]
+pub(crate) struct PreparedEntry<'a> {
+    pub(crate) entry: &'a Entry,
+    pub(crate) template: &'a EntryTemplate,
+}
+
 /// The templates of a context's entries, in the order of the file.
 #[derive(Drop)]
 struct ContextTemplates {

@@ -9,14 +9,15 @@ ghost use Rattle.dp_machine.specs.World as worlds;
 ghost use Rattle.dp_machine.specs.declared.channel.Channel.{Channel as AnyChannel};
 ghost use Rattle.dp_machine.specs.steps.Templates.{IsOf};
 
-use crate::ahead::{entry_ahead_of, expanded};
+use crate::ahead::entry_ahead_of;
 use crate::channel::Channel;
 use crate::exchange::Exchange;
-use crate::seen::{scope_of, unknown_in_pieces};
+use crate::seen::{expand_arguments, scope_of};
 use crate::shared_state::SharedState;
-use crate::templates::{Arguments, EntryTemplate};
-use dp_app::KnownTable;
-use dp_plan::{Entry, NoMemory, Text};
+use crate::templates::{Arguments, PreparedEntry};
+use dp_app::{KnownTable, Place};
+use dp_plan::{NoMemory, Text};
+use dp_queue::Queues;
 use dp_vars::Functions;
 use std::alloc::Global;
 
@@ -38,93 +39,99 @@ fn any_text(text: Vec<u8>) -> Option<Vec<u8>>
     if text.is_empty() { None } else { Some(text) }
 }
 
-/// The first unknown group in the arguments of an entry with this template.
+/// The first unknown group in the arguments of an entry.
 #[tactic(auto, unfolding(crate::specs::Unknown::unknown_seen))]
 fn unknown_group<F: Functions>(
     alloc: Global,
     shared: &SharedState,
     number: u32,
     channel: &Channel,
-    entry: &Entry,
-    template: &EntryTemplate,
+    prepared: PreparedEntry<'_>,
 ) -> Result<Option<Vec<u8>>, NoMemory>
-    requires { IsOf entry.now template.now }
+    requires { IsOf prepared.entry.now prepared.template.now }
     ensures { IfOk result (λ unknown. option_map (λ text. text.items) unknown
-        ≡ spec.unknown_seen F.table shared.now number channel.now entry.now.arguments) }
+        ≡ spec.unknown_seen F.table shared.now number channel.now prepared.entry.entry.now.arguments) }
 {
-    match &template.arguments {
+    match &prepared.template.arguments {
         Arguments::Plain => Ok(None),
         Arguments::Read(pieces) => {
-            let arguments = entry.arguments.bytes();
-            unknown_in_pieces::<F>(alloc, shared, number, channel, arguments, pieces)
+            let arguments = prepared.entry.arguments.bytes();
+            let scope = scope_of(shared, number, channel);
+            let unknown = pieces.first_unknown::<F, Place, Queues>(alloc, arguments, &scope)?;
+            Ok(unknown)
         }
     }
 }
 
-/// The unknown text that the application of an entry with this template asks for with the entry's arguments.
+/// The unknown text that the application of an entry asks for with the entry's arguments.
 #[tactic(auto, unfolding(crate::specs::Unknown::unknown_asked))]
 fn unknown_asked<T: KnownTable>(
     alloc: Global,
     shared: &SharedState,
     number: u32,
     channel: &Channel,
-    entry: &Entry,
-    template: &EntryTemplate,
+    prepared: PreparedEntry<'_>,
 ) -> Result<Option<Vec<u8>>, NoMemory>
-    requires { IsOf entry.now template.now }
+    requires { IsOf prepared.entry.now prepared.template.now }
     ensures { IfOk result (λ asked. option_map (λ text. text.items) asked
-        ≡ spec.unknown_asked (with_functions T.rows T.Functions.table) T.knowledge shared.now number channel.now entry.now) }
+        ≡ spec.unknown_asked (with_functions T.rows T.Functions.table) T.knowledge shared.now number channel.now
+        prepared.entry.entry.now) }
 {
-    let arguments = expanded::<T::Functions>(alloc, shared, number, channel, entry, template)?;
+    let arguments = expand_arguments::<T::Functions>(alloc, shared, number, channel, prepared)?;
     let scope = scope_of(shared, number, channel);
-    let asked = T::asked(alloc, &scope, entry.application.bytes(), &arguments)?;
+    let asked = T::asked(
+        alloc,
+        &scope,
+        prepared.entry.application.bytes(),
+        &arguments,
+    )?;
     Ok(any_text(asked))
 }
 
-/// What is unknown in the arguments of an entry with this template.
+/// What is unknown in the arguments of an entry.
 fn unknown_of_arguments<T: KnownTable>(
     alloc: Global,
     shared: &SharedState,
     number: u32,
     channel: &Channel,
-    entry: &Entry,
-    template: &EntryTemplate,
+    prepared: PreparedEntry<'_>,
 ) -> Result<Option<Unknown>, NoMemory>
-    requires { IsOf entry.now template.now }
+    requires { IsOf prepared.entry.now prepared.template.now }
     ensures { IfOk result (λ unknown. unknown
-        ≡ spec.unknown_of_arguments (with_functions T.rows T.Functions.table) T.knowledge shared.now number channel.now entry.now) }
+        ≡ spec.unknown_of_arguments (with_functions T.rows T.Functions.table) T.knowledge shared.now number channel.now
+        prepared.entry.entry.now) }
 {
-    if !T::looks_at_arguments(entry.application.bytes()) {
+    if !T::looks_at_arguments(prepared.entry.application.bytes()) {
         return Ok(None);
     }
-    let group = unknown_group::<T::Functions>(alloc, shared, number, channel, entry, template)?;
+    let group = unknown_group::<T::Functions>(alloc, shared, number, channel, prepared)?;
     if let Some(group) = group {
         return Ok(Some(Unknown::Group(Text::new(group))));
     }
-    match unknown_asked::<T>(alloc, shared, number, channel, entry, template)? {
+    match unknown_asked::<T>(alloc, shared, number, channel, prepared)? {
         Some(asked) => Ok(Some(Unknown::Asked(Text::new(asked)))),
         None => Ok(None),
     }
 }
 
-/// What is unknown of an entry with this template.
+/// What is unknown of an entry.
 fn unknown_of_entry<T: KnownTable>(
     alloc: Global,
     shared: &SharedState,
     number: u32,
     channel: &Channel,
-    entry: &Entry,
-    template: &EntryTemplate,
+    prepared: PreparedEntry<'_>,
 ) -> Result<Option<Unknown>, NoMemory>
-    requires { IsOf entry.now template.now }
+    requires { IsOf prepared.entry.now prepared.template.now }
     ensures { IfOk result (λ unknown. unknown
-        ≡ spec.unknown_of_entry (with_functions T.rows T.Functions.table) T.knowledge shared.now number channel.now entry.now) }
+        ≡ spec.unknown_of_entry (with_functions T.rows T.Functions.table) T.knowledge shared.now number channel.now
+        prepared.entry.entry.now) }
 {
-    if T::number_of(entry.application.bytes()).is_none() {
-        let name = entry.application.text().clone()?;
+    if T::number_of(prepared.entry.application.bytes()).is_none() {
+        let name = prepared.entry.application.text().clone()?;
         return Ok(Some(Unknown::Application(name)));
     }
-    let unknown = unknown_of_arguments::<T>(alloc, shared, number, channel, entry, template)?;
+    let unknown = unknown_of_arguments::<T>(alloc, shared, number, channel, prepared)?;
     Ok(unknown)
 }
 
@@ -142,8 +149,7 @@ pub(crate) fn unknown_ahead_of<T: KnownTable>(
     let Some(id) = entry_ahead_of(&mut exchange.plan, channel) else {
         return Ok(None);
     };
-    let entry = exchange.plan.entry(id);
-    let template = exchange.plan.template(id);
-    let unknown = unknown_of_entry::<T>(alloc, &exchange.shared, number, channel, entry, template)?;
+    let prepared = exchange.plan.prepared_entry(id);
+    let unknown = unknown_of_entry::<T>(alloc, &exchange.shared, number, channel, prepared)?;
     Ok(unknown)
 }

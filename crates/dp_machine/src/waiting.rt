@@ -1,6 +1,6 @@
 //! The events of a channel that waits: for digits, for a time, or in a queue. After the Asterisk documentation's pages on
 //! the applications `WaitExten`, `Background`, `Wait` and `Queue`.
-ghost use Rattle.std.specs.Prelude.{◌≡◌, ◌≤◌, ◌++◌, ◌∷◌, [], IfOk};
+ghost use Rattle.std.specs.Prelude.{◌≡◌, ◌≤◌, ◌++◌, ◌∷◌, [], IfOk, Some};
 ghost use Rattle.dp_conf.specs.Numbers.{most_priority};
 ghost use Rattle.dp_queue.specs.Joining.{should_leave};
 ghost use Rattle.dp_machine.specs.Channels as channels;
@@ -8,6 +8,7 @@ ghost use Rattle.dp_machine.specs.Events as spec;
 ghost use Rattle.dp_machine.specs.steps.Follows.{Follows};
 ghost use Rattle.dp_machine.specs.Found as found;
 ghost use Rattle.dp_machine.specs.GoodWorld.{MayAct};
+ghost use Rattle.dp_machine.specs.Targets.{if_found, place_of};
 
 use crate::channel::Channel;
 use crate::dialling::{cancel_dial, end_dial_time};
@@ -73,37 +74,32 @@ fn way_out_of<'a>(queues: &'a Queues, queue: usize, nowhere: &'a Text) -> &'a Te
     }
 }
 
-/// A digit of a channel that waits in the queue with this number: if the queue's context has the digit the channel leaves and goes there.
-fn dial_in_queue(
+/// The place to which a digit leads channels that wait in the queue with this number, if the queue's context has the digit.
+fn way_out(
     alloc: Global,
     exchange: &mut Exchange,
-    number: u32,
-    channel: &mut Channel,
     queue: usize,
     digit: u8,
-) -> Result<Reply, NoMemory>
-    ensures { Follows (spec.way_out exchange.old.plan exchange.old.shared number channel.old digit
-        (spec.way_out_of exchange.old.shared.queues queue))
-        exchange.old exchange.new channel.old channel.new result }
+) -> Result<Option<Place>, NoMemory>
+    ensures place { IfOk result (λ place. place ≡ if_found exchange.old.plan
+        (Some (place_of (spec.way_out_of exchange.old.shared.queues queue) (digit ∷ []) 1))) }
+    ensures same { exchange.new ≡ exchange.old }
 {
     let nowhere = Text::new(Vec::new(alloc));
     let context = way_out_of(&exchange.shared.queues, queue, &nowhere);
     let digits = [digit];
     if !exchange.plan.is_found(context, &digits, 1) {
-        return Ok(Reply::Done);
+        return Ok(None);
     }
-    let place = Place {
+    Ok(Some(Place {
         context: context.clone()?,
         exten: Exten::of_byte(digit),
         priority: 1,
-    };
-    let _left = exchange.shared.queues.leave(number);
-    channel.place = place;
-    channel.phase = Phase::Ready;
-    Ok(Reply::Done)
+    }))
 }
 
 /// A telephone digit.
+#[tactic(auto, using(crate::proofs::DigitLemmas::way_out_there, crate::proofs::DigitLemmas::way_out_nowhere))]
 fn dial_digit(
     alloc: Global,
     exchange: &mut Exchange,
@@ -128,7 +124,12 @@ fn dial_digit(
         Phase::Pause | Phase::Dialling { .. } => Ok(Reply::Done),
         Phase::Queued { queue, .. } => {
             let queue = *queue;
-            dial_in_queue(alloc, exchange, number, channel, queue, digit)
+            if let Some(place) = way_out(alloc, exchange, queue, digit)? {
+                let _waited = exchange.shared.queues.leave(number);
+                channel.place = place;
+                channel.phase = Phase::Ready;
+            }
+            Ok(Reply::Done)
         }
         Phase::Ready | Phase::Talking { .. } => Ok(Reply::Refused(Refusal::NotWaiting)),
         Phase::Ended => Ok(Reply::Refused(Refusal::Ended)),

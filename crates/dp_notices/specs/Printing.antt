@@ -1,5 +1,5 @@
 -- The lines that are printed of notices, in the order of the lines that they are on.
-use Rattle.std.specs.Prelude.{ℕ, Bool, true, false, List, [], ◌++◌, Option, Some, None, slice_get, codes, decimal, if◌then◌else◌}
+use Rattle.std.specs.Prelude.{ℕ, Bool, true, false, ◌||◌, List, [], ◌++◌, Option, Some, None, slice_get, codes, decimal, if◌then◌else◌}
 use Rattle.std.specs.List.{flat_map}
 use Rattle.std.specs.Option.{option_map_or}
 use Rattle.dp_conf.specs.Lines.{content_of}
@@ -7,6 +7,8 @@ use Rattle.dp_files.specs.Directives.{directive_of, included_name}
 use Rattle.dp_files.specs.FolderFiles.{path_of}
 use Rattle.dp_files.specs.declared.remark.Fault.{Fault}
 use Rattle.dp_files.specs.declared.remark.Fault.TheVariants.{IncludeDepth, NotFound, TooLong, Line, OldForm, NoClock}
+use Rattle.dp_files.specs.declared.remark.Note.{Note}
+use Rattle.dp_files.specs.declared.remark.Note.TheVariants.{OpenComment, Exec, AfterHint, DoubleLabel, Hint, IgnorePat, Switch, AutoFallThrough, CallerId}
 use Rattle.dp_files.specs.declared.source_line.SourceFile.{SourceFile}
 use Rattle.dp_files.specs.declared.source_line.SourceLine.{SourceLine}
 use Rattle.dp_notices.specs.Notices.{is_fault, wording}
@@ -17,7 +19,7 @@ use Rattle.dp_notices.specs.declared.notice.Notice.TheVariants.{Read, Loaded, Fa
 use Rattle.dp_notices.specs.declared.notice.NoticeFault.{NoticeFault}
 use Rattle.dp_notices.specs.declared.notice.NoticeFault.TheVariants.{Reading, Name, Plan}
 use Rattle.dp_notices.specs.declared.printing.Shown.{Shown}
-use Rattle.dp_notices.specs.declared.printing.Shown.TheVariants.{All, Faults}
+use Rattle.dp_notices.specs.declared.printing.Shown.TheVariants.{All, Faults, Unfollowed}
 
 -- the name of the file of a number
 abbrev pub file_name : List SourceFile → ℕ → List ℕ
@@ -78,10 +80,29 @@ abbrev pub notice_line : List ℕ → SourceLine → Notice → List ℕ
 notice_line file line notice =
     place_text file line.line ++ notice_text notice ++ missing_name line.text notice ++ codes "\n"
 
+-- whether a note is on what is left out although calls may depend on it
+abbrev pub is_unfollowed_note : Note → Bool
+is_unfollowed_note OpenComment = false
+is_unfollowed_note Exec = false
+is_unfollowed_note AfterHint = false
+is_unfollowed_note DoubleLabel = false
+is_unfollowed_note Hint = false
+is_unfollowed_note IgnorePat = false
+is_unfollowed_note Switch = true
+is_unfollowed_note AutoFallThrough = true
+is_unfollowed_note CallerId = true
+
+-- the same of a notice
+abbrev pub is_unfollowed : Notice → Bool
+is_unfollowed (Read note) = is_unfollowed_note note
+is_unfollowed (Loaded kind) = false
+is_unfollowed (fault_notice fault) = false
+
 -- whether a notice is printed
 abbrev pub is_shown : Shown → Notice → Bool
 is_shown All notice = true
 is_shown Faults notice = is_fault notice
+is_shown Unfollowed notice = is_fault notice || is_unfollowed notice
 
 -- the lines of the notices on a line that are printed
 abbrev pub notice_lines : Shown → List ℕ → SourceLine → List Notice → List ℕ

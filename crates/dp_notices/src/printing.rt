@@ -7,7 +7,7 @@ use crate::line_notices::NotedLine;
 use crate::notice::{Notice, NoticeFault};
 use crate::plan_files::PlanFiles;
 use dp_conf::{NoMemory, line_content};
-use dp_files::{Fault, SourceFile, SourceLine, included_name, path_of};
+use dp_files::{Fault, Note, SourceFile, SourceLine, included_name, path_of};
 use itoa::Buffer;
 use std::alloc::Global;
 
@@ -128,6 +128,19 @@ pub enum Shown {
     All,
     /// Faults alone.
     Faults,
+    /// Faults, and notes on what this program leaves out although calls may depend on it: another dialplan that is asked for a name
+    /// (`switch`), an extension for one caller, and `autofallthrough=no`.
+    Unfollowed,
+}
+
+/// Whether the notice is a note on what is left out although calls may depend on it.
+fn is_unfollowed(notice: Notice) -> bool
+    ensures { result ≡ spec.is_unfollowed notice }
+{
+    match notice {
+        Notice::Read(Note::Switch | Note::AutoFallThrough | Note::CallerId) => true,
+        _ => false,
+    }
 }
 
 /// Whether a notice is printed.
@@ -137,6 +150,7 @@ fn is_shown(shown: Shown, notice: Notice) -> bool
     match shown {
         Shown::All => true,
         Shown::Faults => notice.is_fault(),
+        Shown::Unfollowed => notice.is_fault() || is_unfollowed(notice),
     }
 }
 

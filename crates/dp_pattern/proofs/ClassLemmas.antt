@@ -1,4 +1,4 @@
--- Classes by their tests.
+-- Classes given by tests.
 use Rattle.std.proofs.Common.{◌≡◌, ℕ, zero, suc, ◌+◌, ◌<◌, ◌≤◌, ◌/◌, ◌%◌, Bool, true, false, cond, ◌&&◌, ◌||◌, ◌==◌, nat_le, List, [], ◌∷◌, slice_index, codes, ◌≢◌, true≢false, eqb-true, ne_eqb, eq-eqb, refl, sym, ap, ◌∙◌, arith}
 use Rattle.std.specs.List.{filter, range_with_len, list_any}
 use Rattle.std.specs.Int.{bit_at}
@@ -6,7 +6,7 @@ use Rattle.std.proofs.lemmas.Nat.Bits.{bit_at-zero}
 use Rattle.dp_pattern.specs.Name.{is_one_of}
 use Rattle.dp_pattern.specs.Classes.{byte_count, class_by, has_bit}
 
--- two tests that agree on each number of a range let the same ones pass
+-- two tests that agree on each number of a range accept the same ones
 pub filter_range-same : (p q : ℕ → Bool) (low n : ℕ) → ((b : ℕ) → low ≤ b → b < low + n → p b ≡ q b) → filter p (range_with_len low n) ≡ filter q (range_with_len low n)
 filter_range-same p q low zero same = refl
 filter_range-same p q low (suc n) same =
@@ -14,12 +14,12 @@ filter_range-same p q low (suc n) same =
     let after = filter_range-same p q (low + 1) n (λ b from to. same b (omega arith) (omega arith)) in
     λ i. cond (here i) (low ∷ after i) (after i)
 
--- two tests that agree on each byte have one class
+-- two tests that agree on each byte give the same class
 pub class_by-same : (p q : ℕ → Bool) → ((b : ℕ) → b < 256 → p b ≡ q b) → class_by p ≡ class_by q
 unfolding byte_count
 class_by-same p q same = filter_range-same p q 0 256 (λ b _ below. same b below)
 
--- where no number passes, none is left
+-- if no number passes the list is empty
 pub filter_range-none : (low n : ℕ) → filter (λ _. false) (range_with_len low n) ≡ []
 filter_range-none low zero = refl
 filter_range-none low (suc n) = filter_range-none (low + 1) n
@@ -37,12 +37,12 @@ filter_range-one a low (suc n) from to = by_test (filter_range-one a (low + 1) n
         let other : a ≢ low = λ same. true≢false (sym (eq-eqb a low same) ∙ e) in
         ap (λ t. cond t (low ∷ filter (λ b. a == b) (range_with_len (low + 1) n)) (filter (λ b. a == b) (range_with_len (low + 1) n))) e ∙ later (omega arith) (omega arith)
 
--- the class of one byte
+-- the class of a single byte
 pub class_by-byte : (a : ℕ) → a < 256 → class_by (λ b. a == b) ≡ a ∷ []
 unfolding byte_count
 class_by-byte a below = filter_range-one a 0 256 (omega arith) below
 
--- a class that is kept as four words of no bits is empty
+-- a class that is kept as four words without bits is empty
 pub has_bit-empty : (b : ℕ) → has_bit (0 ∷ 0 ∷ 0 ∷ 0 ∷ []) b ≡ false
 has_bit-empty b = by_place (b / 64) (b % 64)
   where
@@ -53,7 +53,7 @@ has_bit-empty b = by_place (b / 64) (b % 64)
     by_place (suc (suc (suc zero))) i = ap (λ n. n == 1) (bit_at-zero i)
     by_place (suc (suc (suc (suc k)))) i = ap (λ n. n == 1) (bit_at-zero i)
 
--- the digits from one on
+-- the digits from one
 pub class_by-digits : class_by (λ b. nat_le 48 b && nat_le b 57) ≡ codes "0123456789"
 unfolding byte_count
 class_by-digits = refl

@@ -2,7 +2,7 @@
 use Rattle.std.proofs.Common.{◌≡◌, ℕ, Bool, true, false, List, [], ◌∷◌, length, ◌≤◌, arith, refl, sym, ap, ◌∙◌}
 use Rattle.dp_pattern.specs.Dashes.{is_dash, without_dashes, from_first}
 
--- the dashes at the front make no difference
+-- dashes at the start make no difference
 pub without_dashes-from_first : (text : List ℕ) → without_dashes (from_first text) ≡ without_dashes text
 without_dashes-from_first [] = refl
 without_dashes-from_first (b ∷ text) = by_test (without_dashes-from_first text) (is_dash b) refl
@@ -11,7 +11,7 @@ without_dashes-from_first (b ∷ text) = by_test (without_dashes-from_first text
     by_test after true e = rw e after
     by_test after false e = rw e (rw e refl)
 
--- what does not begin with a dash
+-- the text does not begin with a dash
 pub from_first-begins : (text rest : List ℕ) (b : ℕ) → from_first text ≡ b ∷ rest → without_dashes text ≡ b ∷ without_dashes rest
 from_first-begins [] rest b e = cc
 from_first-begins (a ∷ text) rest b e = by_test (from_first-begins text rest b) (is_dash a) refl

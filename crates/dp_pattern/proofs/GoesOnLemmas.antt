@@ -1,4 +1,4 @@
--- What a walk says of the endings that a text may have.
+-- What a walk says of the possible endings of a text.
 use Rattle.std.proofs.Common.{◌≡◌, ℕ, suc, ◌<◌, Bool, true, false, cond, not, List, [], ◌∷◌, ◌++◌, length, length-append, slice_index, Decides, append_assoc, true≢false, ne_eqb, eq-eqb, refl, sym, ap, ◌∙◌, arith}
 use Rattle.std.specs.List.{AllByRecursion}
 use Rattle.std.proofs.lemmas.List.Elements.{filter-append}
@@ -14,11 +14,11 @@ use Rattle.dp_pattern.proofs.NameLemmas.{IsClass, each_by_index, each_of}
 use Rattle.dp_pattern.proofs.MeaningLemmas.{IsMeaning, IsByte}
 use Rattle.dp_pattern.proofs.WalkLemmas.{matched, tail_fits}
 
--- a byte that an ending may have
+-- a byte that may be in an ending
 abbrev IsEndingByte : ℕ → Type 0
 IsEndingByte b = (b < 256) × (is_dash b ≡ false)
 
--- a class with a member that an ending may have
+-- a class with a member that may be in an ending
 record HasMember (class : List ℕ) : Type 0 where
   member : ℕ
   ends : IsEndingByte member
@@ -110,7 +110,7 @@ walk_after-refused (class ∷ classes) (d ∷ digits) ending e = by_test (walk_a
     by_test later true t e = ap (λ t. cond t (walk_after classes (digits ++ ending)) Refused) t ∙ later e
     by_test later false t e = ap (λ t. cond t (walk_after classes (digits ++ ending)) Refused) t
 
--- an ending with which the walk is that of a match
+-- an ending that makes the walk one of a match
 record Ends (classes : List (List ℕ)) (tail : Tail) (digits : List ℕ) : Type 0 where
   ending : List ℕ
   some : 0 < length ending
@@ -190,7 +190,7 @@ no_bang (Pattern classes End) walk e = tt
 no_bang (Pattern classes Dot) walk e = tt
 no_bang (Pattern classes Bang) walk e = true≢false (sym e)
 
--- the walk of a name over a text decides whether some ending makes them match
+-- the walk along a name over a text decides whether some ending makes them match
 pub going_on : (name : Meaning) (text : List ℕ) → IsMeaning name → Decides (goes_on (tail_of name) (walk_after (classes_of name) (without_dashes text))) (GoesOn name text)
 going_on name text means = (there, back)
   where

@@ -1,4 +1,4 @@
--- A set that is read item after item.
+-- A set that is read item by item.
 use Rattle.std.proofs.Common.{◌≡◌, ℕ, ◌<◌, Bool, true, false, ◌||◌, List, [], ◌∷◌, Some, None, Result, Ok, Err, refl, sym, ap, ◌∙◌}
 use Rattle.std.specs.List.{list_any}
 use Rattle.dp_pattern.specs.Classes.{class_by}
@@ -7,7 +7,7 @@ use Rattle.dp_pattern.specs.declared.class.Item.{Item}
 use Rattle.dp_pattern.specs.declared.fault.NameFault.{NameFault}
 use Rattle.dp_pattern.proofs.ClassLemmas.{class_by-same}
 
--- the bytes of a test and those that the items list, unless an item is faulty
+-- the bytes that pass a test and those that the items list, unless an item is faulty
 abbrev pub class_with : (ℕ → Bool) → List Item → Result (List ℕ) NameFault
 class_with p items = unless_fault (first_fault items) (class_by (λ b. p b || list_any (lists b) items))
 
@@ -23,7 +23,7 @@ or-false : (x : Bool) → (x || false) ≡ x
 or-false true = refl
 or-false false = refl
 
--- an item that is taken
+-- an item that is accepted
 pub class_with-more : (p q : ℕ → Bool) (item : Item) (items : List Item) → item_fault item ≡ None → ((b : ℕ) → b < 256 → q b ≡ (p b || lists b item)) → class_with q items ≡ class_with p (item ∷ items)
 class_with-more p q item items fine taken =
     ap (unless_fault (first_fault items)) (class_by-same _ _ (λ b below. ap (λ t. t || list_any (lists b) items) (taken b below) ∙ or_assoc (p b) (lists b item) (list_any (lists b) items)))

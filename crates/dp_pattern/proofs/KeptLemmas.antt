@@ -1,4 +1,4 @@
--- A class by how it is kept.
+-- A class in its kept form.
 use Rattle.std.proofs.Common.{◌≡◌, ℕ, zero, suc, ◌+◌, ◌-◌, ◌*◌, ◌/◌, ◌%◌, ◌^◌, ◌<◌, ◌≤◌, Bool, true, false, ◌&&◌, ◌||◌, ◌==◌, nat_le, List, [], ◌∷◌, ◌++◌, length, slice_index, codes, append-nil, eqb-true, true≢false, refl, sym, ap, ◌∙◌, arith}
 use Rattle.std.proofs.lemmas.Nat.Bits.{bit_at-zero, bit_at_above, bit_at_cat_low, bit_at_cat_high}
 use Rattle.std.proofs.lemmas.Bool.Decides.{nat_tests}
@@ -10,7 +10,7 @@ use Rattle.dp_pattern.proofs.ClassLemmas.{class_by-same, class_by-byte, filter_r
 use Rattle.dp_pattern.proofs.MemberLemmas.{members_from-first}
 use Rattle.dp_pattern.proofs.WordLemmas.{filter_range-append}
 
--- a mask has no byte before `0`, and a byte from `0` on by its bit
+-- a mask contains no byte before `0`, and its bits say which bytes from `0` it contains
 has_digit-below : (mask b : ℕ) → b < 48 → has_digit mask b ≡ false
 has_digit-below mask b below =
     let before : nat_le 48 b ≡ false = grind (arith, nat_tests) in
@@ -21,12 +21,12 @@ has_digit-from mask b from =
     let after : nat_le 48 b ≡ true = grind (arith, nat_tests) in
     ap (λ t. t && bit_at mask (b - 48) == 1) after
 
--- a mask of 16 bits has no byte from 64 on
+-- a mask of 16 bits contains no byte from 64
 pub has_digit-above : (mask b : ℕ) → mask < 2 ^ 16 → 64 ≤ b → has_digit mask b ≡ false
 has_digit-above mask b fits above =
     has_digit-from mask b (omega arith) ∙ ap (λ n. n == 1) (bit_at_above mask 16 (b - 48) fits (omega arith))
 
--- outside the 16 bytes from `0` on a mask has none
+-- a mask contains only bytes among the 16 from `0`
 pub outside_mask : (mask b : ℕ) → mask < 2 ^ 16 → (48 ≤ b → b ≤ 63 → ⊥) → has_digit mask b ≡ false
 outside_mask mask b fits outside = by_test (nat_le 48 b) refl
   where
@@ -61,7 +61,7 @@ pub mask-digits_from_2 : class_by (has_digit 1020) ≡ codes "23456789"
 unfolding byte_count
 mask-digits_from_2 = refl
 
--- a class of one member is that of a byte that it has
+-- a class with one member is that of a byte that it contains
 pub class_by-only : (p : ℕ → Bool) (a : ℕ) → a < 256 → length (class_by p) ≡ 1 → p a ≡ true → class_by p ≡ class_by (λ b. a == b)
 class_by-only p a below one has = only (class_by p) one (is_one_of-class_by p a below ∙ has) ∙ sym (class_by-byte a below)
   where
@@ -74,7 +74,7 @@ class_by-only p a below one has = only (class_by p) one (is_one_of-class_by p a 
         by_test false e h = absurd (true≢false (sym h ∙ ap (λ t. t || false) e))
     only (x ∷ y ∷ xs) one h = absurd (omega arith)
 
--- where the first word alone has bits, and none before the 48th, they are those of a mask
+-- if only the first word has bits, and none of them before bit 48, they are those of a mask
 pub has_bit-mask : (words : List ℕ) → slice_index words 0 < 2 ^ 64 → slice_index words 0 % 2 ^ 48 ≡ 0 → slice_index words 1 ≡ 0 → slice_index words 2 ≡ 0 → slice_index words 3 ≡ 0
     → (b : ℕ) → b < 256 → has_bit words b ≡ has_digit (slice_index words 0 / 2 ^ 48) b
 has_bit-mask words fits low second third fourth = λ b below. by_place b below (b / 64) refl
@@ -115,7 +115,7 @@ has_bit-mask words fits low second third fourth = λ b below. by_place b below (
     by_place b below (suc (suc (suc zero))) e = no_bit 3 b e (omega arith) fourth
     by_place b below (suc (suc (suc (suc k)))) e = absurd (omega arith)
 
--- and so are the members
+-- then the members are those of the mask
 pub class_by-mask : (words : List ℕ) → slice_index words 0 < 2 ^ 64 → slice_index words 0 % 2 ^ 48 ≡ 0 → slice_index words 1 ≡ 0 → slice_index words 2 ≡ 0 → slice_index words 3 ≡ 0 → members_of words ≡ class_by (has_digit (slice_index words 0 / 2 ^ 48))
 class_by-mask words fits low second third fourth =
     class_by-same (has_bit words) (has_digit (slice_index words 0 / 2 ^ 48)) (has_bit-mask words fits low second third fourth)

@@ -1,4 +1,4 @@
--- What a name means, whatever text it was read from.
+-- The meaning of a name, whatever text it was read from.
 use Rattle.std.proofs.Common.{◌≡◌, ℕ, ◌<◌, Bool, true, false, cond, not, ◌||◌, ◌==◌, List, [], ◌∷◌, Result, Ok, Err, true≢false, refl, sym, ap, ◌∙◌, subst}
 use Rattle.std.specs.List.{AllByRecursion, list_all, list_any}
 use Rattle.dp_pattern.specs.Dashes.{is_dash, without_dashes, from_first}
@@ -121,7 +121,7 @@ plain_means b text bytes dash under name e = by_test (list_any is_bad (b ∷ tex
           bytes = without_dashes-bytes (b ∷ text) bytes;
         })
 
--- no dash stands first in what is read
+-- the text that is read does not begin with a dash
 reading_means : (text : List ℕ) → AllByRecursion IsByte text → (name : Meaning) → reading_of (from_first text) ≡ Ok name → IsMeaning name
 reading_means [] bytes name e = absurd cc
 reading_means (b ∷ text) bytes name e = by_test (reading_means text bytes.1 name) (is_dash b) refl e
@@ -134,7 +134,7 @@ reading_means (b ∷ text) bytes name e = by_test (reading_means text bytes.1 na
     by_test later true dash e = later e
     by_test later false dash e = by_pattern dash (b == 95) refl e
 
--- what is known of each name
+-- facts about each name
 pub name_means : (name : Meaning) → IsName name → IsMeaning name
 unfolding meaning_of
 name_means name named =

@@ -1,4 +1,4 @@
--- The members of a class, from a byte on.
+-- The members of a class from a given byte.
 use Rattle.std.proofs.Common.{◌≡◌, ℕ, zero, suc, ◌+◌, ◌-◌, ◌<◌, ◌≤◌, Bool, true, false, cond, List, [], ◌∷◌, length, refl, sym, ap, ◌∙◌, arith, nat_cmp, Less, Equal, Greater}
 use Rattle.std.specs.List.{filter, range_with_len}
 use Rattle.std.specs.Ordering.{ordering_then}
@@ -52,7 +52,7 @@ each_greater b xs q low (suc n) above long = by_test (each_greater b xs q (low +
         ap (λ o. ordering_then o (slice_cmp nat_cmp after xs)) first
     by_test later false long = later long
 
--- the members from a byte on are all members where none stands before it
+-- the members from a byte are all members if none comes before it
 pub members_from-first : (p : ℕ → Bool) (b : ℕ) → b ≤ 256 → ((k : ℕ) → k < b → p k ≡ false) → members_from p b ≡ class_by p
 members_from-first p zero within none = members_from-all p
 members_from-first p (suc b) within none =
@@ -62,13 +62,13 @@ members_from-first p (suc b) within none =
     ∙ sym (members_from-step p b (omega arith) ∙ ap (λ t. cond t (b ∷ members_from p (b + 1)) (members_from p (b + 1))) here)
     ∙ members_from-first p b (omega arith) (λ k below. none k (omega arith))
 
--- ---- two classes of one size
+-- ---- two classes of equal size
 
 pub record AreLevel (p q : ℕ → Bool) (b : ℕ) : Type 0 where
   pub order : slice_cmp nat_cmp (members_from p b) (members_from q b) ≡ slice_cmp nat_cmp (class_by p) (class_by q)
   pub sizes : length (members_from p b) ≡ length (members_from q b)
 
--- where neither class has a byte before
+-- neither class has a member before the byte
 pub level-first : (p q : ℕ → Bool) (b : ℕ) → b ≤ 256 → ((k : ℕ) → k < b → p k ≡ false) → ((k : ℕ) → k < b → q k ≡ false) → length (class_by p) ≡ length (class_by q) → AreLevel p q b
 level-first p q b within none_left none_right long =
     let left = members_from-first p b within none_left in
@@ -82,7 +82,7 @@ module _ (p q : ℕ → Bool) (b : ℕ) (below : b < 256) (level : AreLevel p q 
   taken : (f : ℕ → Bool) (t : Bool) → f b ≡ t → members_from f b ≡ cond t (b ∷ members_from f (b + 1)) (members_from f (b + 1))
   taken f t e = members_from-step f b below ∙ ap (λ s. cond s (b ∷ members_from f (b + 1)) (members_from f (b + 1))) e
 
-  -- both classes have the byte, or neither has
+  -- both classes contain the byte, or neither does
   pub level-same : (t : Bool) → p b ≡ t → q b ≡ t → AreLevel p q (b + 1)
   level-same true e f =
       let left = taken p true e in

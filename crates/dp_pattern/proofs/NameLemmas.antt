@@ -1,4 +1,4 @@
--- What the meaning of a text is made of.
+-- The parts of the meaning of a text.
 use Rattle.std.proofs.Common.{◌≡◌, ℕ, zero, suc, ◌<◌, ◌≤◌, Bool, true, false, cond, ◌&&◌, ◌==◌, nat_le, nat_lt, List, [], ◌∷◌, length, take, length-take, get_or-take, get_or, codes, Some, None, Ok, Err, refl, sym, ap, ◌∙◌, subst, arith}
 use Rattle.std.specs.List.{AllByRecursion, position, position_or_len}
 use Rattle.std.proofs.lemmas.Bool.Decides.{nat_tests}
@@ -11,7 +11,7 @@ use Rattle.dp_pattern.specs.declared.tail.Tail.TheVariants.{Dot, Bang}
 use Rattle.dp_pattern.proofs.ClassLemmas.{class_by-digits, class_by-digits_from_1, class_by-digits_from_2, class_by-byte}
 use Rattle.dp_pattern.proofs.PieceLemmas.{pieces_of-set, pieces_of-byte}
 
--- a byte that a class may have
+-- a byte that may be in a class
 abbrev pub IsMember : ℕ → Type 0
 IsMember b = (is_dash b ≡ false) × (is_bad b ≡ false)
 
@@ -28,7 +28,7 @@ pub record IsClass (class : List ℕ) : Type 0 where
 abbrev IsByte : ℕ → Type 0
 IsByte b = b < 256
 
--- the bytes that may stand in a set
+-- the bytes that may be in a set
 abbrev pub IsListed : ℕ → Type 0
 IsListed b = (b < 256) × (is_end b ≡ false)
 

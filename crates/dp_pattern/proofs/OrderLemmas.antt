@@ -9,8 +9,8 @@ use Rattle.dp_pattern.specs.Order.{class_cmp, tail_cmp, tail_cmp_class, class_cm
 use Rattle.dp_pattern.specs.declared.tail.Tail.{Tail}
 use Rattle.dp_pattern.specs.declared.tail.Tail.TheVariants.{End, Dot, Bang}
 
--- A name as lists of numbers whose order is that of the names: a class is 1, its size and its members; the
--- wildcards are 2 and 3; and the end is the end of the list.
+-- A name as lists of numbers in the same order: a class is 1, its size and its members; the wildcards are 2 and 3; and the end is the end
+-- of the list.
 abbrev tail_key : Tail → List (List ℕ)
 tail_key End = []
 tail_key Dot = (2 ∷ []) ∷ []
@@ -73,7 +73,7 @@ name_cmp_total =
 
 -- ---- equal names
 
--- where a comparison and the one after it tie together, each ties
+-- if two comparisons combined are equal each of them is
 pub then_is_Equal : (o p : Ordering) → ordering_then o p ≡ Equal → (o ≡ Equal) × (p ≡ Equal)
 then_is_Equal Less p e = absurd cc
 then_is_Equal Equal p e = (refl, e)
@@ -158,7 +158,7 @@ drop_nothing : (i : ℕ) → drop {A = List ℕ} i [] ≡ []
 drop_nothing zero = refl
 drop_nothing (suc i) = refl
 
--- one pattern has ended where the other has a class
+-- one pattern has ended and the other has a class
 pub pattern_cmp-left_ends : (cs : List (List ℕ)) (s : Tail) (ds : List (List ℕ)) (t : Tail) (i : ℕ) → length cs ≤ i → i < length ds → pattern_cmp (drop i cs) s (drop i ds) t ≡ tail_cmp_class s
 pattern_cmp-left_ends cs s [] t i ended within = absurd (omega arith)
 pattern_cmp-left_ends [] s (d ∷ ds) t zero ended within = refl

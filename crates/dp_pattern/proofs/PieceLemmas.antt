@@ -1,4 +1,4 @@
--- A pattern that is read piece after piece.
+-- A pattern that is read piece by piece.
 use Rattle.std.proofs.Common.{◌≡◌, ℕ, zero, suc, Bool, true, false, cond, ◌&&◌, ◌==◌, ◌-◌, ◌≤◌, List, [], ◌∷◌, ◌++◌, length, take, drop, append-nil, Option, Some, None, Result, Ok, Err, append_assoc, refl, sym, ap, ◌∙◌, arith}
 use Rattle.std.specs.List.{list_all, position}
 use Rattle.std.proofs.lemmas.Bool.Decides.{nat_tests}
@@ -9,7 +9,7 @@ use Rattle.dp_pattern.specs.declared.fault.NameFault.{NameFault}
 use Rattle.dp_pattern.specs.declared.fault.NameFault.TheVariants.{AfterWildcard}
 use Rattle.std.proofs.lemmas.Grind.{common_steps}
 
--- the bytes of the piece before are passed over
+-- the bytes of the piece before are skipped
 pub pieces_after-drop : (n : ℕ) (text : List ℕ) → pieces_after n text ≡ pieces_of (drop n text)
 pieces_after-drop zero [] = refl
 pieces_after-drop (suc n) [] = refl
@@ -42,7 +42,7 @@ pieces_of-byte b text e = ap (λ (t : Bool). elim t as (λ _. List Piece) [
   | false ↦ piece_of b ∷ pieces_after zero text
 ]) e
 
--- only dashes are left where each byte is one
+-- only dashes are left if each byte is one
 pub list_all-pieces_of : (text : List ℕ) → list_all is_dash_piece (pieces_of text) ≡ list_all is_dash text
 list_all-pieces_of [] = refl
 list_all-pieces_of (b ∷ text) = by_test (list_all-pieces_of text) (b == 91) refl
@@ -56,7 +56,7 @@ list_all-pieces_of (b ∷ text) = by_test (list_all-pieces_of text) (b == 91) re
     by_test after false e =
         ap (list_all is_dash_piece) (pieces_of-byte b text e) ∙ ap (λ t. t && list_all is_dash_piece (pieces_of text)) (byte_is_dash b) ∙ ap (λ t. is_dash b && t) after
 
--- classes in front of what is read
+-- classes before the rest that is read
 abbrev pub with_front : List (List ℕ) → Result Parts NameFault → Result Parts NameFault
 with_front front parts = parts >>= (λ p. Ok (front ++ p.0, p.1))
 
@@ -69,7 +69,7 @@ pub with_front-more : (front : List (List ℕ)) (class : List ℕ) (parts : Resu
 with_front-more front class (Ok parts) = ap (λ classes. Ok (classes, parts.1)) (append_assoc front (class ∷ []) parts.0)
 with_front-more front class (Err fault) = refl
 
--- what stands after a set of n bytes
+-- the text after a set of n bytes
 pub pieces_of-after : (n : ℕ) (place : Option ℕ) (text : List ℕ) → set_size place text ≡ n → n ≤ length text → pieces_of (take (length text - n) (drop n text)) ≡ pieces_after (set_size place text) text
 pieces_of-after n place text e within =
     let whole : take (length text - n) (drop n text) ≡ drop n text = grind (arith, common_steps) in

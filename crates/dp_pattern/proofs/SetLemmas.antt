@@ -1,4 +1,4 @@
--- What the class of a set is made of.
+-- The members of the class of a set.
 use Rattle.std.proofs.Common.{◌≡◌, ℕ, ◌<◌, Bool, true, false, cond, ◌||◌, List, [], ◌∷◌, length, Option, Some, None, Ok, eqb-true, true≢false, refl, sym, ap, ◌∙◌, subst, arith}
 use Rattle.std.specs.List.{AllByRecursion, list_any}
 use Rattle.std.proofs.lemmas.Bool.Decides.{nat_tests}
@@ -11,12 +11,12 @@ use Rattle.dp_pattern.specs.declared.fault.NameFault.{NameFault}
 use Rattle.dp_pattern.specs.declared.fault.NameFault.TheVariants.{BadByte, BadRange}
 use Rattle.dp_pattern.proofs.NameLemmas.{IsMember, IsListed, IsClass}
 
--- an item of the bytes of a set
+-- an item made from the bytes of a set
 abbrev pub IsItem : Item → Type 0
 IsItem (One a) = IsListed a
 IsItem (Range from to) = IsListed from
 
--- a set of three bytes or more, by the second of them
+-- a set of three bytes or more, given the second of them
 pub items_of-range : (a b c : ℕ) (bytes : List ℕ) → is_dash b ≡ true → items_of (a ∷ b ∷ c ∷ bytes) ≡ Range a c ∷ items_of bytes
 items_of-range a b c bytes e = ap (λ (t : Bool). elim t as (λ _. List Item) [ true ↦ Range a c ∷ items_of bytes | false ↦ One a ∷ items_of (b ∷ c ∷ bytes) ]) e
 
@@ -42,7 +42,7 @@ items_of-some a (b ∷ c ∷ bytes) = by_test (is_dash b) refl
     by_test true e = rw (items_of-range a b c bytes e) (omega arith)
     by_test false e = rw (items_of-one a b c bytes e) (omega arith)
 
--- what an item without a fault lists
+-- the bytes that an item without a fault lists
 listed_fine : (item : Item) → IsItem item → item_fault item ≡ None → (b : ℕ) → lists b item ≡ true → IsMember b × (is_end b ≡ false)
 listed_fine (One a) stands fine b h = by_tests (is_dash a) refl (is_bad a) refl fine
   where

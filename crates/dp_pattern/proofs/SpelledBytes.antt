@@ -1,4 +1,4 @@
--- Which bytes a spelling has.
+-- The bytes of a spelling.
 use Rattle.std.proofs.Common.{◌≡◌, ℕ, zero, suc, ◌+◌, Bool, true, false, cond, not, ◌||◌, ◌==◌, List, [], ◌∷◌, ◌++◌, take, codes, bytes_eq, Option, Some, None, Result, Ok, Err, eqb-true, true≢false, refl, sym, ap, ◌∙◌, subst, arith}
 use Rattle.std.specs.List.{AllByRecursion, filter, range_with_len, list_any, list_all, position, flat_map}
 use Rattle.std.proofs.lemmas.Bool.Decides.{nat_tests}
@@ -57,7 +57,7 @@ spelling_fine (Plain text) k = k.fine
 spelling_fine (Pattern classes tail) k =
     both_fine (codes "_" ++ flat_map class_spelling classes) (tail_spelling tail) (both_fine (codes "_") (flat_map class_spelling classes) refl (classes_fine classes k.0)) (tail_fine tail)
 
--- ---- bytes of a pattern, in its text
+-- ---- bytes of a pattern that occur in its text
 
 module _ (b : ℕ) (foreign : is_own b ≡ false) where
   either : {P : Type 0} (x y : Bool) → (x || y) ≡ true → (x ≡ true → P) → (y ≡ true → P) → P
@@ -102,7 +102,7 @@ module _ (b : ℕ) (foreign : is_own b ≡ false) where
   tail_spelled Dot e = grind (arith, nat_tests)
   tail_spelled Bang e = grind (arith, nat_tests)
 
-  -- the class of a test has only bytes that pass it
+  -- the class of a test contains only bytes that pass it
   in_class : (p : ℕ → Bool) (low n : ℕ) → list_any (λ a. b == a) (filter p (range_with_len low n)) ≡ true → p b ≡ true
   in_class p low zero e = absurd (true≢false (sym e))
   in_class p low (suc n) e = by_test (in_class p (low + 1) n) (p low) refl e
@@ -112,7 +112,7 @@ module _ (b : ℕ) (foreign : is_own b ≡ false) where
           either (b == low) (list_any (λ a. b == a) (filter p (range_with_len (low + 1) n))) e (λ same. ap p (eqb-true b low same) ∙ t) later
       by_test later false t e = later e
 
-  -- an item without a fault lists no such byte but itself
+  -- an item without a fault lists such a byte only if it is that byte itself
   item_lists : (item : Item) → item_fault item ≡ None → lists b item ≡ true → item ≡ One b
   item_lists (One a) fine e = ap One (eqb-true a b e)
   item_lists (Range from to) fine e = by_test (is_range from to) refl fine

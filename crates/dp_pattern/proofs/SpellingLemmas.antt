@@ -1,4 +1,4 @@
--- What is spelled is read again.
+-- A spelling reads as its name again.
 use Rattle.std.proofs.Common.{◌≡◌, ℕ, zero, suc, ◌+◌, ◌<◌, Bool, true, false, cond, not, ◌||◌, ◌==◌, nat_lt, List, [], ◌∷◌, ◌++◌, length, take, drop, codes, bytes_eq, Some, None, Ok, Err, append_assoc, length-append, ne_eqb, true≢false, refl, sym, ap, ◌∙◌, subst, arith}
 use Rattle.std.specs.List.{AllByRecursion, filter, range_with_len, list_any, position, position_or_len, flat_map}
 use Rattle.std.proofs.lemmas.Bool.Decides.{nat_tests}
@@ -18,7 +18,7 @@ use Rattle.dp_pattern.proofs.PieceLemmas.{pieces_of-set, pieces_of-byte, pieces_
 use Rattle.dp_pattern.proofs.NameLemmas.{IsClass, IsMember}
 use Rattle.dp_pattern.proofs.MeaningLemmas.{IsMeaning, name_means}
 
--- what is true of each byte that passes the test is true of each member of its class
+-- what holds of each byte that passes the test holds of each member of its class
 each_in_range : (P : ℕ → Type 0) (p : ℕ → Bool) (low n : ℕ) → ((b : ℕ) → b < low + n → p b ≡ true → P b) → AllByRecursion P (filter p (range_with_len low n))
 each_in_range P p low zero each = tt
 each_in_range P p low (suc n) each = by_test (each_in_range P p (low + 1) n (λ b below. each b (omega arith))) (p low) refl

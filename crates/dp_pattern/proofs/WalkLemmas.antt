@@ -11,7 +11,7 @@ use Rattle.dp_pattern.specs.Walk.{Walked, Refused, Short, After, walk_after, sin
 use Rattle.dp_pattern.specs.declared.tail.Tail.{Tail}
 use Rattle.dp_pattern.specs.declared.tail.Tail.TheVariants.{End, Dot, Bang}
 
--- a text that has no digit at a class of a plain name
+-- a text without a digit at a class of a plain name
 pub walk_after-short : (plain digits : List ℕ) (i : ℕ) → i < length plain → digits ≡ [] → walk_after (singles (drop i plain)) digits ≡ Short
 walk_after-short plain digits i within none =
     ap (λ bytes. walk_after (singles bytes) digits) (drop-cons plain i 0 within) ∙ ap (λ ds. walk_after (singles (slice_index plain i ∷ drop (suc i) plain)) ds) none
@@ -27,7 +27,7 @@ tail_fits Dot [] = (λ e. absurd (true≢false (sym e)), λ e. absurd (omega ari
 tail_fits Dot (d ∷ digits) = (λ _. omega arith, λ _. refl)
 tail_fits Bang rest = (λ _. tt, λ _. refl)
 
--- a walk to its end, and the members that it took
+-- a walk to the end, and the members on it
 pub record Takes (classes : List (List ℕ)) (digits rest : List ℕ) : Type 0 where
   pub begin : List ℕ
   pub whole : digits ≡ begin ++ rest
@@ -76,7 +76,7 @@ plain_taken (b ∷ plain) (d ∷ digits) = by_test (plain_taken plain digits) (d
     by_test later true t = let same : d ≡ b = eqb-true d b t in (λ h. let rest = later.0 h in cc, λ e. later.1 cc)
     by_test later false t = (λ h. absurd (true≢false (sym h)), λ e. let same : d ≡ b = cc in absurd (true≢false (sym (eq-eqb d b same) ∙ t)))
 
--- the walk of a name over a text decides whether they match
+-- the walk along a name over a text decides whether they match
 pub matched : (name : Meaning) (text : List ℕ) → Decides (is_match (tail_of name) (walk_after (classes_of name) (without_dashes text))) (Matches name text)
 unfolding Matches
 matched (Plain plain) text = plain_taken plain (without_dashes text)

@@ -1,4 +1,4 @@
--- A class by its four words, and a word by its lowest bit.
+-- A class in four words, and a word and its lowest bit.
 use Rattle.std.proofs.Common.{◌≡◌, ℕ, zero, suc, ◌+◌, ◌-◌, ◌*◌, ◌/◌, ◌%◌, ◌^◌, ◌<◌, ◌≤◌, Bool, true, false, cond, ◌==◌, ◌≢◌, bit_and, count_ones, List, [], ◌∷◌, ◌++◌, length, slice_index, inl, inr, sym, ap, ◌∙◌, arith, w64}
 use Rattle.std.proofs.lemmas.Bool.{cases_eq}
 use Rattle.std.proofs.lemmas.Nat.{and_le_l, ones_le_self}
@@ -11,9 +11,9 @@ use Rattle.dp_pattern.specs.Classes.{byte_count, word_bytes, has_bit, members_in
 use Rattle.dp_pattern.proofs.ClassLemmas.{filter_range-same, filter_range-none}
 use Rattle.dp_pattern.proofs.MemberLemmas.{members_from}
 
--- ---- a class by its words
+-- ---- a class in words
 
--- a range is its front and what stands after it
+-- a range is its start and the rest
 pub filter_range-append : (p : ℕ → Bool) (low n next m : ℕ) → low + n ≡ next → filter p (range_with_len low (n + m)) ≡ filter p (range_with_len low n) ++ filter p (range_with_len next m)
 filter_range-append p low zero next m there =
     let here : low ≡ next = omega arith in
@@ -36,7 +36,7 @@ filter_range-append p low (suc n) next m there =
     by_test later true = ap (λ xs. low ∷ xs) later
     by_test later false = later
 
--- the members from a word on are those of the word, and then those from the next word on
+-- the members from a word are those of the word, and then those from the next word
 pub members_from-word : (words : List ℕ) (k : ℕ) → k < 4 → members_from (has_bit words) (64 * k) ≡ members_in (slice_index words k) (64 * k) ++ members_from (has_bit words) (64 * (k + 1))
 unfolding byte_count word_bytes
 members_from-word words k within =
@@ -51,15 +51,15 @@ members_from-word words k within =
     ∙ filter_range-append p (64 * k) 64 (64 * (k + 1)) rest (omega arith)
     ∙ ap (λ xs. xs ++ members_from p (64 * (k + 1))) same
 
--- ---- a word by its lowest bit
+-- ---- a word and its lowest bit
 
--- a word of no bits has no members
+-- a word without bits has no members
 pub members_in-none : (first : ℕ) → members_in 0 first ≡ []
 members_in-none first =
     filter_range-same (λ b. bit_at 0 (b - first) == 1) (λ _. false) first word_bytes (λ b _ _. ap (λ n. n == 1) (bit_at-zero (b - first)))
     ∙ filter_range-none first word_bytes
 
--- what passes a test is the first number that does, and what passes the test without that number
+-- the numbers that pass a test are the first one, and those that pass the test without it
 filter_range-first : (p q : ℕ → Bool) (a low n : ℕ) → low ≤ a → a < low + n → p a ≡ true → q a ≡ false
     → ((b : ℕ) → b < a → low ≤ b → p b ≡ false)
     → ((b : ℕ) → low ≤ b → b < low + n → b ≢ a → q b ≡ p b)
@@ -108,7 +108,7 @@ module _ (word : ℕ) (some : 0 < word) (fits : word < 2 ^ 64) where
     | inr other ↦ omega (arith, and_le_l word (bit_not w64 (1 * 2 ^ lowest word % 2 ^ 64)))
   ]
 
-  -- the lowest bit is the first member, and the other bits are the others
+  -- the lowest bit is the first member, and the other bits are the other members
   pub members_in-lowest : (first : ℕ) → members_in word first ≡ (first + lowest word) ∷ members_in (without_lowest word) first
   unfolding word_bytes
   members_in-lowest first =
@@ -119,9 +119,9 @@ module _ (word : ℕ) (some : 0 < word) (fits : word < 2 ^ 64) where
       (λ b below from. ap (λ n. n == 1) (is_lowest.2 (b - first) (omega arith)))
       (λ b from to apart. ap (λ n. n == 1) (bit_at_clear_other w64 word (lowest word) is_lowest.0 (b - first) (omega arith) (λ same. apart (omega arith))))
 
--- ---- how many members
+-- ---- the number of members
 
--- among the first n bytes of a word that has no bit after them are as many members as bits that are set
+-- the first n bytes of a word without bits after them have as many members as there are set bits
 count_bits : (word first n : ℕ) → word < 2 ^ n → length (filter (λ b. bit_at word (b - first) == 1) (range_with_len first n)) ≡ count_ones word
 count_bits word first zero fits = omega (arith, ones_le_self word)
 count_bits word first (suc n) fits =
@@ -143,7 +143,7 @@ count_bits word first (suc n) fits =
     by_digit later (suc zero) low = omega (arith, ones_step word)
     by_digit later (suc (suc d)) low = absurd (omega arith)
 
--- a word has as many members as bits that are set
+-- a word has as many members as set bits
 pub length-members_in : (word first : ℕ) → word < 2 ^ 64 → length (members_in word first) ≡ count_ones word
 unfolding word_bytes
 length-members_in word first fits = count_bits word first 64 fits

@@ -6,7 +6,7 @@ use Rattle.std.specs.Str.{byte}
 use Rattle.dp_pattern.specs.declared.class_members.ClassMembers.{ClassMembers}
 use Rattle.dp_pattern.specs.declared.class_members.ClassMembers.TheVariants.{Byte, Digits, Words}
 
--- how many bytes there are
+-- the number of bytes
 unfoldable pub byte_count : ℕ
 byte_count = 256
 
@@ -22,24 +22,24 @@ has_bit words b = bit_at (slice_index words (b / 64)) (b % 64) == 1
 abbrev pub members_of : List ℕ → List ℕ
 members_of words = class_by (has_bit words)
 
--- how many bytes one word stands for
+-- the number of bytes in one word
 unfoldable pub word_bytes : ℕ
 word_bytes = 64
 
--- the members of a class among the bytes that one word stands for, from a first one on
+-- the members of a class among the bytes of one word, which begin at a first one
 abbrev pub members_in : ℕ → ℕ → List ℕ
 members_in word first = filter (λ b. bit_at word (b - first) == 1) (range_with_len first word_bytes)
 
--- bit k of the mask stands for the byte `0` + k
+-- bit k of the mask is the byte `0` + k
 abbrev pub has_digit : ℕ → ℕ → Bool
 has_digit mask b = nat_le (byte "0") b && bit_at mask (b - byte "0") == 1
 
--- whether a class that is kept so has the byte
+-- whether a class that is kept in this form contains the byte
 abbrev pub has_member : ClassMembers → ℕ → Bool
 has_member (Byte a) b = a == b
 has_member (Digits mask) b = has_digit mask b
 has_member (Words words) b = has_bit words.value b
 
--- the members of a class that is kept so
+-- the members of a class that is kept in this form
 abbrev pub kept_members : ClassMembers → List ℕ
 kept_members members = class_by (has_member members)

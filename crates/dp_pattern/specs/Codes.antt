@@ -14,7 +14,7 @@ name_code OpenSet = 13
 name_code AfterWildcard = 14
 name_code BadByte = 15
 
--- the bytes that are printed beside that number
+-- the printed name of a fault, next to its number
 abbrev pub fault_name : NameFault → List ℕ
 fault_name EmptyName = codes "EmptyName"
 fault_name EmptySet = codes "EmptySet"
@@ -23,7 +23,7 @@ fault_name OpenSet = codes "OpenSet"
 fault_name AfterWildcard = codes "AfterWildcard"
 fault_name BadByte = codes "BadByte"
 
--- what is printed where a text could not be read
+-- what is printed if a text could not be read
 abbrev pub pattern_fault_text : PatternFault → List ℕ
 pattern_fault_text (Name fault) = fault_name fault
 pattern_fault_text NoMemory = codes "out of memory"

@@ -1,4 +1,4 @@
--- When a text could match a name by going on.
+-- When a longer text could match a name.
 use Rattle.std.specs.Prelude.{◌≢◌, ℕ, ◌<◌, List, ◌++◌, length, EachIndex, slice_index}
 use Rattle.std.specs.Str.{byte}
 use Rattle.dp_pattern.specs.Name.{Meaning, Plain, Pattern}

@@ -1,4 +1,4 @@
--- What is kept of a name, and what a reading cuts from a text, as values of the definition.
+-- The kept form of a name, and the pieces cut from a text, as values of the definition.
 use Rattle.std.specs.Prelude.{ℕ, Bool, false, true, List, length}
 use Rattle.std.specs.List.{filter}
 use Rattle.dp_pattern.specs.Name.{Meaning, Plain, Pattern, Piece, Dash, Wild, Byte, Set, Unclosed}
@@ -9,7 +9,7 @@ use Rattle.dp_pattern.specs.declared.name.Parts.TheVariants as shown
 use Rattle.dp_pattern.specs.declared.reading.PatternPiece as piece
 use Rattle.dp_pattern.specs.declared.reading.PatternPiece.TheVariants as cut
 
--- the meaning of what is kept
+-- the meaning of a kept form
 abbrev pub kept_meaning : kind.Kind → Meaning
 kept_meaning (kept.Short text) = Plain text.items
 kept_meaning (kept.Plain text) = Plain text.items
@@ -20,7 +20,7 @@ abbrev pub parts_meaning : parts.Parts → Meaning
 parts_meaning (shown.Plain text) = Plain text.now
 parts_meaning (shown.Pattern classes tail) = Pattern classes.now tail
 
--- the piece that was cut
+-- the piece that was cut from a text
 abbrev pub cut_piece : piece.PatternPiece → Piece
 cut_piece cut.Dash = Dash
 cut_piece (cut.Wild tail) = Wild tail
@@ -36,6 +36,6 @@ is_class (Byte b) = true
 is_class (Set bytes) = true
 is_class Unclosed = false
 
--- how many classes the pieces are
+-- the number of classes among the pieces
 abbrev pub class_count : List Piece → ℕ
 class_count pieces = length (filter is_class pieces)

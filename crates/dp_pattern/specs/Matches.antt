@@ -6,7 +6,7 @@ use Rattle.dp_pattern.specs.Name.{Meaning, Plain, Pattern}
 use Rattle.dp_pattern.specs.declared.tail.Tail.{Tail}
 use Rattle.dp_pattern.specs.declared.tail.Tail.TheVariants.{End, Dot, Bang}
 
--- what may follow the classes: nothing, one or more characters, or any number of them
+-- what may come after the classes: nothing, one or more characters, or any number of them
 abbrev pub FitsTail : Tail → List ℕ → Type 0
 FitsTail End rest = rest ≡ []
 FitsTail Dot rest = 0 < length rest

@@ -1,4 +1,4 @@
--- What a text means as the name of an extension, or why it is no name.
+-- The meaning of a text as the name of an extension, or the reason why it is not a name.
 use Rattle.std.specs.Prelude.{◌≡◌, ℕ, zero, suc, ◌+◌, ◌<◌, Bool, true, false, ◌||◌, ◌&&◌, ◌==◌, nat_lt, nat_le, List, [], ◌∷◌, length, take, codes, if◌then◌else◌, Option, Some, None, Result, Ok, Err, EachIndex, slice_index}
 use Rattle.std.specs.List.{list_any, list_all, position}
 use Rattle.std.specs.Str.{byte}
@@ -13,12 +13,12 @@ use Rattle.dp_pattern.specs.declared.fault.NameFault.TheVariants.{EmptyName, Emp
 use Rattle.dp_pattern.specs.declared.fault.PatternFault.{PatternFault}
 use Rattle.dp_pattern.specs.declared.fault.PatternFault.TheVariants.{Name, NoMemory}
 
--- what a name means: a text, or the classes of a pattern and the tail after them
+-- the meaning of a name: a text, or the classes of a pattern and the tail after them
 pub data Meaning : Type 0 where
   Plain : List ℕ → Meaning
   Pattern : List (List ℕ) → Tail → Meaning
 
--- a piece of a pattern's text; a set is what stands between `[` and the next `]`
+-- a piece of the text of a pattern; a set is the text between `[` and the next `]`
 pub data Piece : Type 0 where
   Dash : Piece
   Wild : Tail → Piece
@@ -34,7 +34,7 @@ abbrev pub ◌>>=◌ : {A B : Type 0} → Result A NameFault → (A → Result B
 abbrev pub is_one_of : List ℕ → ℕ → Bool
 is_one_of bytes b = list_any (λ a. b == a) bytes
 
--- a byte that no name has: one below 33, as a blank, 127, or `\`, which is 92
+-- a byte that no name may contain: one below 33, such as a blank, 127, or `\`, which is 92
 abbrev pub is_bad : ℕ → Bool
 is_bad b = nat_lt b 33 || b == 127 || b == 92
 
@@ -48,7 +48,7 @@ items_of (a ∷ b ∷ []) = One a ∷ One b ∷ []
 items_of (a ∷ b ∷ c ∷ bytes) =
     elim (is_dash b) [ true ↦ Range a c ∷ items_of bytes | false ↦ One a ∷ items_of (b ∷ c ∷ bytes) ]
 
--- low up to high, and from and to between them in rising or equal order
+-- low to high, and from and to between them in rising or equal order
 abbrev pub is_within : ℕ → ℕ → ℕ → ℕ → Bool
 is_within low high from to = nat_le low from && nat_le from to && nat_le to high
 
@@ -57,7 +57,7 @@ abbrev pub is_range : ℕ → ℕ → Bool
 is_range from to =
     is_within (byte "0") (byte "9") from to || is_within (byte "A") (byte "Z") from to || is_within (byte "a") (byte "z") from to
 
--- why a set cannot list the item
+-- the reason why a set cannot list the item
 abbrev pub item_fault : Item → Option NameFault
 item_fault (One b) = if is_dash b then Some BadRange else (if is_bad b then Some BadByte else None)
 item_fault (Range from to) = if is_range from to then None else Some BadRange
@@ -89,7 +89,7 @@ class_of_set (b ∷ bytes) = class_of_items (items_of (b ∷ bytes))
 
 -- ---- a pattern
 
--- the class of a byte outside sets: digits for a letter that stands for them, else the byte itself
+-- the class of a byte outside sets: digits for a letter that means them, else the byte itself
 abbrev pub class_of : ℕ → Result (List ℕ) NameFault
 class_of b =
     if is_one_of (codes "Xx") b then Ok (codes "0123456789") else
@@ -107,17 +107,17 @@ piece_of b =
 abbrev pub is_end : ℕ → Bool
 is_end b = b == byte "]"
 
--- the set of the text after a `[`, by the place of the next `]`
+-- the set of the text after a `[`, given the place of the next `]`
 abbrev pub set_piece : Option ℕ → List ℕ → Piece
 set_piece None text = Unclosed
 set_piece (Some n) text = Set (take n text)
 
--- how many bytes after the `[` belong to the set, with its `]`
+-- the number of bytes after the `[` that belong to the set, including its `]`
 abbrev pub set_size : Option ℕ → List ℕ → ℕ
 set_size None text = length text
 set_size (Some n) text = n + 1
 
--- the pieces of the text, the first n bytes of which belong to the piece before
+-- the pieces of the text, whose first n bytes belong to the piece before
 abbrev pub pieces_after : ℕ → List ℕ → List Piece
 pieces_after n [] = []
 pieces_after (suc n) (b ∷ text) = pieces_after n text
@@ -142,8 +142,8 @@ Parts = List (List ℕ) × Tail
 abbrev pub with_class : Result (List ℕ) NameFault → Result Parts NameFault → Result Parts NameFault
 with_class class parts = class >>= (λ c. parts >>= (λ p. Ok (c ∷ p.0, p.1)))
 
--- the classes and the tail, or the first fault from the left; of two faults at one byte, that something stands after a
--- wildcard comes first, then that a set is not closed, then what is in the set, where a range stands at its first byte
+-- the classes and the tail, or the first fault from the left; of two faults at one byte, text after a wildcard comes
+-- first, then a set that is not closed, then a fault in the set, where the place of a range is its first byte
 abbrev pub parts_of : List Piece → Result Parts NameFault
 parts_of [] = Ok ([], End)
 parts_of (Dash ∷ pieces) = parts_of pieces
@@ -154,7 +154,7 @@ parts_of (Unclosed ∷ pieces) = Err OpenSet
 
 -- ---- a name
 
--- a pattern of no class and no tail is an empty name
+-- a pattern without a class and a tail is an empty name
 abbrev pub pattern_of : Parts → Result Meaning NameFault
 pattern_of parts = elim parts.1 [ End ↦ ended parts.0 | Dot ↦ Ok (Pattern parts.0 Dot) | Bang ↦ Ok (Pattern parts.0 Bang) ]
   where
@@ -162,30 +162,30 @@ pattern_of parts = elim parts.1 [ End ↦ ended parts.0 | Dot ↦ Ok (Pattern pa
     ended [] = Err EmptyName
     ended (c ∷ classes) = Ok (Pattern (c ∷ classes) End)
 
--- a text that is no pattern
+-- the meaning of a text that is not a pattern
 abbrev pub plain_of : List ℕ → Result Meaning NameFault
 plain_of text = if list_any is_bad text then Err BadByte else Ok (Plain (without_dashes text))
 
--- what stands after the `_` of a pattern
+-- the meaning of the text after the `_` of a pattern
 abbrev pub pattern_reading : List ℕ → Result Meaning NameFault
 pattern_reading text = parts_of (pieces_of text) >>= pattern_of
 
--- a text that begins with no dash: after a `_` stands a pattern
+-- the meaning of a text that does not begin with a dash: after a `_` comes a pattern
 abbrev pub reading_of : List ℕ → Result Meaning NameFault
 reading_of [] = Err EmptyName
 reading_of (b ∷ text) = if b == byte "_" then pattern_reading text else plain_of (b ∷ text)
 
--- what the text means, or why it is no name
+-- the meaning of the text, or the reason why it is not a name
 unfoldable pub meaning_of : List ℕ → Result Meaning NameFault
 meaning_of text = reading_of (from_first text)
 
--- what some text means
+-- the name is the meaning of some text
 pub record IsName (name : Meaning) : Type 0 where
   pub text : List ℕ
   pub bytes : EachIndex text (λ k. slice_index text k < 256)
   pub read : meaning_of text ≡ Ok name
 
--- why a text was not read: the fault of the name, or out of memory in place of any answer
+-- the reason why a text was not read: the fault of the name, or out-of-memory in place of any result
 abbrev pub IsReason : {X : Type 0} → PatternFault → Result X NameFault → Type 0
 IsReason (Name fault) given = given ≡ Err fault
 IsReason NoMemory given = Unit {0}

@@ -5,13 +5,13 @@ use Rattle.dp_pattern.specs.Name.{Meaning, Plain, Pattern, is_one_of, is_bad, is
 use Rattle.dp_pattern.specs.declared.tail.Tail.{Tail}
 use Rattle.dp_pattern.specs.declared.tail.Tail.TheVariants.{End, Dot, Bang}
 
--- one byte that means itself outside sets
+-- a single byte that means itself outside sets
 abbrev pub stands_alone : List ℕ → Bool
 stands_alone [] = false
 stands_alone (b ∷ []) = not (is_one_of (codes "XxZzNn[.!") b)
 stands_alone (a ∷ b ∷ bytes) = false
 
--- the letter of a class of digits, else one byte that means itself, else all members as a set
+-- the letter of a class of digits, else a single byte that means itself, else all members as a set
 abbrev pub class_spelling : List ℕ → List ℕ
 class_spelling class =
     if bytes_eq class (codes "0123456789") then codes "X" else
@@ -24,16 +24,16 @@ tail_spelling End = []
 tail_spelling Dot = codes "."
 tail_spelling Bang = codes "!"
 
--- a plain name's text; or `_`, the classes and the tail of a pattern
+-- the text of a plain name; or `_`, the classes and the tail of a pattern
 unfoldable pub spelling : Meaning → List ℕ
 spelling (Plain text) = text
 spelling (Pattern classes tail) = codes "_" ++ flat_map class_spelling classes ++ tail_spelling tail
 
--- a byte that a spelling may have of its own: a digit, a letter, or one of `_ [ ] . !`
+-- a byte that a spelling may add: a digit, a letter, or one of `_ [ ] . !`
 abbrev pub is_own : ℕ → Bool
 is_own b = is_range b b || is_one_of (codes "_[].!") b
 
--- a spelling has no byte that names cannot have, and each byte that is not its own stands in the text of the name
+-- a spelling contains no byte that names cannot contain, and each byte that it does not add occurs in the text of the name
 pub record SpellsCleanly : Type 0 where
   pub fine : (name : Meaning) → IsName name → list_any is_bad (spelling name) ≡ false
   pub kept : (text : List ℕ) (name : Meaning) (b : ℕ) → meaning_of text ≡ Ok name → Contains (spelling name) b → is_own b ≡ false → Contains text b

@@ -1,4 +1,4 @@
--- How far the classes of a pattern take the digits of a text.
+-- A walk over the digits of a text along the classes of a pattern.
 use Rattle.std.specs.Prelude.{ℕ, Bool, true, false, List, [], ◌∷◌, map, if◌then◌else◌}
 use Rattle.dp_pattern.specs.Dashes.{without_dashes}
 use Rattle.dp_pattern.specs.Name.{Meaning, Plain, Pattern, is_one_of}
@@ -7,7 +7,7 @@ use Rattle.dp_pattern.specs.declared.tail.Tail.TheVariants.{End, Dot, Bang}
 use Rattle.dp_pattern.specs.declared.walk.Walk as walk
 use Rattle.dp_pattern.specs.declared.walk.Walk.TheVariants as kept
 
--- a digit is no member of its class; the digits end before the classes do; or these digits are left
+-- a digit is not a member of its class; the digits end before the classes do; or these digits are left
 pub data Walked : Type 0 where
   Refused : Walked
   Short : Walked
@@ -22,7 +22,7 @@ walk_after (class ∷ classes) (d ∷ digits) = if is_one_of class d then walk_a
 abbrev pub singles : List ℕ → List (List ℕ)
 singles plain = map (λ b. b ∷ []) plain
 
--- a plain name as a pattern of one byte a class
+-- a plain name as a pattern with one byte in each class
 abbrev pub classes_of : Meaning → List (List ℕ)
 classes_of (Plain plain) = singles plain
 classes_of (Pattern classes tail) = classes
@@ -31,13 +31,13 @@ abbrev pub tail_of : Meaning → Tail
 tail_of (Plain plain) = End
 tail_of (Pattern classes tail) = tail
 
--- the walk of a text, by its digits
+-- the walk over a text, in terms of its digits
 abbrev pub walk_of : walk.Walk → Walked
 walk_of kept.Refused = Refused
 walk_of kept.Short = Short
 walk_of (kept.After rest) = After (without_dashes rest.now)
 
--- whether what is left may stand after the classes
+-- whether the remaining digits may come after the classes
 abbrev pub tail_allows : Tail → List ℕ → Bool
 tail_allows End [] = true
 tail_allows End (d ∷ digits) = false
@@ -45,7 +45,7 @@ tail_allows Dot [] = false
 tail_allows Dot (d ∷ digits) = true
 tail_allows Bang digits = true
 
--- whether the walk is that of a match, and whether some ending makes it one
+-- whether the walk is one of a match, and whether some ending makes it one
 abbrev pub is_match : Tail → Walked → Bool
 is_match tail Refused = false
 is_match tail Short = false

@@ -12,7 +12,7 @@ use std::alloc::{AllocError, Global};
 use std::cmp::Ordering;
 use std::marker::Model;
 
-/// A class of a pattern: a finite set of bytes, which contracts see as its members in byte order.
+/// A class of a pattern: a finite set of bytes. Contracts see it as its members in byte order.
 #[derive(Debug)]
 pub struct Class {
     members: ClassMembers,
@@ -45,7 +45,7 @@ impl Clone for Class {
 }
 
 impl Class {
-    /// Whether the class has the byte.
+    /// Whether the class contains the byte.
     pub fn has(&self, byte: u8) -> bool
         ensures member { IsTrue result ↔ Contains self.now byte }
         ensures value { result ≡ is_one_of self.now byte }
@@ -53,28 +53,28 @@ impl Class {
         self.members.has(byte)
     }
 
-    /// The members as one bit for each byte: byte b has bit b % 64 of word b / 64.
+    /// The members as one bit for each byte: bit b % 64 of word b / 64 is byte b.
     pub fn words(&self) -> [u64; 4]
         ensures { (b : ℕ) → b < 256 → has_bit result b ≡ is_one_of self.now b }
     {
         self.members.words()
     }
 
-    /// The one member, where the class is kept as a byte.
+    /// The only member, if the class is kept as a byte.
     pub(crate) fn only(&self) -> Option<u8>
         ensures { IfSome result (λ byte. self.now ≡ byte ∷ []) }
     {
         self.members.only()
     }
 
-    /// The letter of a class of digits that has one.
+    /// The letter of a class of digits, if it has one.
     pub(crate) fn letter(&self) -> Option<u8>
         ensures { IfSome result (λ letter. class_spelling self.now ≡ letter ∷ []) }
     {
         self.members.letter()
     }
 
-    /// Adds the members to the bytes, in byte order.
+    /// Adds the members to the bytes, in byte order. It fails only if memory runs out.
     pub(crate) fn push_members(&self, bytes: &mut Vec<u8>) -> Result<(), AllocError>
         ensures { OnOk result (bytes.new.items ≡ bytes.old.items ++ self.now) }
     {
@@ -82,21 +82,21 @@ impl Class {
     }
 }
 
-/// What a set lists: one byte, or the bytes from one up to another.
+/// An item of a set: one byte, or the bytes from one to another.
 #[derive(Clone, Copy)]
 pub(crate) enum Item {
     One(u8),
     Range(u8, u8),
 }
 
-// A byte that no name has.
+// Whether the byte is one that no name may contain.
 pub(crate) fn is_bad(byte: u8) -> bool
     ensures { result ≡ is_bad byte }
 {
     byte < 33 || byte == 127 || byte == b'\\'
 }
 
-// Two digits, two capitals or two small letters in rising or equal order.
+// Whether these are two digits, two capitals or two small letters in rising or equal order.
 fn is_range(from: u8, to: u8) -> bool
     ensures { result ≡ is_range from to }
 {
@@ -106,7 +106,7 @@ fn is_range(from: u8, to: u8) -> bool
     digits || capitals || small
 }
 
-// Why a set cannot list the item.
+// The reason why a set cannot list the item, if there is one.
 fn fault_of(item: Item) -> Option<NameFault>
     ensures { result ≡ item_fault item }
 {
@@ -119,7 +119,7 @@ fn fault_of(item: Item) -> Option<NameFault>
     }
 }
 
-// Adds what the item lists.
+// Adds the bytes that the item lists.
 fn add_item(words: &mut [u64; 4], item: Item)
     requires { item_fault item ≡ None }
     ensures { (b : ℕ) → b < 256 → has_bit words.new b ≡ (has_bit words.old b || lists b item) }
@@ -143,7 +143,7 @@ fn first_item(bytes: &[u8]) -> Option<(Item, &[u8])>
     }
 }
 
-// What the bytes between `[` and `]` list, one bit for each byte.
+// The bytes that are listed between `[` and `]`, one bit for each byte.
 fn words_of_set(bytes: &[u8]) -> Result<[u64; 4], NameFault>
     ensures { MatchResult result (λ words. class_of_set bytes.now ≡ Ok (members_of words))
         (λ fault. class_of_set bytes.now ≡ Err fault) }
@@ -163,7 +163,7 @@ fn words_of_set(bytes: &[u8]) -> Result<[u64; 4], NameFault>
     Ok(words)
 }
 
-/// The class that the bytes between `[` and `]` list.
+/// The class of the bytes that are listed between `[` and `]`.
 pub(crate) fn class_of_set(alloc: Global, bytes: &[u8]) -> Result<Class, PatternFault>
     ensures { MatchResult result (λ class. class_of_set bytes.now ≡ Ok class)
         (λ fault. IsReason fault (class_of_set bytes.now)) }
@@ -182,7 +182,7 @@ fn digits() -> Class
     }
 }
 
-// The digits from 1 on.
+// The digits from 1.
 fn digits_from_1() -> Class
     ensures { result ≡ codes "123456789" }
 {
@@ -191,7 +191,7 @@ fn digits_from_1() -> Class
     }
 }
 
-// The digits from 2 on.
+// The digits from 2.
 fn digits_from_2() -> Class
     ensures { result ≡ codes "23456789" }
 {
@@ -200,7 +200,7 @@ fn digits_from_2() -> Class
     }
 }
 
-// The class of one byte.
+// The class of a single byte.
 fn single(byte: u8) -> Class
     ensures { result ≡ byte ∷ [] }
 {
@@ -222,7 +222,7 @@ pub(crate) fn class_of(byte: u8) -> Result<Class, NameFault>
     }
 }
 
-/// The order of two classes: fewer members first, and equal sizes by their members in byte order.
+/// The order of two classes: the one with fewer members comes first, and classes of equal size are ordered by their members in byte order.
 pub fn compare_classes(left: &Class, right: &Class) -> Ordering
     ensures { result ≡ class_cmp left.now right.now }
 {

@@ -1,4 +1,4 @@
-//! The members of a class, in as little room as they take.
+//! The members of a class, kept in as little space as they need.
 ghost use Rattle.std.specs.Prelude.{◌≡◌, ℕ, ◌<◌, ◌==◌, ◌++◌, ◌∷◌, [], length, false, true, IsTrue, IfOk, IfSome, OnOk};
 ghost use Rattle.std.specs.Ordering.{nat_cmp};
 ghost use Rattle.std.specs.Cmp.Lexicographic.{slice_cmp};
@@ -15,13 +15,13 @@ use std::cmp::Ordering;
 pub(crate) enum ClassMembers {
     /// One byte.
     Byte(u8),
-    /// Bit k stands for the byte `0` + k, a digit or one of the six bytes after the digits.
+    /// Bit k is the byte `0` + k, a digit or one of the six bytes after the digits.
     Digits(u16),
-    /// Bit k of word w stands for the byte 64 * w + k.
+    /// Bit k of word w is the byte 64 * w + k.
     Words(Box<[u64; 4]>),
 }
 
-// Whether the mask has the byte.
+// Whether the mask contains the byte.
 #[tactic(auto, using(crate::proofs::KeptLemmas::outside_mask))]
 fn has_digit(mask: u16, byte: u8) -> bool
     ensures { result ≡ has_digit mask byte }
@@ -32,7 +32,7 @@ fn has_digit(mask: u16, byte: u8) -> bool
     }
 }
 
-// The mask of the members, where it has each of them.
+// The mask of the members, if every member is in a mask.
 fn mask_of(words: &[u64; 4]) -> Option<u16>
     ensures { IfSome result (λ mask. members_of words.now ≡ class_by (has_digit mask)) }
 {
@@ -58,7 +58,7 @@ fn words_of_mask(mask: u16) -> [u64; 4]
     [u64::from(mask) << 48, 0, 0, 0]
 }
 
-// The letter of the class that has these digits, where it has one.
+// The letter of the class that has these digits, if there is one.
 fn letter_of(mask: u16) -> Option<u8>
     ensures { IfSome result (λ letter. class_spelling (class_by (has_digit mask)) ≡ letter ∷ []) }
 {
@@ -83,7 +83,7 @@ fn first_of(words: &[u64; 4]) -> Option<u8>
     None
 }
 
-// The only member.
+// The only member, if there is exactly one.
 fn only_of(words: &[u64; 4]) -> Option<u8>
     ensures { IfSome result (λ byte. members_of words.now ≡ class_by (λ b. byte == b)) }
 {
@@ -93,7 +93,7 @@ fn only_of(words: &[u64; 4]) -> Option<u8>
     }
 }
 
-// Two classes of one size, by their members in byte order.
+// Compares two classes of equal size, by their members in byte order.
 fn compare_members(left: &ClassMembers, right: &ClassMembers) -> Ordering
     requires { length (kept_members left.now) ≡ length (kept_members right.now) }
     ensures { result ≡ slice_cmp nat_cmp (kept_members left.now) (kept_members right.now) }
@@ -113,7 +113,7 @@ fn compare_members(left: &ClassMembers, right: &ClassMembers) -> Ordering
 }
 
 impl ClassMembers {
-    /// The members that the words have.
+    /// The members in the words. It fails only if memory runs out.
     pub(crate) fn of_words(alloc: Global, words: [u64; 4]) -> Result<ClassMembers, AllocError>
         ensures { IfOk result (λ members. kept_members members ≡ members_of words) }
     {
@@ -127,7 +127,7 @@ impl ClassMembers {
         Ok(ClassMembers::Words(words))
     }
 
-    /// The same members once more.
+    /// A copy of the members. It fails only if memory runs out.
     pub(crate) fn copy(&self) -> Result<ClassMembers, AllocError>
         ensures { IfOk result (λ copy. kept_members copy ≡ kept_members self.now) }
     {
@@ -163,7 +163,7 @@ impl ClassMembers {
         }
     }
 
-    /// The one member of a class that is kept as a byte.
+    /// The only member of a class that is kept as a byte.
     pub(crate) fn only(&self) -> Option<u8>
         ensures { IfSome result (λ byte. kept_members self.now ≡ byte ∷ []) }
     {
@@ -173,7 +173,7 @@ impl ClassMembers {
         }
     }
 
-    /// The letter of a class of digits that has one.
+    /// The letter of a class of digits, if it has one.
     pub(crate) fn letter(&self) -> Option<u8>
         ensures { IfSome result (λ letter. class_spelling (kept_members self.now) ≡ letter ∷ []) }
     {
@@ -183,7 +183,7 @@ impl ClassMembers {
         }
     }
 
-    // A byte that no member stands before.
+    // A byte with no member before it.
     fn least(&self) -> u8
         ensures { (b : ℕ) → b < result → has_member self.now b ≡ false }
     {
@@ -194,13 +194,13 @@ impl ClassMembers {
         }
     }
 
-    // How many members there are.
+    // The number of members.
     fn size(&self) -> usize
         ensures { result ≡ length (kept_members self.now) }
     {
         match self {
             ClassMembers::Byte(only) => {
-                // What is read is known to be a byte, and so to be a member.
+                // The byte that is read is known to be a member.
                 let _only = *only;
                 1
             }
@@ -209,7 +209,7 @@ impl ClassMembers {
         }
     }
 
-    // Whether both are kept alike, and so have the same members.
+    // Whether both are kept in the same form with the same value, and so have the same members.
     fn is_kept_as(&self, other: &ClassMembers) -> bool
         ensures { IsTrue result → kept_members self.now ≡ kept_members other.now }
     {
@@ -221,7 +221,7 @@ impl ClassMembers {
         }
     }
 
-    /// Fewer members first, and equal sizes by their members in byte order.
+    /// Fewer members come first, and equal sizes are ordered by their members in byte order.
     pub(crate) fn compare(&self, other: &ClassMembers) -> Ordering
         ensures { result ≡ class_cmp (kept_members self.now) (kept_members other.now) }
     {
@@ -235,7 +235,7 @@ impl ClassMembers {
         compare_members(self, other)
     }
 
-    /// Adds the members to the bytes, in byte order.
+    /// Adds the members to the bytes, in byte order. It fails only if memory runs out.
     pub(crate) fn push_to(&self, bytes: &mut Vec<u8>) -> Result<(), AllocError>
         ensures { OnOk result (bytes.new.items ≡ bytes.old.items ++ kept_members self.now) }
     {

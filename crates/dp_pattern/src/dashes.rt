@@ -2,7 +2,7 @@
 ghost use Rattle.std.specs.Prelude.{◌≡◌, ◌<◌, [], ◌∷◌, length, MatchOption};
 ghost use Rattle.dp_pattern.specs.Dashes.{without_dashes, from_first};
 
-/// The text from its first byte other than a dash on.
+/// The text from its first byte other than a dash.
 pub(crate) fn from_first(text: &[u8]) -> &[u8]
     ensures { result.now ≡ from_first text.now }
 {

@@ -1,4 +1,4 @@
-//! Why a text is no name, with the numbers and the names that are printed.
+//! The reasons why a text is not a name, with their numbers and their printed names.
 ghost use Rattle.std.specs.Prelude.{◌≡◌, Some};
 ghost use Rattle.dp_pattern.specs.Codes.{name_code, fault_name, pattern_fault_text};
 
@@ -6,21 +6,20 @@ use std::alloc::{AllocError, AllocFailed};
 use std::error::Error;
 use std::fmt;
 
-/// Why a text is no name: the first fault from the left. Of two faults at one byte it is
-/// `AfterWildcard` if that is one of them, else the one with the lower number. Which texts are
-/// refused is this program's own choice.
+/// The reason why a text is not a name: the first fault from the left. Of two faults at one byte it is `AfterWildcard` if that is one of
+/// them, else the one with the lower number. Which texts are refused is this program's own choice.
 #[derive(Clone, Copy, Debug, PartialEq, Eq)]
 pub enum NameFault {
-    /// Nothing is left of the name without its dashes, and without the `_` of a pattern.
+    /// The name is empty without its dashes, and without the `_` of a pattern.
     EmptyName,
-    /// A set lists nothing: `[]`.
+    /// An empty set: `[]`.
     EmptySet,
-    /// A range whose ends are not two digits, two capitals or two small letters in rising or
-    /// equal order, or a `-` in a set that is the sign of no range.
+    /// A range whose ends are not two digits, two capitals or two small letters in rising or equal order, or a `-` in a set that is not
+    /// part of a range.
     BadRange,
-    /// A `[` with no `]` after it.
+    /// A `[` without a `]` after it.
     OpenSet,
-    /// Anything but `-` after a `.` or a `!`.
+    /// Anything other than `-` after a `.` or a `!`.
     AfterWildcard,
     /// A byte of 32 or less, 127 or `\`.
     BadByte,
@@ -41,7 +40,7 @@ impl NameFault {
         }
     }
 
-    /// The name of the fault, as it is printed beside its number.
+    /// The name of the fault, as it is printed next to its number.
     pub fn name(self) -> &'static str
         ensures { result.now ≡ fault_name self }
     {
@@ -66,13 +65,12 @@ impl fmt::Display for NameFault {
 
 impl Error for NameFault {}
 
-/// Why a text could not be read as a name. Printed, it is the name of the fault, or
-/// `out of memory`.
+/// Why a text could not be read as a name. It is printed as the name of the fault, or as `out of memory`.
 #[derive(Clone, Copy, Debug, PartialEq, Eq)]
 pub enum PatternFault {
-    /// The text is no name.
+    /// The text is not a name.
     Name(NameFault),
-    /// There was no memory for the name.
+    /// Memory ran out.
     NoMemory,
 }
 

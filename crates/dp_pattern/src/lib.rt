@@ -3,15 +3,14 @@
 //! ```text
 //! name    = plain | "_" pattern           a "-" outside sets is ignored
 //! plain   = byte { byte }
-//! pattern = { class } [ "." | "!" ]       a class or a wildcard at least
+//! pattern = { class } [ "." | "!" ]       at least a class or a wildcard
 //! class   = "X" | "Z" | "N" | set | byte  X is 0 to 9, Z is 1 to 9, N is 2 to 9, in either case
 //! set     = "[" item { item } "]"
 //! item    = byte | byte "-" byte          two digits, two capitals or two small letters
 //! ```
 //!
-//! A byte is 33 or more and neither 127 nor `\`. `.` stands for one or more characters and `!` for
-//! any number of them; every other byte is itself. The faults, dashes before the `_` and dashes in
-//! dialled text are this program's own choice.
+//! A byte is 33 or more and neither 127 nor `\`. `.` means one or more characters and `!` any number of them; every other byte means
+//! itself. The faults, dashes before the `_` and dashes in dialled text are this program's own choice.
 #![tactic(auto)]
 
 mod class;

@@ -1,4 +1,4 @@
-//! Matching of dialled text against names.
+//! Matching dialled text against names.
 ghost use Rattle.std.specs.Prelude.{◌≡◌, ◌↔◌, IsTrue};
 ghost use Rattle.dp_pattern.specs.Dashes.{without_dashes};
 ghost use Rattle.dp_pattern.specs.Name.{IsName};
@@ -11,7 +11,7 @@ use crate::name::Name;
 use crate::tail::Tail;
 use crate::walk::{Walk, walk_name};
 
-// Whether the tail of a name allows what is left of a text.
+// Whether the tail of a name allows the rest of a text.
 fn allows(tail: Tail, rest: &[u8]) -> bool
     ensures { result ≡ tail_allows tail (without_dashes rest.now) }
 {
@@ -22,7 +22,7 @@ fn allows(tail: Tail, rest: &[u8]) -> bool
     }
 }
 
-// Whether the walk is that of a match.
+// Whether the walk is one of a match.
 fn is_match(walk: Walk<'_>, tail: Tail) -> bool
     ensures { result ≡ is_match tail (walk_of walk.entry) }
 {
@@ -32,7 +32,7 @@ fn is_match(walk: Walk<'_>, tail: Tail) -> bool
     }
 }
 
-// Whether some ending makes it that of a match, other than by a `!`.
+// Whether some ending makes the walk one of a match, other than by a `!`.
 fn goes_on(walk: Walk<'_>, tail: Tail) -> bool
     ensures { result ≡ goes_on tail (walk_of walk.entry) }
 {
@@ -43,9 +43,9 @@ fn goes_on(walk: Walk<'_>, tail: Tail) -> bool
     }
 }
 
-/// Whether the dialled text matches the name, after the Asterisk documentation's page on pattern
-/// matching: a plain name by its bytes, a pattern by one member of each class in turn and then what
-/// its tail allows. That dashes in the dialled text are ignored is this program's own choice.
+/// Whether the dialled text matches the name, after the Asterisk documentation's page on pattern matching: a plain name by its bytes, a
+/// pattern by one member of each class in turn and then what its tail allows. Ignoring dashes in the dialled text is this program's own
+/// choice.
 pub fn matches(name: &Name, text: &[u8]) -> bool
     ensures { IsTrue result ↔ Matches name.now text.now }
 {
@@ -53,8 +53,8 @@ pub fn matches(name: &Name, text: &[u8]) -> bool
     is_match(walk, tail)
 }
 
-/// Whether some ending of one or more bytes other than `-` makes the text match the name, which
-/// has no tail `!`: a caller who dials so far may go on. This is the program's own choice.
+/// Whether some ending of one or more bytes other than `-` makes the text match the name, if the name has no tail `!`: then a caller who
+/// has dialled the text may go on. This is this program's own choice.
 pub fn could_match_more(name: &Name, text: &[u8]) -> bool
     ensures more { IsTrue result ↔ GoesOn name.now text.now }
     ensures named { IsName name.now }

@@ -15,7 +15,7 @@ use std::marker::Model;
 
 /// The name of an extension: a plain text, or a pattern over dialled text.
 ///
-/// Contracts see it as its meaning, and know that some text means it.
+/// Contracts see it as its meaning, and know that some text has this meaning.
 #[derive(Debug)]
 pub struct Name {
     kind: Kind,
@@ -30,10 +30,10 @@ impl Drop for Name {
 
 const _: () = prove!(size_of::<Name>() == 32);
 
-/// How a meaning is kept.
+/// The form in which a meaning is kept.
 #[derive(Debug, Drop)]
 pub(crate) enum Kind {
-    /// A plain name of few bytes, which takes no block of its own.
+    /// A short plain name, which needs no block on the heap.
     Short(ArrayVec<u8, 16>),
     /// Any other plain name.
     Plain(Vec<u8>),
@@ -53,16 +53,16 @@ impl Model for Name {
     ghost invariant = { λ name. IsName (kept_meaning name.kind) };
 }
 
-/// What a name is made of.
+/// The parts of a name.
 #[derive(Clone, Copy)]
 pub enum Parts<'a> {
-    /// A plain name: its text without dashes.
+    /// A plain name, with its text without dashes.
     Plain(&'a [u8]),
-    /// A pattern: its classes in turn, and the tail after them.
+    /// A pattern, with its classes in order and the tail after them.
     Pattern(&'a [Class], Tail),
 }
 
-// A copy of what is kept.
+// A copy of the kept form.
 fn copy_kind(kind: &Kind) -> Result<Kind, NoMemory>
     ensures { IfOk result (λ copy. kept_meaning copy ≡ kept_meaning kind.now) }
 {
@@ -92,10 +92,10 @@ impl Clone for Name {
 }
 
 impl Name {
-    /// What the text means as a name, after the Asterisk documentation's page on pattern matching.
+    /// The name that the text means, after the Asterisk documentation's page on pattern matching.
     ///
-    /// A name whose first byte other than `-` is `_` is a pattern, and any other is a plain text.
-    /// An `Err` is the first fault from the left, or `NoMemory` where a growth was refused.
+    /// A name whose first byte other than `-` is `_` is a pattern, and any other is a plain text. The error is the first fault from the
+    /// left, or `NoMemory` if memory ran out.
     pub fn read(alloc: Global, text: &[u8]) -> Result<Name, PatternFault>
         ensures means { MatchResult result (λ name. meaning_of text.now ≡ Ok name)
             (λ fault. IsReason fault (meaning_of text.now)) }
@@ -105,7 +105,7 @@ impl Name {
         Ok(Name { kind })
     }
 
-    /// What the name is made of.
+    /// The parts of the name.
     pub fn parts(&self) -> Parts<'_>
         ensures value { parts_meaning result ≡ self.now }
         ensures named { IsName self.now }
@@ -117,11 +117,10 @@ impl Name {
         }
     }
 
-    /// The canonical spelling, a choice of this program, which reads as the same name again.
+    /// The canonical spelling (a choice of this program), which reads as the same name again. It fails only if memory runs out.
     ///
-    /// A plain name is spelled without dashes. A pattern is `_`, then for each class `X`, `Z` or
-    /// `N` where it is one of those sets, one character that means itself, or else all members
-    /// in brackets in byte order, and then the tail.
+    /// A plain name is spelled without dashes. A pattern is spelled as `_`, then each class, then the tail. A class is `X`, `Z` or `N` if
+    /// it is one of those sets, else one character that means itself, or else all members in brackets in byte order.
     #[tactic(auto, unfolding(crate::specs::Spelling::spelling))]
     pub fn text(&self, alloc: Global) -> Result<Vec<u8>, NoMemory>
         ensures ok { IfOk result (λ text. text.items ≡ spelling self.now) }
@@ -135,8 +134,8 @@ impl Name {
     }
 }
 
-/// What the bytes of spellings are: none that names cannot have, and each is a digit, a letter, one
-/// of `_ [ ] . !`, or a byte of the text that the name was read from.
+/// The bytes of spellings: none is a byte that names cannot contain, and each is a digit, a letter, one of `_ [ ] . !`, or a byte of the
+/// text from which the name was read.
 pub fn spelling_is_clean()
     ensures { SpellsCleanly }
 {}

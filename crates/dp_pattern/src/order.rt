@@ -1,4 +1,4 @@
-//! The order of names: which of two names that match is the more specific.
+//! The order of names, which says which of two matching names is more specific.
 ghost use Rattle.std.specs.Prelude.{◌≡◌, ◌↔◌, IsTrue};
 ghost use Rattle.std.specs.Ordering.{ordering_reverse};
 ghost use Rattle.dp_pattern.specs.Order.{tail_cmp, tail_cmp_class, class_cmp_tail, pattern_cmp, name_cmp, OrdersNames};
@@ -8,7 +8,7 @@ use crate::name::{Name, Parts};
 use crate::tail::Tail;
 use std::cmp::Ordering;
 
-// Two patterns at the place where both classes have ended.
+// Compares two patterns at the place where the classes of both have ended.
 fn compare_tails(left: Tail, right: Tail) -> Ordering
     ensures { result ≡ tail_cmp left right }
 {
@@ -23,7 +23,7 @@ fn compare_tails(left: Tail, right: Tail) -> Ordering
     }
 }
 
-// The tail of one pattern at the place of another's class.
+// Compares the tail of one pattern with a class of another.
 fn compare_tail_with_class(tail: Tail) -> Ordering
     ensures left { result ≡ tail_cmp_class tail }
     ensures right { ordering_reverse result ≡ class_cmp_tail tail }
@@ -34,7 +34,7 @@ fn compare_tail_with_class(tail: Tail) -> Ordering
     }
 }
 
-// Two patterns by the first place where they differ.
+// Compares two patterns at the first place where they differ.
 fn compare_patterns(left: &[Class], left_tail: Tail, right: &[Class], right_tail: Tail) -> Ordering
     ensures { result ≡ pattern_cmp left.now left_tail right.now right_tail }
 {
@@ -51,11 +51,9 @@ fn compare_patterns(left: &[Class], left_tail: Tail, right: &[Class], right_tail
     }
 }
 
-/// The order of two names, the more specific first, after the Asterisk documentation's page on
-/// pattern matching. Plain names stand before patterns, and plain names are in the order of their
-/// bytes. Patterns are decided at the first place where they differ: there the end of a pattern
-/// comes first, by this program's own choice, then a class, with fewer members first and equal
-/// sizes by their members, then `.`, then `!`.
+/// The order of two names, the more specific first, after the Asterisk documentation's page on pattern matching. Plain names come before
+/// patterns, in the order of their bytes. Patterns are ordered by the first place where they differ: there the end of a pattern comes first
+/// (this program's own choice), then a class, with fewer members first and equal sizes by their members, then `.`, then `!`.
 #[tactic(auto, unfolding(crate::specs::Order::name_cmp))]
 pub fn compare(left: &Name, right: &Name) -> Ordering
     ensures { result ≡ name_cmp left.now right.now }
@@ -68,15 +66,14 @@ pub fn compare(left: &Name, right: &Name) -> Ordering
     }
 }
 
-/// Whether two names mean the same, however they were written.
+/// Whether two names have the same meaning, however they were written.
 pub fn same(left: &Name, right: &Name) -> bool
     ensures { IsTrue result ↔ (left.now ≡ right.now) }
 {
     compare(left, right).is_eq()
 }
 
-/// The orders of names and of classes are total, and they answer `Equal` for equal meanings and equal
-/// classes alone.
+/// The orders of names and of classes are total, and give `Equal` only for equal meanings and equal classes.
 pub fn order_is_total()
     ensures { OrdersNames }
 {}

@@ -1,4 +1,4 @@
-//! The reading of a text as a name, piece after piece.
+//! Reading a text as a name, piece by piece.
 ghost use Rattle.std.specs.Prelude.{◌≡◌, ◌<◌, ◌≤◌, ◌+◌, ◌∷◌, [], Ok, Err, false, length, MatchOption, MatchResult, IfOk, IfSome};
 ghost use Rattle.std.specs.List.{list_all, list_any, position};
 ghost use Rattle.dp_pattern.specs.Dashes.{without_dashes, is_dash};
@@ -13,7 +13,7 @@ use crate::tail::Tail;
 use arrayvec::ArrayVec;
 use std::alloc::{AllocError, Global};
 
-/// A piece of a pattern's text.
+/// A piece of the text of a pattern.
 #[derive(Clone, Copy)]
 enum PatternPiece<'a> {
     Dash,
@@ -30,7 +30,7 @@ fn place_of_end(text: &[u8]) -> Option<usize>
     text.iter().position(|b| *b == b']')
 }
 
-// The set of the text after a `[`, and what stands after the set.
+// The set in the text after a `[`, and the text after the set.
 fn set_at(text: &[u8]) -> (PatternPiece<'_>, &[u8])
     ensures piece { cut_piece result.0 ≡ set_piece (position is_end text.now) text.now }
     ensures after { pieces_of result.1.now
@@ -43,7 +43,7 @@ fn set_at(text: &[u8]) -> (PatternPiece<'_>, &[u8])
     }
 }
 
-// The first piece of the text, and what stands after it.
+// The first piece of the text, and the text after it.
 fn first_piece(text: &[u8]) -> Option<(PatternPiece<'_>, &[u8])>
     ensures { MatchOption result (text.now ≡ [])
         (λ x. (pieces_of text.now ≡ cut_piece x.0 ∷ pieces_of x.1.now)
@@ -60,7 +60,7 @@ fn first_piece(text: &[u8]) -> Option<(PatternPiece<'_>, &[u8])>
     Some((piece, after))
 }
 
-// Whether only dashes are left.
+// Whether the rest consists of dashes.
 fn only_dashes(text: &[u8]) -> bool
     ensures { result ≡ list_all is_dash text.now }
 {
@@ -77,7 +77,7 @@ fn is_class(piece: PatternPiece<'_>) -> bool
     }
 }
 
-// How many classes the text has.
+// The number of classes in the text.
 fn class_count(text: &[u8]) -> usize
     ensures { result ≡ class_count (pieces_of text.now) }
 {
@@ -113,7 +113,7 @@ fn read_parts(alloc: Global, text: &[u8]) -> Result<(Vec<Class>, Tail), PatternF
     Ok((classes, Tail::End))
 }
 
-// The pattern whose classes and tail the text spells.
+// The pattern that the text spells.
 fn read_pattern(alloc: Global, text: &[u8]) -> Result<Kind, PatternFault>
     ensures { MatchResult result (λ kind. pattern_reading text.now ≡ Ok (kept_meaning kind))
         (λ fault. IsReason fault (pattern_reading text.now)) }
@@ -125,7 +125,7 @@ fn read_pattern(alloc: Global, text: &[u8]) -> Result<Kind, PatternFault>
     Ok(Kind::Pattern(tail, classes))
 }
 
-// The text without its dashes, where that is short and each byte is one that a name may have.
+// The text without its dashes, if it is short and names may contain each of its bytes.
 fn short_of(text: &[u8]) -> Option<ArrayVec<u8, 16>>
     ensures kept { IfSome result (λ kept. kept.items ≡ without_dashes text.now) }
     ensures fine { IfSome result (λ _. list_any is_bad text.now ≡ false) }
@@ -151,14 +151,14 @@ fn without_dashes(alloc: Global, text: &[u8]) -> Result<Vec<u8>, AllocError>
     Ok(kept)
 }
 
-// Whether a byte is one that no name has.
+// Whether the text contains a byte that no name may contain.
 fn has_bad(text: &[u8]) -> bool
     ensures { result ≡ list_any is_bad text.now }
 {
     text.iter().any(|b| is_bad(*b))
 }
 
-// The plain name that the text spells. A short one is read in one pass.
+// The plain name that the text spells. A short one is read in a single pass.
 fn read_plain(alloc: Global, text: &[u8]) -> Result<Kind, PatternFault>
     ensures { MatchResult result (λ kind. plain_of text.now ≡ Ok (kept_meaning kind))
         (λ fault. IsReason fault (plain_of text.now)) }
@@ -173,7 +173,7 @@ fn read_plain(alloc: Global, text: &[u8]) -> Result<Kind, PatternFault>
     Ok(Kind::Plain(kept))
 }
 
-/// What is kept of the name that the text spells.
+/// The kept form of the name that the text spells.
 #[tactic(auto, unfolding(crate::specs::Name::meaning_of))]
 pub(crate) fn read_kind(alloc: Global, text: &[u8]) -> Result<Kind, PatternFault>
     ensures { MatchResult result (λ kind. meaning_of text.now ≡ Ok (kept_meaning kind))

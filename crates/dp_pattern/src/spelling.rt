@@ -24,7 +24,7 @@ fn means_itself(byte: u8) -> bool
     )
 }
 
-// One byte that means itself outside sets.
+// Whether this is a single byte that means itself outside sets.
 fn stands_alone(members: &[u8]) -> bool
     ensures { result ≡ stands_alone members.now }
 {
@@ -34,7 +34,7 @@ fn stands_alone(members: &[u8]) -> bool
     }
 }
 
-// Writes the class of one member.
+// Writes the class of a single member.
 fn push_only(text: &mut Vec<u8>, byte: u8) -> Result<(), AllocError>
     ensures { OnOk result (text.new.items ≡ text.old.items ++ class_spelling (byte ∷ [])) }
 {
@@ -66,7 +66,7 @@ fn push_listed(text: &mut Vec<u8>, members: &[u8]) -> Result<(), AllocError>
     Ok(())
 }
 
-// Writes the class. The list is there to be filled with its members, where they are asked for.
+// Writes the class. The list is only used to collect its members, if they are needed.
 fn push_class(text: &mut Vec<u8>, class: &Class, members: &mut Vec<u8>) -> Result<(), AllocError>
     ensures { OnOk result (text.new.items ≡ text.old.items ++ class_spelling class.now) }
 {
@@ -94,7 +94,7 @@ fn push_tail(text: &mut Vec<u8>, tail: Tail) -> Result<(), AllocError>
     Ok(())
 }
 
-// Writes the classes, each over one list of its members.
+// Writes the classes, with one list for the members of each in turn.
 fn push_classes(alloc: Global, text: &mut Vec<u8>, classes: &[Class]) -> Result<(), AllocError>
     ensures { OnOk result (text.new.items ≡ text.old.items ++ flat_map class_spelling classes.now) }
 {
@@ -105,7 +105,7 @@ fn push_classes(alloc: Global, text: &mut Vec<u8>, classes: &[Class]) -> Result<
     Ok(())
 }
 
-/// The canonical spelling of a pattern.
+/// The canonical spelling of a pattern. It fails only if memory runs out.
 #[tactic(auto, unfolding(crate::specs::Spelling::spelling))]
 pub(crate) fn pattern_text(
     alloc: Global,
@@ -114,7 +114,7 @@ pub(crate) fn pattern_text(
 ) -> Result<Vec<u8>, AllocError>
     ensures { IfOk result (λ text. text.items ≡ spelling (Pattern classes.now tail)) }
 {
-    // Most classes are written as one byte.
+    // Most classes are written as a single byte.
     let mut text = Vec::with_capacity(alloc, classes.len().saturating_add(2))?;
     text.push(b'_')?;
     push_classes(alloc, &mut text, classes)?;

@@ -1,12 +1,12 @@
-//! What stands after the classes of a pattern.
+//! The tail of a pattern: the part after its classes.
 
-/// What stands after the classes of a pattern, and so what may follow them in a text.
+/// The tail of a pattern: the part after its classes, and so what may come after them in a text.
 #[derive(Clone, Copy, Debug, PartialEq, Eq)]
 pub enum Tail {
-    /// Nothing: the text ends with the classes.
+    /// No tail: the text ends with the classes.
     End,
-    /// `.`: one or more characters follow.
+    /// `.`: one or more characters come after.
     Dot,
-    /// `!`: zero or more characters follow.
+    /// `!`: zero or more characters come after.
     Bang,
 }

@@ -1,4 +1,4 @@
-//! How far the classes of a pattern, or the bytes of a plain name, take a text.
+//! Walking over a text along the classes of a pattern or the bytes of a plain name.
 ghost use Rattle.std.specs.Prelude.{◌≡◌};
 ghost use Rattle.dp_pattern.specs.Dashes.{without_dashes};
 ghost use Rattle.dp_pattern.specs.Name.{IsName};
@@ -9,14 +9,14 @@ use crate::dashes::next_digit;
 use crate::name::{Name, Parts};
 use crate::tail::Tail;
 
-/// Where a walk over a text ends.
+/// The result of a walk over a text.
 #[derive(Clone, Copy)]
 pub(crate) enum Walk<'a> {
-    /// A digit is no member of its class.
+    /// A digit is not a member of its class.
     Refused,
     /// The text ends before the classes do.
     Short,
-    /// Each class has its member, and this is left of the text.
+    /// Each class has its member, and this is the rest of the text.
     After(&'a [u8]),
 }
 
@@ -54,7 +54,7 @@ pub(crate) fn walk_plain<'a>(plain: &[u8], text: &'a [u8]) -> Walk<'a>
     Walk::After(rest)
 }
 
-/// How far the name takes the text, and the tail after that.
+/// The result of a walk over the text along the name, and the tail after it.
 pub(crate) fn walk_name<'a>(name: &Name, text: &'a [u8]) -> (Walk<'a>, Tail)
     ensures walk { walk_of result.0 ≡ walk_after (classes_of name.now) (without_dashes text.now) }
     ensures tail { result.1 ≡ tail_of name.now }

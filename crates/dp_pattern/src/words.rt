@@ -22,7 +22,7 @@ fn with_bit(word: u64, k: u8) -> u64
     word | (1 << k)
 }
 
-// Whether the class has the byte.
+// Whether the class contains the byte.
 pub(crate) fn has(words: &[u64; 4], byte: usize) -> bool
     requires { byte < 256 }
     ensures { result ≡ has_bit words.now byte }
@@ -38,7 +38,7 @@ pub(crate) fn add(words: &mut [u64; 4], byte: u8)
     words[place] = with_bit(words[place], byte % 64);
 }
 
-// Adds the bytes from one up to another, both of them too.
+// Adds the bytes from one to another, including both.
 pub(crate) fn add_range(words: &mut [u64; 4], from: u8, to: u8)
     requires { from ≤ to }
     ensures { (b : ℕ) → b < 256 →
@@ -49,7 +49,7 @@ pub(crate) fn add_range(words: &mut [u64; 4], from: u8, to: u8)
     }
 }
 
-// How many members the class has.
+// The number of members of the class.
 pub(crate) fn size(words: &[u64; 4]) -> usize
     ensures { result ≡ length (members_of words.now) }
 {
@@ -60,7 +60,7 @@ pub(crate) fn size(words: &[u64; 4]) -> usize
     count
 }
 
-// Adds the members among the 64 bytes from the first on, which the word stands for, in byte order.
+// Adds the members among the 64 bytes of the word, which begin at the first one, in byte order.
 pub(crate) fn push_word(word: u64, first: u8, bytes: &mut Vec<u8>) -> Result<(), AllocError>
     requires { first + 64 ≤ 256 }
     ensures { OnOk result (bytes.new.items ≡ bytes.old.items ++ members_in word first) }

@@ -1,4 +1,4 @@
--- Shapes whose texts are all of another shape.
+-- Shapes whose texts all have another shape.
 use Rattle.std.proofs.Common.{◌≡◌, ℕ, List, [], ◌∷◌, ◌++◌, length, refl, sym, ap, ◌∙◌, subst, arith}
 use Rattle.dp_pieces.specs.Bytes.{Bytes, IsPart, Within}
 use Rattle.dp_pieces.specs.Pieces.{AnyOf, Fits, Known, OneOf, Piece, any_bytes_of, pieces_set}
@@ -21,7 +21,7 @@ cons (AnyOf set) (Known byte) pieces other is always text fits = absurd is
 cons (AnyOf set) (OneOf wide) pieces other is always text fits = absurd is
 cons (AnyOf set) (AnyOf wide) pieces other is always text fits = (fits.0, fits.1, within-more set wide is fits.0.0 fits.2, always fits.0.1 fits.3)
 
--- the first pieces of both are taken off, and those of no byte after them
+-- the first pieces of both are removed, and then those with no bytes
 pub fits-step : (piece wide : Piece) (later more left mid right after : List Piece) → AlwaysFits left mid → mid ≡ piece ∷ later → right ≡ wide ∷ after → AlwaysFits more after
     → IsWithinPiece piece wide → AlwaysFits later more → AlwaysFits left right
 fits-step piece wide later more left mid right after forth begins widens back is always text fits =
@@ -32,13 +32,13 @@ same-first (Known byte) more after always = cons (Known byte) (Known byte) more 
 same-first (OneOf set) more after always = cons (OneOf set) (OneOf set) more after (λ byte is. is) always
 same-first (AnyOf set) more after always = cons (AnyOf set) (AnyOf set) more after (λ byte is. is) always
 
--- the other shape is any bytes of a set, which has those of the one
+-- the other shape is any number of bytes of a set, which contains those of the one
 pub fits-any : (wide : Piece) (more left right after : List Piece) (bytes set : Bytes) → right ≡ wide ∷ after → AlwaysFits more after → wide ∷ more ≡ any_bytes_of set → ((byte : ℕ) → bytes byte ≡ pieces_set left byte) → IsPart bytes set → AlwaysFits left right
 fits-any wide more left right after bytes set widens back any same part text fits =
     subst (λ ps. Fits ps text) (sym widens) (same-first wide more after back text (subst (λ ps. Fits ps text) (sym any)
     (fits-any_bytes_of set text (within-more bytes set part text (subst (λ s. Within s text) (λ i byte. sym (same byte) i) (fits-set left text fits))))))
 
--- one more piece of no byte is left out
+-- one more piece with no bytes is removed
 pub nothing-step : (piece : Piece) (after left pieces : List Piece) → left ≡ piece ∷ after → IsNothing piece → AreTextsOf left pieces → AreTextsOf after pieces
 unfolding Fits
 nothing-step (Known byte) after left pieces is nothing same = absurd nothing

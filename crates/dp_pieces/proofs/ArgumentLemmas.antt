@@ -1,4 +1,4 @@
--- The commas of a text that fits pieces cut it as they cut these.
+-- The commas cut a text that fits pieces where they cut the pieces.
 use Rattle.std.proofs.Common.{◌≡◌, ℕ, ◌+◌, ◌-◌, ◌==◌, Bool, true, false, not, ◌&&◌, List, [], ◌∷◌, ◌++◌, map, refl, sym, ap, ◌∙◌, subst, if◌then◌else◌}
 use borrow.Author.Tests.{eqb-true}
 use Rattle.std.specs.List.{onto_first}
@@ -50,7 +50,7 @@ some-byte set byte here (pieces ∷ more) [] fit = absurd fit
 some-byte set byte here (pieces ∷ more) (text ∷ texts) fit =
     (((byte ∷ fit.0.0.0, fit.0.0.1), ap (λ bs. byte ∷ bs) fit.0.1, (here, fit.0.2), fit.0.3), fit.1)
 
--- a byte of a clean set parts nothing
+-- a byte of a clean set separates nothing
 record IsClean (level : ℕ) (set : Bytes) : Type 0 where
   opening : set 40 ≡ false
   closing : set 41 ≡ false
@@ -77,7 +77,7 @@ same_level set byte level opening closing here =
     (λ i. if other set byte 40 here opening i then level + 1 else (if byte == 41 then level - 1 else level))
     ∙ (λ i. if other set byte 41 here closing i then level - 1 else level)
 
--- a byte of a set that has no such mark at the level
+-- a byte of a set without such a mark at the level
 pub no-mark : (set : Bytes) (byte mark level : ℕ) → set byte ≡ true → (set mark && level == 0) ≡ false → (byte == mark && level == 0) ≡ false
 no-mark set byte mark level here none = by (byte == mark) refl
   where

@@ -1,4 +1,4 @@
--- Sets that have blanks, and the set of one byte.
+-- Sets with blanks, and the set of a single byte.
 use Rattle.std.proofs.Common.{◌≡◌, ℕ, zero, suc, ◌<◌, ◌+◌, ◌*◌, ◌/◌, ◌%◌, ◌==◌, List, slice_index, [], Bool, true, false, not, ◌&&◌, ◌||◌, refl, sym, ap, ◌∙◌, subst, arith}
 use borrow.Author.Tests.{eqb-true, eqb-false}
 use Rattle.std.specs.Int.{bit_at}
@@ -18,7 +18,7 @@ pub below-next : (byte : ℕ) (set : Bytes) → has_blank_below byte set ≡ fal
 unfolding has_blank_below
 below-next byte set before here = (λ i. here i || before i)
 
--- a blank that the set has is found from any byte above it
+-- a blank in the set is found from any byte above it
 pub below-found : (count byte : ℕ) (set : Bytes) → byte < count → (is_blank byte && set byte) ≡ true → has_blank_below count set ≡ true
 unfolding has_blank_below
 below-found zero byte set less here = absurd (omega (arith, less))
@@ -28,7 +28,7 @@ below-found (suc count) byte set less here = by (byte == count) refl (λ below. 
     by true same later = either-left (is_blank count && set count) (has_blank_below count set) (subst (λ b. (is_blank b && set b) ≡ true) (eqb-true byte count same) here)
     by false other later = let far = eqb-false byte count other in either-right (is_blank count && set count) (has_blank_below count set) (later (omega (arith, less, far)))
 
--- words that are all zero have no bit
+-- words that are all zero have no bits
 no-word : (size k : ℕ) → slice_index (replicate size 0) k ≡ 0
 no-word zero k = refl
 no-word (suc size) zero = refl
@@ -80,7 +80,7 @@ blank-bit (suc count) byte all less blank = by (byte == count) refl (first (not 
         stands (is_blank byte) blank (subst (λ b. (not (is_blank b) || (bit_at 8589933567 b == 1)) ≡ true) (sym (eqb-true byte count same)) here)
     by false other here later = let far = eqb-false byte count other in later (omega (arith, less, far))
 
--- words of which the first shares no bit with the blanks have none
+-- words whose first shares no bit with the blanks contain none
 pub blanks-apart : (words : List ℕ) (shared : ℕ) → shared ≡ 0 → ((i : ℕ) → (bit_at shared i == 1) ≡ (bit_at (slice_index words 0) i == 1 && bit_at 8589933567 i == 1))
     → has_blank_below 33 (set_by words) ≡ false
 blanks-apart words shared none both = none-below 33 (set_by words) (λ byte less. by byte less (is_blank byte) refl)

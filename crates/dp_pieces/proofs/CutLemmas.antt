@@ -12,7 +12,7 @@ use Rattle.dp_pieces.specs.Fitting.{IsCutAs}
 use Rattle.dp_pieces.specs.Pieces.{AnyOf, Fits, Known, OneOf, Piece}
 use Rattle.dp_pieces.proofs.ArgumentLemmas.{no-mark, other, same_level}
 
--- a text that is cut as pieces are, by what stands before and after the byte
+-- a text that is cut like its pieces, given the text before and after the byte
 record IsBetween (mark : ℕ) (front rest : List Piece) (text : List ℕ) : Type 0 where
   before : List ℕ
   after : List ℕ
@@ -105,7 +105,7 @@ cut-pieces mark pieces text fits = by (cut_pieces mark pieces) (parted-pieces ma
     by Unsure is = tt
     by (At front rest) is = subst (IsCutAs (At front rest)) (sym (ap (cut_once mark) is.whole ∙ cut_once-here mark is.before is.after is.avoids)) (is.front_fits, is.rest_fits)
 
--- pieces before a cut that is made later
+-- pieces before a later cut
 abbrev IsCutLater : List ℕ → Cutting → Option (List ℕ × List ℕ) → Type 0
 IsCutLater before Nowhere cut = cut ≡ None
 IsCutLater before Unsure cut = Unit {0}

@@ -1,4 +1,4 @@
--- The value of an expression is a number, or has no other bytes than its text.
+-- The value of an expression is a number, or has only bytes of its text.
 use Rattle.std.proofs.Common.{◌≡◌, ℕ, zero, suc, ◌==◌, Bool, true, false, ◌||◌, List, [], ◌∷◌, Option, Some, None, take, refl, subst, unwrap_or, if◌then◌else◌, ℤ, neg_ℤ, nat_lt}
 use borrow.Author.Tests.{eqb-true}
 use Rattle.dp_expr.specs.declared.operator.Operator.{Operator}
@@ -31,7 +31,7 @@ AreFrom : Bytes → List Token → Type 0
 AreFrom set [] = Unit {0}
 AreFrom set (token ∷ tokens) = IsFrom set token × AreFrom set tokens
 
--- the same of a cut
+-- the same for a cut
 record IsCutFrom (set : Bytes) (cut : Cut) : Type 0 where
   token : IsFrom set cut.token
 
@@ -133,7 +133,7 @@ module _ (set : Bytes) where
       by true rest first more = rest
       by false rest first more = (first, more)
 
--- the bytes of a value that is there
+-- the bytes of a value, if there is one
 IsValued : Bytes → Outcome → Type 0
 IsValued set None = Unit {0}
 IsValued set (Some text) = Within set text
@@ -201,7 +201,7 @@ module _ (set : Bytes) (numbers : (byte : ℕ) → numeric byte ≡ true → set
   valued-before Negate (Some a) = valued-negation (number_of a)
   valued-before Not (Some a) = within-truth (is_false a)
 
-  -- what waits for an operand, and the state of a walk
+  -- the frames that wait for an operand, and the state of a walk
   AreValued : List (Frame Outcome) → Type 0
   AreValued [] = Unit {0}
   AreValued (Left operator left ∷ frames) = IsValued set left × AreValued frames
@@ -276,7 +276,7 @@ module _ (set : Bytes) (numbers : (byte : ℕ) → numeric byte ≡ true → set
   valued-step (Holding frames x) Stray all from = tt
   valued-step Failed token all from = tt
 
-  -- what a walk ends with
+  -- the result of a walk
   valued-whole : (frames : List (Frame Outcome)) (x : Outcome) → IsValued set x → Within set (answer (unwrap_or (whole frames x) None))
   unfolding IsValued
   valued-whole [] None is = tt

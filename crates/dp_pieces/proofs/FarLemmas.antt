@@ -1,4 +1,4 @@
--- A reach above the greatest number is as far as that one in any pieces.
+-- A reach above the greatest number is as far as the greatest in any pieces.
 use Rattle.std.proofs.Common.{◌≡◌, ℕ, zero, suc, ◌-◌, ◌<◌, ◌≤◌, ◌^◌, Bool, true, false, List, [], ◌∷◌, Option, Some, None, length, min, refl, sym, ap, ◌∙◌, arith}
 use Rattle.std.proofs.lemmas.Bool.{ltb-true, ltb-false}
 use Rattle.std.specs.Option.{option_map}
@@ -11,7 +11,7 @@ use Rattle.dp_vars.specs.declared.part.Selection.TheVariants.{Whole, Part, Nothi
 use Rattle.dp_pieces.specs.Names.{part_ahead, part_pieces}
 use Rattle.dp_pieces.specs.Pieces.{AnyOf, Known, OneOf, Piece, front, without}
 
--- nothing is left of no pieces
+-- nothing is left of an empty list
 without-none : (count : ℕ) → without count [] ≡ []
 without-none zero = refl
 without-none (suc count) = refl
@@ -20,7 +20,7 @@ front-none : (count : ℕ) → front count [] ≡ []
 front-none zero = refl
 front-none (suc count) = refl
 
--- any two counts that are no less than the pieces come to the same
+-- any two counts that are at least the number of pieces give the same
 without-far : (n m : ℕ) (pieces : List Piece) → length pieces ≤ n → length pieces ≤ m → without n pieces ≡ without m pieces
 without-far n m [] far other = without-none n ∙ sym (without-none m)
 without-far zero m (piece ∷ pieces) far other = absurd (omega (arith, far))
@@ -37,7 +37,7 @@ front-far (suc n) (suc m) (Known byte ∷ pieces) far other = ap (λ ps. Known b
 front-far (suc n) (suc m) (OneOf set ∷ pieces) far other = ap (λ ps. OneOf set ∷ ps) (front-far n m pieces (omega (arith, far)) (omega (arith, other)))
 front-far (suc n) (suc m) (AnyOf set ∷ pieces) far other = refl
 
--- no more pieces are left than there were
+-- there are no more pieces left than before
 length-without : (count : ℕ) (pieces : List Piece) → length (without count pieces) ≤ length pieces
 length-without zero pieces = omega arith
 length-without (suc count) [] = omega arith
@@ -77,7 +77,7 @@ part_ahead-at_most offset (Some (Ahead size)) pieces small =
     ap (front (min size (2 ^ 64 - 1))) (without-at_most offset pieces small) ∙ front-at_most size (without offset pieces) (omega (arith, less, small))
 part_ahead-at_most offset (Some (Back size)) pieces small = refl
 
--- what is asked for of fewer pieces than that
+-- the requested part of fewer pieces than that
 pub part_pieces-at_most : (asked : Selection) (pieces : List Piece) → length pieces < 2 ^ 64 → part_pieces (asked_at_most asked) pieces ≡ part_pieces asked pieces
 part_pieces-at_most Whole pieces small = refl
 part_pieces-at_most Nothing pieces small = refl

@@ -1,4 +1,4 @@
--- What fits pieces, and parts of it.
+-- Texts that fit pieces, and their parts.
 use Rattle.std.proofs.Common.{◌≡◌, ℕ, zero, suc, ◌+◌, ◌-◌, Bool, true, false, ◌||◌, List, [], ◌∷◌, ◌++◌, length, take, drop, min, Option, Some, None, refl, sym, ap, ◌∙◌, subst, eq-eqb, append_assoc, arith}
 use Rattle.std.proofs.lemmas.List.{append-nil, length-drop, take_min, take_rest}
 use Rattle.std.specs.Option.{option_map}
@@ -16,12 +16,12 @@ pub fits-nothing : Fits [] []
 unfolding Fits
 fits-nothing = refl
 
--- a text of these bytes
+-- a text with these bytes
 pub fits-any_bytes_of : (set : Bytes) (text : List ℕ) → Within set text → Fits (any_bytes_of set) text
 unfolding Fits
 fits-any_bytes_of set text is = ((text, []), sym (append-nil text), is, refl)
 
--- a text that is known
+-- a known text
 pub fits-exactly : (text : List ℕ) → Fits (exactly text) text
 unfolding Fits
 fits-exactly [] = refl
@@ -50,7 +50,7 @@ fits-text_known (Known byte ∷ pieces) text bytes is fits = by (text_known piec
 fits-text_known (OneOf set ∷ pieces) text bytes is fits = absurd cc
 fits-text_known (AnyOf set ∷ pieces) text bytes is fits = absurd cc
 
--- the bytes after the first piece are among those of all
+-- the bytes after the first piece are among those of all pieces
 pub later-part : (piece : Piece) (pieces : List Piece) → IsPart (pieces_set pieces) (pieces_set (piece ∷ pieces))
 unfolding pieces_set
 later-part piece pieces byte is = either-right (piece_set piece byte) (pieces_set pieces byte) is
@@ -59,7 +59,7 @@ pub first-part : (piece : Piece) (pieces : List Piece) → IsPart (piece_set pie
 unfolding pieces_set
 first-part piece pieces byte is = either-left (piece_set piece byte) (pieces_set pieces byte) is
 
--- no other bytes than those of the set
+-- only bytes of the set
 pub any_bytes_of-part : (set : Bytes) → IsPart (pieces_set (any_bytes_of set)) set
 unfolding pieces_set
 any_bytes_of-part set byte is = by (set byte) is
@@ -68,7 +68,7 @@ any_bytes_of-part set byte is = by (set byte) is
     by true e = refl
     by false e = e
 
--- the bytes of what fits
+-- the bytes of a text that fits
 pub fits-set : (pieces : List Piece) (text : List ℕ) → Fits pieces text → Within (pieces_set pieces) text
 unfolding Fits
 fits-set [] text fits = subst (Within (pieces_set [])) (sym fits) tt
@@ -88,7 +88,7 @@ fits-set (AnyOf set ∷ pieces) text fits =
     (within-more set (pieces_set (AnyOf set ∷ pieces)) (first-part (AnyOf set) pieces) fits.0.0 fits.2)
     (within-more (pieces_set pieces) (pieces_set (AnyOf set ∷ pieces)) (later-part (AnyOf set) pieces) fits.0.1 (fits-set pieces fits.0.1 fits.3)))
 
--- a text fits any bytes of its pieces
+-- a text fits any number of bytes of its pieces
 pub fits-loosely : (pieces : List Piece) (text : List ℕ) → Fits pieces text → Fits (any_bytes_of (pieces_set pieces)) text
 fits-loosely pieces text fits = fits-any_bytes_of (pieces_set pieces) text (fits-set pieces text fits)
 
@@ -119,7 +119,7 @@ fits-front (suc count) (AnyOf set ∷ pieces) text fits =
     fits-any_bytes_of (pieces_set (AnyOf set ∷ pieces)) (take (suc count) text)
     (within-take (pieces_set (AnyOf set ∷ pieces)) (suc count) text (fits-set (AnyOf set ∷ pieces) text fits))
 
--- a part that starts ahead, by what is dropped and what is taken
+-- a part that counts from the front, as dropped and taken bytes
 drop-min : (count : ℕ) (text : List ℕ) → drop (min count (length text)) text ≡ drop count text
 drop-min zero text = let none : min 0 (length text) ≡ 0 = omega arith in ap (λ n. drop n text) none
 drop-min (suc count) [] = let none : min (suc count) 0 ≡ 0 = omega arith in ap (λ n. drop n []) none
@@ -137,7 +137,7 @@ part-some count size text =
     (fewer ∙ ap (min size) (sym (length-drop (min count (length text)) text)))
     ∙ (take_min size (drop (min count (length text)) text) ∙ ap (take size) (drop-min count text))
 
--- the part of a text that is asked for
+-- the requested part of a text
 pub fits-part : (asked : Selection) (pieces : List Piece) (text : List ℕ) → Fits pieces text → Fits (part_pieces asked pieces) (part asked text)
 fits-part Whole pieces text fits = fits
 fits-part (Part (Ahead offset) None) pieces text fits = subst (Fits (without offset pieces)) (sym (part-rest offset text)) (fits-without offset pieces text fits)

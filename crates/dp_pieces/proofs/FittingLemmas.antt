@@ -5,7 +5,7 @@ use Rattle.dp_pieces.specs.ShapeSteps.{is_any}
 use Rattle.dp_pieces.specs.Shown.{shown_piece, shown_all}
 use Rattle.dp_pieces.specs.declared.piece.Piece.{Piece as KeptPiece}
 
--- the first byte of a text, by a first piece that is one byte
+-- the first byte of a text, if the first piece has one byte
 byte-fits : (piece : Piece) (later : List Piece) (byte : ℕ) (after : List ℕ) → is_any piece ≡ false → Fits (piece ∷ later) (byte ∷ after)
     → (piece_set piece byte ≡ true) × Fits later after
 unfolding Fits
@@ -21,7 +21,7 @@ pub first-fits : (left later : List KeptPiece) (piece : KeptPiece) (rest after :
 first-fits left later piece rest after byte is at one fits =
     byte-fits (shown_piece piece) (shown_all later) byte after one (subst (Fits (shown_piece piece ∷ shown_all later)) at (subst (λ ps. Fits (shown_all ps) rest) is fits))
 
--- a list of no items
+-- a list of length zero
 no-items : {X : Type 0} (xs : List X) → length xs ≡ 0 → xs ≡ []
 no-items [] is = refl
 no-items (x ∷ xs) is = absurd (omega (arith, is))

@@ -1,4 +1,4 @@
--- A text is cut at its last byte of a kind where its pieces are, and after a known text.
+-- A text is cut at the last such byte where its pieces are, and after a known text.
 use Rattle.std.proofs.Common.{◌≡◌, ℕ, ◌==◌, Bool, true, false, List, [], ◌∷◌, ◌++◌, Option, Some, None, refl, sym, ap, ◌∙◌, subst, if◌then◌else◌}
 use borrow.Author.Tests.{eqb-true}
 use Rattle.std.specs.Option.{option_map_or}
@@ -9,7 +9,7 @@ use Rattle.dp_pieces.specs.Cuts.{At, Cutting, Nowhere, Unsure, cut_known, cut_la
 use Rattle.dp_pieces.specs.Fitting.{IsCutKnown, IsLast}
 use Rattle.dp_pieces.specs.Pieces.{AnyOf, Fits, Known, OneOf, Piece}
 
--- the cut of a text by that of the text after its first byte
+-- the cut of a text, given that of the text after its first byte
 pushed : ℕ → ℕ → Option (List ℕ) → Option (List ℕ)
 pushed mark byte o = option_map_or (λ front. Some (byte ∷ front)) o (if byte == mark then Some [] else None)
 
@@ -25,7 +25,7 @@ before-known mark byte Nowhere None is = by (byte == mark)
     by false = refl
 before-known mark byte Nowhere (Some front) is = absurd cc
 
--- a byte of a set that lacks the mark
+-- a byte of a set without the mark
 no-cut : (mark byte : ℕ) (set : Bytes) → set byte ≡ true → set mark ≡ false → (o : Option (List ℕ)) → o ≡ None → pushed mark byte o ≡ None
 unfolding pushed
 no-cut mark byte set here gone o is = by o is (apart (byte == mark) refl)
@@ -50,7 +50,7 @@ before-one mark byte set here Nowhere o is = by (set mark) refl
     by true has = tt
     by false gone = no-cut mark byte set here gone o is
 
--- the same of one more byte of a piece that may have any number of them
+-- the same for one more byte of a piece with any number of bytes
 before-more : (mark byte : ℕ) (set : Bytes) → set byte ≡ true → (cutting : Cutting) (o : Option (List ℕ)) → IsLast (last_unknown mark set (AnyOf set) cutting) o
     → IsLast (last_unknown mark set (AnyOf set) cutting) (pushed mark byte o)
 unfolding pushed Fits
@@ -80,7 +80,7 @@ before-any mark set cutting [] text within is = by cutting (before_last mark tex
 before-any mark set cutting (byte ∷ front) text within is =
     before-more mark byte set within.0 cutting (before_last mark (front ++ text)) (before-any mark set cutting front text within.1 is)
 
--- what stands before the last such byte of a text
+-- the text before the last such byte
 pub last-fits : (mark : ℕ) (pieces : List Piece) (text : List ℕ) → Fits pieces text → IsLast (cut_last mark pieces) (before_last mark text)
 unfolding Fits pushed
 last-fits mark [] text fits = subst (λ t. IsLast Nowhere (before_last mark t)) (sym fits) refl

@@ -1,4 +1,4 @@
--- A text that fits a shape and matches a name fits what both say.
+-- A text that fits a shape and matches a name fits both together.
 use Rattle.std.proofs.Common.{◌≡◌, ℕ, zero, suc, ◌<◌, Bool, true, false, not, ◌&&◌, ◌||◌, ◌==◌, if◌then◌else◌, List, [], ◌∷◌, ◌++◌, length, refl, sym, ap, ◌∙◌, subst, eq-eqb, arith}
 use borrow.Author.Tests.{eqb-true}
 use Rattle.std.specs.Prelude.{Contains, slice_index_or}
@@ -30,7 +30,7 @@ fits-tail pieces End text rest is ending fits = is ∙ ending
 fits-tail pieces Dot text rest is ending fits = fits
 fits-tail pieces Bang text rest is ending fits = fits
 
--- the first byte and the rest of two texts that are the same
+-- the first byte and the rest of two equal texts
 heads : (a b : ℕ) (x y : List ℕ) → a ∷ x ≡ b ∷ y → (a ≡ b) × (x ≡ y)
 heads a b x y is = (cc, cc)
 
@@ -67,7 +67,7 @@ fits-after_meeting pieces (Plain plain) text clean fits matching = subst (Fits (
 fits-after_meeting pieces (Pattern classes tail) text clean fits matching =
     fits-classes pieces classes tail text matching.begin matching.rest (sym clean ∙ matching.whole) matching.members matching.ending fits
 
--- a text of a set without the dash has none
+-- a text with bytes of a set without the dash contains no dash
 pub no-dashes : (set : Bytes) (text : List ℕ) → set 45 ≡ false → Within set text → without_dashes text ≡ text
 no-dashes set [] lacks within = refl
 no-dashes set (byte ∷ text) lacks within = by (is_dash byte) refl (no-dashes set text lacks within.1)
@@ -76,7 +76,7 @@ no-dashes set (byte ∷ text) lacks within = by (is_dash byte) refl (no-dashes s
     by true is rest = let same : byte ≡ 45 = eqb-true byte 45 is in absurd (let no : false ≡ true = sym lacks ∙ (ap set (sym same) ∙ within.0) in let b : ⊥ = cc in b)
     by false is rest = ap (λ t. byte ∷ t) rest
 
--- an extension that has matched a name
+-- an extension that matches a name
 pub fits-after_match : (pieces : List Piece) (name : Meaning) (text : List ℕ) → Fits pieces text → Matches name text → Fits (after_match pieces name) text
 fits-after_match pieces name text fits matching = by (pieces_set pieces 45) refl
   where
@@ -84,7 +84,7 @@ fits-after_match pieces name text fits matching = by (pieces_set pieces 45) refl
     by true is = fits
     by false is = fits-after_meeting pieces name text (no-dashes (pieces_set pieces) text is (fits-set pieces text fits)) fits matching
 
--- the bytes of the pieces after a first one, and of the first
+-- the bytes of the pieces after the first, and those of the first
 part-cons : (a b : Piece) (xs ys : List Piece) → IsPart (piece_set a) (pieces_set (b ∷ ys)) → IsPart (pieces_set xs) (pieces_set (b ∷ ys)) → IsPart (pieces_set (a ∷ xs)) (pieces_set (b ∷ ys))
 unfolding pieces_set
 part-cons a b xs ys first rest byte is = by (piece_set a byte) refl is
@@ -139,7 +139,7 @@ exactly-part set (b ∷ text) within byte is = by (byte == b) refl (exactly-part
     by true same rest has = ap set (eqb-true byte b same) ∙ within.0
     by false other rest has = rest has
 
--- and what is met with a name that the text matches has no other bytes
+-- and what is met with a matching name has no other bytes
 pub part-after_match : (pieces : List Piece) (name : Meaning) (text : List ℕ) → Fits pieces text → Matches name text → IsPart (pieces_set (after_match pieces name)) (pieces_set pieces)
 unfolding Matches
 part-after_match pieces name text fits matching = by (pieces_set pieces 45) refl name matching

@@ -21,14 +21,14 @@ pub no-entries : (entries : Entries) → length entries ≡ 0 → entries ≡ []
 no-entries [] is = refl
 no-entries (entry ∷ entries) is = absurd (omega (arith, is))
 
--- two keys are the same where their texts are
+-- two keys are the same if their texts are
 abbrev pub same-key : Vec ℕ → Vec ℕ → Bool
 same-key x y = same_text x.items y.items
 
 is-same : (x y : List ℕ) → same_text x y ≡ true → x ≡ y
 is-same x y is = (bytes_decides x y).0 is
 
--- what a key is looked up as after an insertion
+-- the result of a look-up after an insertion
 abbrev look-up : List ℕ → Entries → Option (List ℕ)
 look-up name entries = lookup (λ key. same_text name key.items) entries
 
@@ -97,7 +97,7 @@ more-held old new shared wider set key name inserted is grown other b =
         ∙ or-assoc (set_by shared b) (own_set old other b) (set_by set b)
     by false differs = or-false (set_by shared b || own_set old other b)
 
--- the own sets of all names, by those of the entries
+-- the own sets of all names, given those of the entries
 pub own-part : (entries : Entries) (all : Bytes) → ((k : ℕ) (entry : Vec ℕ × List ℕ) → slice_get entries k ≡ Some entry → IsPart (set_by entry.1) all)
     → (name : List ℕ) → IsPart (own_set entries name) all
 own-part [] all each name b has = absurd (let no : false ≡ true = sym (no_bytes b) ∙ has in let bottom : ⊥ = cc in bottom)
@@ -116,7 +116,7 @@ name-part entries shared all common each name b has = by (set_by shared b) refl
     by true is = common b is
     by false is = each name b (sym (ap (λ t. t || own_set entries name b) is) ∙ has)
 
--- a table is whole where its sets and the digits are part of all
+-- a table is whole if all its sets and the digits are part of the set of all bytes
 pub whole : (table : Table) → ((name : List ℕ) → IsPart (name_set table.own table.shared name) (set_by table.all)) → IsPart (set_by table.caller) (set_by table.all)
     → IsPart digits (set_by table.all) → IsWhole (names_in table)
 unfolding pieces_set

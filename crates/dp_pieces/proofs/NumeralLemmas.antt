@@ -20,7 +20,7 @@ digits-onto (suc k) n acc is = by (n / 10 == 0) (digits-onto k (n / 10) (digit_g
     by true rest = (last-digit n, is)
     by false rest = rest
 
--- a number without a sign has digits alone
+-- a number without a sign has only digits
 pub within-decimal : (n : ℕ) → Within digits (decimal n)
 unfolding digits_in
 within-decimal n = digits-onto 64 n [] tt
@@ -28,7 +28,7 @@ within-decimal n = digits-onto 64 n [] tt
 pub digits-numeric : (byte : ℕ) → digits byte ≡ true → numeric byte ≡ true
 digits-numeric byte is = either-left (digits byte) (byte == 45) is
 
--- and one with a sign may have a minus
+-- and a signed number may have a minus
 pub within-signed : (z : ℤ) → Within numeric (signed_decimal z)
 within-signed (pos n) = within-more digits numeric digits-numeric (decimal n) (within-decimal n)
 within-signed (negsuc n) = (refl, within-more digits numeric digits-numeric (decimal (suc n)) (within-decimal (suc n)))

@@ -1,4 +1,4 @@
--- A text on the way to its pieces.
+-- Reading a text into pieces.
 use Rattle.std.proofs.Common.{◌≡◌, ◌≤◌, ◌+◌, ℕ, List, [], ◌∷◌, ◌++◌, length, take, drop, sym, ap, ◌∙◌, subst, arith}
 use Rattle.std.proofs.lemmas.List.{length-append, length-take}
 use Rattle.dp_conf.specs.declared.groups.Mark.{Mark}

@@ -1,4 +1,4 @@
--- The parts of pieces that are still to come.
+-- The remaining parts of pieces.
 use Rattle.std.proofs.Common.{◌≡◌, ℕ, zero, suc, ◌-◌, ◌<◌, List, [], ◌∷◌, ◌++◌, Option, Some, None, length, map, sym, ap, ◌∙◌, append_assoc, arith, refl, Vec, Global}
 use Rattle.std.proofs.lemmas.List.{map-append}
 use Rattle.std.specs.Borrow.{Bor}
@@ -15,7 +15,7 @@ abbrev pub parts_left : Option (Bor (List KeptPiece)) → List (List Piece)
 parts_left None = []
 parts_left (Some left) = split_pieces 0 (shown_all left.now)
 
--- and how many pieces these have
+-- and the number of pieces in them
 abbrev pub left_count : Option (Bor (List KeptPiece)) → ℕ
 left_count None = 0
 left_count (Some left) = suc (length left.now)
@@ -43,7 +43,7 @@ shapes-left shapes new shape part left after pushed is parts =
     ∙ ((λ i. map (λ s. shown_all s.items) shapes ++ is i ∷ map without_end_blanks (parts_left after))
     ∙ ap (λ ps. map (λ s. shown_all s.items) shapes ++ map without_end_blanks ps) (sym (parts-first left part after parts)))))
 
--- the first bytes, from a piece that may have any, and from one that has one
+-- the first bytes, starting with a piece with any number of bytes, and with a piece with one byte
 pub front-any : (count : ℕ) (left rest : List KeptPiece) (first : KeptPiece) (set : ByteSet) → left ≡ first ∷ rest → first ≡ kept_any set → 0 < count
     → any_bytes_of (pieces_set (shown_all left)) ≡ front count (shown_all left)
 front-any zero left rest first set is any some = absurd (omega (arith, some))
@@ -66,6 +66,6 @@ front-push (suc count) kept new left rest first pushed is not some =
     ∙ (append_assoc (shown_all kept) (shown_piece first ∷ []) (front count (shown_all rest))
     ∙ ap (λ ps. shown_all kept ++ ps) (sym (front-one count first (shown_all rest) not) ∙ ap (λ ps. front (suc count) (shown_all ps)) (sym is))))
 
--- pieces after those that are kept
+-- pieces after the kept ones
 pub shown_piece-after : (kept new more : List KeptPiece) → new ≡ kept ++ more → shown_all new ≡ shown_all kept ++ shown_all more
 shown_piece-after kept new more is = ap shown_all is ∙ map-append shown_piece kept more

@@ -1,4 +1,4 @@
--- What is read, the openings that wait in it, and what is still to be read, come to the pieces of the whole.
+-- The pieces read so far, the waiting openings in them, and the text still to be read give the pieces of the whole.
 use Rattle.std.proofs.Common.{◌≡◌, ℕ, List, [], ◌∷◌, ◌++◌, length, append_assoc, sym, ap, ◌∙◌}
 use Rattle.std.proofs.lemmas.List.{append-nil}
 use Rattle.std.proofs.Math.Seq.{take-append_seam, drop-append-add}
@@ -14,7 +14,7 @@ use Rattle.dp_pieces.specs.Texts.{group_pieces, pieces_of, text_pieces}
 use Rattle.dp_pieces.specs.steps.Reader.{Open, Read, after, after_group, kinds_of, with_group}
 
 module _ (names : Names) where
-  -- the pieces of the whole, by those that are read, the openings that wait in them, and the levels after
+  -- the pieces of the whole, given those read so far, the waiting openings in them, and the levels after
   abbrev pub come : List Open → List Piece → Levels → List Piece
   come waiting pieces (Last rest) = pieces ++ pieces_of names rest
   come [] pieces (Within rest outer) = come [] (pieces ++ pieces_of names rest) outer
@@ -27,7 +27,7 @@ module _ (names : Names) where
   come-with_byte (w ∷ waiting) pieces byte (Within rest outer) =
       ap (λ ps. come waiting (with_group names w ps) outer) (append_assoc pieces (Known byte ∷ []) (pieces_of names rest))
 
-  -- a group whose opening is read last
+  -- a group whose opening was read last
   group_at_end : (pieces body : List Piece) (kind : GroupKind)
       → with_group names (record { kind = kind; start = length pieces }) ((pieces ++ Known 36 ∷ Known (opener kind) ∷ []) ++ body) ≡ pieces ++ group_pieces names kind body
   group_at_end pieces body kind =
@@ -55,7 +55,7 @@ module _ (names : Names) where
   come-end [] pieces beyond = ap (λ ps. come [] ps (beyond [] 0)) (sym (append-nil pieces))
   come-end (w ∷ waiting) pieces beyond = ap (λ ps. come waiting (with_group names w ps) (beyond (kinds_of waiting) 0)) (sym (append-nil pieces))
 
-  -- a mark changes nothing of what all comes to
+  -- a mark does not change the pieces of the whole
   pub come-mark : (m : Mark) (read : Read) (beyond : List GroupKind → ℕ → Levels)
       → come (after names m read).waiting (after names m read).pieces (beyond (kinds_of (after names m read).waiting) 0)
       ≡ come read.waiting read.pieces (with_mark m beyond 0 (kinds_of read.waiting))
@@ -68,6 +68,6 @@ module _ (names : Names) where
   unfolding levels pieces_of
   come-over waiting pieces = append-nil pieces
 
-  -- nothing is read yet
+  -- nothing has been read yet
   pub come-text : (text : List ℕ) → come [] [] (levels text [] 0) ≡ text_pieces names text
   come-text text = ap (come [] []) (levels-last text)

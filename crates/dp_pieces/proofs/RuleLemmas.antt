@@ -1,4 +1,4 @@
--- Pieces that are cut by a rule, from the first on.
+-- Pieces cut by a rule, starting with the first.
 use Rattle.std.proofs.Common.{◌≡◌, ℕ, zero, suc, ◌+◌, ◌-◌, ◌<◌, ◌≤◌, ◌&&◌, ◌||◌, ◌==◌, not, Bool, true, false, List, [], ◌∷◌, ◌++◌, Option, Some, None, append_assoc, length, take, drop, refl, sym, ap, ◌∙◌, arith, if◌then◌else◌}
 use Rattle.std.proofs.lemmas.List.{append-nil, drop-map, map-append, take-map, take_rest}
 use borrow.Author.Tests.{eqb-true}
@@ -19,7 +19,7 @@ use Rattle.dp_pieces.specs.declared.cuts.Stand.TheVariants.{Here, Maybe, Apart}
 use Rattle.dp_pieces.specs.declared.piece.Piece.{Piece as KeptPiece}
 use Rattle.dp_pieces.specs.steps.Stands.{cut_by, cut_rule, is_clean_piece, level_after, stand_of}
 
--- one piece opens one level at most
+-- one piece opens at most one level
 pub level-bound : (level at : ℕ) (piece : Piece) → level ≤ at → level_after level piece ≤ at + 1
 level-bound level at (Known byte) is = by (byte == 40) (byte == 41)
   where
@@ -30,7 +30,7 @@ level-bound level at (Known byte) is = by (byte == 40) (byte == 41)
 level-bound level at (OneOf set) is = omega (arith, is)
 level-bound level at (AnyOf set) is = omega (arith, is)
 
--- what stands after a place, and before it too
+-- the pieces after a place, and those before it too
 pub rest-at : (at : ℕ) (pieces : List KeptPiece) → drop (suc at) (shown_all pieces) ≡ shown_all (take (length pieces - (at + 1)) (drop (at + 1) pieces))
 rest-at at pieces =
     let next : suc at ≡ at + 1 = omega arith in
@@ -57,7 +57,7 @@ pub before-at : (pieces rest : List Piece) → before pieces (At [] rest) ≡ At
 before-at [] rest = refl
 before-at (piece ∷ pieces) rest = ap (with_piece piece) (before-at pieces rest)
 
--- the cut of all by the cut from a place on
+-- the cut of all pieces, given the cut from a place on
 abbrev pub cut_from : Rule → ℕ → ℕ → List KeptPiece → Cutting
 cut_from rule level at pieces = before (take at (shown_all pieces)) (cut_rule rule level (drop at (shown_all pieces)))
 
@@ -76,7 +76,7 @@ before-push [] at piece cutting below is = absurd (omega (arith, below))
 before-push (p ∷ pieces) zero piece cutting below is = ap (λ (x : KeptPiece). with_piece (shown_piece x) cutting) is
 before-push (p ∷ pieces) (suc at) piece cutting below is = ap (with_piece (shown_piece p)) (before-push pieces at piece cutting (omega (arith, below)) is)
 
--- a piece that has none of the bytes
+-- a piece without any of the bytes
 pub cut_from-apart : (rule : Rule) (level at : ℕ) (pieces : List KeptPiece) (piece : KeptPiece) → at < length pieces → piece ≡ slice_index_or pieces at piece
     → Apart ≡ stand_of rule level (shown_piece piece) → cut_from rule (level_after level (shown_piece piece)) (suc at) pieces ≡ cut_from rule level at pieces
 cut_from-apart rule level at pieces piece below is apart =
@@ -85,7 +85,7 @@ cut_from-apart rule level at pieces piece below is apart =
     (cut_rule rule (level_after level (shown_piece piece)) (drop (suc at) (shown_all pieces))))) apart
     ∙ sym (cut_from-piece rule level at pieces piece below is))
 
--- and one that has, or may have
+-- and a piece that contains one, or may contain one
 pub cut_from-here : (rule : Rule) (level at : ℕ) (pieces : List KeptPiece) (piece : KeptPiece) → at < length pieces → piece ≡ slice_index_or pieces at piece
     → Here ≡ stand_of rule level (shown_piece piece) → At (take at (shown_all pieces)) (drop (suc at) (shown_all pieces)) ≡ cut_from rule level at pieces
 cut_from-here rule level at pieces piece below is here =
@@ -111,7 +111,7 @@ cut_from-over rule level at pieces far = sym (ap (λ ps. before (take at (shown_
     none (suc at) [] far = refl
     none (suc at) (p ∷ pieces) far = none at pieces (omega (arith, far))
 
--- the two cuts by their rules
+-- the two cuts and their rules
 first-by : (b : Bool) (piece : Piece) (pieces : List Piece) (later : Cutting) → cut_by (if b then Here else Apart) piece pieces later ≡ (if b then At [] pieces else with_piece piece later)
 first-by true piece pieces later = refl
 first-by false piece pieces later = refl
@@ -141,7 +141,7 @@ rule-outside mark level (AnyOf set ∷ pieces) =
     ap (cut_by (if may_cut mark level set then Maybe else Apart) (AnyOf set) pieces) (rule-outside mark level pieces)
     ∙ maybe-by (may_cut mark level set) (AnyOf set) pieces (cut_level mark level pieces)
 
--- the parts of pieces by their first known comma
+-- the parts of pieces at their first known comma
 abbrev pub IsSplit : ℕ → List Piece → Cutting → Type 0
 IsSplit level pieces Nowhere = split_pieces level pieces ≡ pieces ∷ []
 IsSplit level pieces Unsure = ⊥
@@ -172,7 +172,7 @@ split-comma level (Known byte ∷ pieces) = by (byte == 44 && level == 0) refl (
 split-comma level (OneOf set ∷ pieces) = split-push level level (OneOf set) pieces refl (cut_rule Comma level pieces) (split-comma level pieces)
 split-comma level (AnyOf set ∷ pieces) = split-push level level (AnyOf set) pieces refl (cut_rule Comma level pieces) (split-comma level pieces)
 
--- the last piece says where the last cut is, or the pieces before it do
+-- the last piece decides where the last cut is, or the pieces before it do
 abbrev pub last_by : Stand → List Piece → Cutting → Cutting
 last_by Here pieces later = At pieces []
 last_by Maybe pieces later = Unsure
@@ -215,7 +215,7 @@ last-push mark (OneOf set ∷ pieces) piece =
 last-push mark (AnyOf set ∷ pieces) piece =
     ap (last_unknown mark set (AnyOf set)) (last-push mark pieces piece) ∙ last-unknown mark set (AnyOf set) (stand_of (First mark) 0 piece) pieces (cut_last mark pieces)
 
--- the same of pieces as they are kept
+-- the same for pieces as they are kept
 pub last-kept : (mark : ℕ) (left front : List KeptPiece) (last : KeptPiece) → left ≡ front ++ last ∷ []
     → cut_last mark (shown_all left) ≡ last_by (stand_of (First mark) 0 (shown_piece last)) (shown_all front) (cut_last mark (shown_all front))
 last-kept mark left front last is = ap (λ ps. cut_last mark (shown_all ps)) is ∙ (ap (cut_last mark) (map-append shown_piece front (last ∷ [])) ∙ last-push mark (shown_all front) (shown_piece last))
@@ -233,7 +233,7 @@ from-end zero (p ∷ pieces) far = absurd (omega (arith, far))
 from-end (suc at) [] far = refl
 from-end (suc at) (p ∷ pieces) far = from-end at pieces (omega (arith, far))
 
--- pieces are clean where the first is, and those after it
+-- pieces are clean if the first is, and those after it are
 not-any : (a b c : Bool) → (not a && not b && not c) ≡ not (a || b || c)
 not-any true b c = refl
 not-any false true c = refl
@@ -257,7 +257,7 @@ with_bytes-push : (name : List ℕ) (byte : ℕ) (cut : Option (List ℕ × List
 with_bytes-push name byte None = refl
 with_bytes-push name byte (Some cut) = (λ i. Some (sym (append_assoc name (byte ∷ []) cut.0) i, cut.1))
 
--- the pieces before a place are known and none is the byte, so that the cut is made after them
+-- the pieces before a place are known and none is the byte, so the cut comes after them
 pub record IsKnownFront (mark at : ℕ) (pieces : List KeptPiece) : Type 0 where
   pub name : List ℕ
   pub front : take at (shown_all pieces) ≡ exactly name
@@ -311,7 +311,7 @@ front-unknown mark at pieces piece below is unknown front =
     none (OneOf set) rest is = refl
     none (AnyOf set) rest is = refl
 
--- a piece whose byte is known
+-- a known piece
 pub is-known : (piece : Piece) (byte : ℕ) → byte_of piece ≡ Some byte → piece ≡ Known byte
 is-known (Known b) byte is = let same : b ≡ byte = cc in ap (λ x. Known x) same
 is-known (OneOf set) byte is = absurd cc

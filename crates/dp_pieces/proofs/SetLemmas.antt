@@ -1,4 +1,4 @@
--- Pieces that are made of equal sets, the set of the digits, and the text of known pieces.
+-- Pieces made of equal sets, the set of the digits, and the text of known pieces.
 use Rattle.std.proofs.Common.{◌≡◌, ℕ, ◌&&◌, Bool, true, false, List, [], ◌∷◌, Some, None, unwrap_or, refl, sym, ap, ◌∙◌, arith}
 use Rattle.std.specs.Option.{option_map}
 use Rattle.std.specs.Prelude.{nat_le, nat_lt, replicate}
@@ -8,7 +8,7 @@ use Rattle.dp_pieces.specs.Sets.{set_by}
 use Rattle.dp_pieces.proofs.BlankLemmas.{none-has}
 use Rattle.dp_pieces.specs.Pieces.{AnyOf, Piece, exactly, text_known, any_bytes_of}
 
--- any bytes of sets with the same bytes
+-- any number of bytes of sets with the same bytes
 pub any_bytes_of-same : (set other : Bytes) → ((b : ℕ) → set b ≡ other b) → any_bytes_of set ≡ any_bytes_of other
 any_bytes_of-same set other same = λ i. AnyOf (λ b. same b i) ∷ []
 
@@ -17,7 +17,7 @@ pub text_known-exactly : (text : List ℕ) → text_known (exactly text) ≡ Som
 text_known-exactly [] = refl
 text_known-exactly (byte ∷ text) = ap (option_map (λ bytes. byte ∷ bytes)) (text_known-exactly text)
 
--- a table that has no byte
+-- a set without bytes
 pub none-set : (has : List ℕ) → has ≡ replicate 4 0 → (b : ℕ) → set_by has b ≡ false
 none-set has none b = ap (λ t. set_by t b) none ∙ none-has 4 b
 
@@ -30,7 +30,7 @@ no-digit b = by (nat_le 48 b) (nat_lt b 48) refl refl
     by true false x y = refl
     by true true x y = absurd (omega (arith, leb-true 48 b x, ltb-true b 48 y))
 
--- a text by its pieces, which are all known
+-- a text, given its pieces, which are all known
 pub text-exactly : (pieces : List Piece) (text name : List ℕ) → text_known pieces ≡ Some text → pieces ≡ exactly name → text ≡ name
 text-exactly pieces text name is same = ap (λ t. unwrap_or t []) (sym is ∙ (ap text_known same ∙ text_known-exactly name))
 

@@ -1,4 +1,4 @@
--- Sets and pieces that are made anew, and names by their places.
+-- New sets and pieces, and the places of names.
 use Rattle.std.proofs.Common.{◌≡◌, ℕ, zero, suc, ◌+◌, ◌<◌, ◌≤◌, Bool, true, false, cond, ◌||◌, List, [], ◌∷◌, ◌++◌, length, drop, get_or, add-one, drop-cons, append_assoc, ne_eqb, refl, sym, ap, ◌∙◌, subst, arith}
 use Rattle.std.proofs.lemmas.List.{map-append}
 use Rattle.std.specs.List.{AllByRecursion, filter, range_with_len}
@@ -43,11 +43,11 @@ pub set-end : (old all : Bytes) (left : List Piece) → left ≡ [] → ((byte :
 unfolding pieces_set
 set-end old all left is so_far byte = sym (or-false (old byte)) ∙ (ap (λ ps. old byte || pieces_set ps byte) (sym is) ∙ so_far byte)
 
--- one more piece is put after others
+-- one more piece is added at the end
 pub shown_piece-push : (old : List Kept) (piece : Kept) (more : List Piece) → shown_all (old ++ piece ∷ []) ++ more ≡ shown_all old ++ shown_piece piece ∷ more
 shown_piece-push old piece more = ap (λ ps. ps ++ more) (map-append shown_piece old (piece ∷ [])) ∙ append_assoc (shown_all old) (shown_piece piece ∷ []) more
 
--- any bytes of a set are one piece, and have no other bytes
+-- any number of bytes of a set is one piece, with only bytes of the set
 any_bytes_of-set : (set : Bytes) → pieces_set (any_bytes_of set) ≡ set
 unfolding pieces_set
 any_bytes_of-set set = λ i byte. or-false (set byte) i
@@ -55,7 +55,7 @@ any_bytes_of-set set = λ i byte. or-false (set byte) i
 any_bytes_of-met : (set : Bytes) (class : List ℕ) (classes : List (List ℕ)) (tail : Tail) → met_classes (any_bytes_of set) (class ∷ classes) tail ≡ OneOf (both set (bytes_in class)) ∷ met_classes (any_bytes_of set) classes tail
 any_bytes_of-met set class classes tail = ap (λ s. OneOf (both s (bytes_in class)) ∷ met_classes (any_bytes_of s) classes tail) (any_bytes_of-set set)
 
--- any bytes of a set, met with one class more
+-- any number of bytes of a set, met with one more class
 pub any-step : (old new : List Kept) (set : Bytes) (met : List ℕ) (class : List ℕ) (left later : List (List ℕ)) (tail : Tail) (all : List Piece)
     → left ≡ class ∷ later → ((byte : ℕ) → set_by met byte ≡ both set (bytes_in class) byte) → new ≡ old ++ kept.OneOf met ∷ []
     → shown_all old ++ met_classes (any_bytes_of set) left tail ≡ all → shown_all new ++ met_classes (any_bytes_of set) later tail ≡ all
@@ -66,7 +66,7 @@ any-step old new set met class left later tail all is same pushed so_far =
     ∙ (ap (λ ps. shown_all old ++ ps) (sym (any_bytes_of-met set class later tail))
     ∙ (ap (λ cs. shown_all old ++ met_classes (any_bytes_of set) cs tail) (sym is) ∙ so_far))))
 
--- no class is left, and any bytes may follow
+-- no class is left, and any bytes may come after
 pub any-end : (old new : List Kept) (set : Bytes) (copy : List ℕ) (left : List (List ℕ)) (tail : Tail) (all : List Piece)
     → left ≡ [] → met_tail (any_bytes_of set) tail ≡ any_bytes_of set → ((byte : ℕ) → set_by copy byte ≡ set byte) → new ≡ old ++ kept.AnyOf copy ∷ []
     → shown_all old ++ met_classes (any_bytes_of set) left tail ≡ all → shown_all new ≡ all
@@ -77,7 +77,7 @@ any-end old new set copy left tail all is follows same pushed so_far =
     ∙ (ap (λ ps. shown_all old ++ ps) (sym follows)
     ∙ (ap (λ cs. shown_all old ++ met_classes (any_bytes_of set) cs tail) (sym is) ∙ so_far))))
 
--- from a piece of any bytes on, the pieces are met as any bytes of all of them
+-- from a piece with any number of bytes on, the pieces are met as any number of bytes of all of them
 pub any-met : (piece : Piece) (later left : List Piece) (class : List ℕ) (after classes : List (List ℕ)) (tail : Tail) (set : Bytes) → is_any piece ≡ true → left ≡ piece ∷ later → classes ≡ class ∷ after
     → ((byte : ℕ) → set byte ≡ pieces_set left byte) → met_classes left classes tail ≡ met_classes (any_bytes_of set) classes tail
 any-met (Known byte) later left class after classes tail set any is begins same = absurd cc
@@ -112,7 +112,7 @@ text-bytes [] are = tt
 text-bytes (b ∷ text) are =
     (λ byte above. ap (λ t. t || false) (ne_eqb b byte (λ same. absurd (omega (arith, above, same, are.0)))), text-bytes text are.1)
 
--- the classes of a name have bytes alone
+-- the classes of a name contain only bytes
 pub name-bytes : (name : Meaning) → IsName name → AreAllBytes (classes_of name)
 name-bytes name named = by name (name_means name named)
   where

@@ -1,4 +1,4 @@
--- Pieces by what they are, after the pieces of a group are put.
+-- Pieces as values of the definition, after the pieces of a group replace it.
 use Rattle.std.proofs.Common.{◌≡◌, ◌+◌, ℕ, List, [], ◌∷◌, ◌++◌, take, drop, refl, ap, ◌∙◌, zero, suc}
 use Rattle.std.proofs.lemmas.List.{map-append}
 use Rattle.dp_conf.specs.declared.groups.GroupKind.{GroupKind}

@@ -1,4 +1,4 @@
--- Pieces without the blanks at the end: the known ones at the end are left out, and each other that may be a blank is softened.
+-- Pieces without the blanks at the end: the known ones at the end are left out, and each other piece that may be a blank is softened.
 use Rattle.std.proofs.Common.{◌≡◌, ℕ, suc, ◌<◌, ◌≤◌, ◌||◌, ◌==◌, Bool, true, false, List, [], ◌∷◌, ◌++◌, length, map, drop, Some, None, refl, sym, ap, ◌∙◌, append_assoc, if◌then◌else◌}
 use Rattle.std.proofs.lemmas.List.{append-nil, map-append}
 use Rattle.std.specs.Prelude.{slice_index_or}
@@ -25,7 +25,7 @@ last-kept (p ∷ pieces) piece is = ap (before_last_kept p) (last-kept pieces pi
     some [] = refl
     some (q ∷ pieces) = refl
 
--- the same of pieces as they are kept
+-- the same for pieces as they are kept
 pub kept-blank : (left front : List KeptPiece) (last : KeptPiece) → left ≡ front ++ last ∷ [] → blank_of (shown_piece last) ≡ true
     → without_last (shown_all left) ≡ without_last (shown_all front)
 kept-blank left front last is blank = ap (λ ps. without_last (shown_all ps)) is ∙ (ap without_last (map-append shown_piece front (last ∷ [])) ∙ last-blank (shown_all front) (shown_piece last) blank)
@@ -36,7 +36,7 @@ kept-last left front last is kept =
     ap (λ ps. without_last (shown_all ps)) is ∙ (ap without_last (map-append shown_piece front (last ∷ []))
     ∙ (last-kept (shown_all front) (shown_piece last) kept ∙ (sym (map-append shown_piece front (last ∷ [])) ∙ ap shown_all (sym is))))
 
--- the definition by these
+-- the definition in terms of these
 soft-known : (byte : ℕ) (pieces : List Piece) → known_before byte (map soft_piece pieces) ≡ map soft_piece (before_last_kept (Known byte) pieces)
 soft-known byte [] = by (is_blank byte) refl
   where
@@ -115,7 +115,7 @@ start-kept (OneOf set ∷ pieces) = by (has_blank set)
     by false = refl
 start-kept (AnyOf set ∷ pieces) = refl
 
--- any bytes of all
+-- any number of bytes of all
 pub loose_front-all : (set all : Bytes) (pieces : List Piece) → starts_kept pieces ≡ false → ((b : ℕ) → all b ≡ (set b || pieces_set pieces b)) → AnyOf all ∷ [] ≡ loose_front set pieces
 unfolding pieces_set
 loose_front-all set all pieces loose same =

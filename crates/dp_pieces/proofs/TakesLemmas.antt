@@ -1,4 +1,4 @@
--- Which texts of a shape are taken by the classes and the tail of a name.
+-- Which texts of a shape the classes and the tail of a name take.
 use Rattle.std.proofs.Common.{◌≡◌, ℕ, ◌<◌, ◌≤◌, Bool, true, false, not, ◌||◌, ◌==◌, if◌then◌else◌, List, [], ◌∷◌, ◌++◌, length, Contains, eqb-true, eq-eqb, length-append, refl, sym, ap, ◌∙◌, subst, arith}
 use Rattle.std.specs.List.{AllZip}
 use Rattle.dp_pattern.proofs.WalkLemmas.{member}
@@ -16,7 +16,7 @@ use Rattle.dp_pieces.specs.ShapeSteps.{AlwaysTakes, AlwaysTakesWithin, Lacks, Mi
 use Rattle.dp_pieces.proofs.FitsLemmas.{fits-set}
 use Rattle.dp_pieces.proofs.MetLemmas.{no-dashes}
 
--- ---- a name takes a text without its dashes where they match
+-- ---- a name takes a text without its dashes if they match
 
 flip : (a b : ℕ) → (a == b) ≡ (b == a)
 flip a b = by (a == b) refl (b == a) refl
@@ -74,7 +74,7 @@ unfolding Matches
 name-takes (Plain plain) text takes = singles-take plain (without_dashes text) takes
 name-takes (Pattern classes tail) text takes = takes-pattern classes tail (without_dashes text) takes
 
--- dashes that are left out are no bytes more
+-- leaving out dashes adds no bytes
 within-without_dashes : (set : Bytes) (text : List ℕ) → Within set text → Within set (without_dashes text)
 within-without_dashes set [] within = tt
 within-without_dashes set (byte ∷ text) within = by (is_dash byte) (within-without_dashes set text within.1)
@@ -83,7 +83,7 @@ within-without_dashes set (byte ∷ text) within = by (is_dash byte) (within-wit
     by true rest = rest
     by false rest = (within.0, rest)
 
--- ---- the first piece of a shape, and how long its texts are
+-- ---- the first piece of a shape, and the lengths of its texts
 
 one-byte : (piece : Piece) (pieces : List Piece) (text : List ℕ) → is_any piece ≡ false → Fits (piece ∷ pieces) text
     → (cut : ℕ × List ℕ) × (text ≡ cut.0 ∷ cut.1) × (piece_set piece cut.0 ≡ true) × Fits pieces cut.1
@@ -105,7 +105,7 @@ module _ (left later : List Piece) (piece : Piece) (classes after : List (List �
   taken : (digits : List ℕ) (cut : ℕ × List ℕ) → digits ≡ cut.0 ∷ cut.1 → Takes classes tail digits → Takes (class ∷ after) tail (cut.0 ∷ cut.1)
   taken digits cut is takes = subst (Takes (class ∷ after) tail) is (subst (λ cs. Takes cs tail digits) begins takes)
 
-  -- a byte is taken by its class, and what follows is not
+  -- a byte is taken by its class, and the rest is not taken
   pub misses-step : left ≡ piece ∷ later → next ≡ tail → is_any piece ≡ false → Misses later after next → Misses left classes tail
   misses-step is same one misses digits fits takes =
       let cut = one-byte piece later digits one (subst (λ ps. Fits ps digits) is fits) in
@@ -123,7 +123,7 @@ unfolding Fits
 misses-short [] classes after class tail begins empty digits fits takes = subst (Takes (class ∷ after) tail) fits (subst (λ cs. Takes cs tail digits) begins takes)
 misses-short (piece ∷ left) classes after class tail begins empty digits fits takes = absurd (omega (arith, empty))
 
--- what fits pieces is of their bytes, and no shorter than they are
+-- a text that fits pieces has their bytes, and is not shorter than they are
 pub misses-within : (left : List Piece) (set : Bytes) (least : ℕ) (classes : List (List ℕ)) (tail : Tail) → ((byte : ℕ) → set byte ≡ pieces_set left byte) → least ≡ least_of left
     → MissesWithin set least classes tail → Misses left classes tail
 misses-within left set least classes tail same long misses digits fits takes =
@@ -135,7 +135,7 @@ pub misses-end : (set : Bytes) (least : ℕ) (classes : List (List ℕ)) (tail f
 misses-end set least classes tail found is same misses digits within long takes =
     misses digits within long (subst (λ t. FitsTail t digits) (sym same) (subst (λ cs. Takes cs tail digits) is takes))
 
--- a set without bytes has no text but the empty one
+-- the only text of an empty set is the empty text
 pub none-follow : (set : Bytes) (digits : List ℕ) → IsPart set none → Within set digits → 0 < length digits → ⊥
 none-follow set [] empty within long = omega (arith, long)
 none-follow set (d ∷ digits) empty within long = let no : false ≡ true = empty d within.0 in absurd cc
@@ -172,7 +172,7 @@ covered pieces set name found same dashless is always text fits =
     (subst (λ n. Takes (classes_of n) (tail_of n) (without_dashes text)) is
     (subst (Takes (classes_of found) (tail_of found)) (sym (no-dashes (pieces_set pieces) text (sym (same 45) ∙ dashless) (fits-set pieces text fits))) (always text fits)))
 
--- a shape that may have dashes, by its set
+-- a shape that may contain dashes, given its set
 pub unmatched-dashed : (pieces : List Piece) (set : Bytes) (name found : Meaning) → ((byte : ℕ) → set byte ≡ pieces_set pieces byte) → found ≡ name
     → MissesWithin set 0 (classes_of found) (tail_of found) → (text : List ℕ) → Fits pieces text → Matches name text → ⊥
 unmatched-dashed pieces set name found same is misses text fits matching =

@@ -26,12 +26,12 @@ use Rattle.dp_pieces.proofs.FitsLemmas.{fits-append, fits-text_known, fits-any_b
 use Rattle.dp_pieces.proofs.NumeralLemmas.{within-decimal}
 use Rattle.dp_pieces.proofs.WithinLemmas.{within-more, within-part}
 
--- a byte that a text lacks
+-- a byte that is not in a text
 lacks-avoids : (byte : ℕ) (text : List ℕ) → bytes_in text byte ≡ false → Avoids byte text
 lacks-avoids byte [] lacks = tt
 lacks-avoids byte (b ∷ text) lacks = let both = either-false (b == byte) (bytes_in text byte) lacks in (both.0, lacks-avoids byte text both.1)
 
--- what stands before a cut begins with what stood before the search
+-- the text before a cut begins with the text before the search
 begins-with : (mark : ℕ) (text before : List ℕ) (cut : List ℕ × List ℕ) → cut_after (stands_outside mark) before text ≡ Some cut → (more : List ℕ) × (cut.0 ≡ before ++ more)
 begins-with mark [] before cut is = absurd cc
 begins-with mark (b ∷ text) before cut is = by (stands_outside mark before b) (begins-with mark text (before ++ b ∷ []) cut) is
@@ -41,7 +41,7 @@ begins-with mark (b ∷ text) before cut is = by (stands_outside mark before b) 
     by true later same = let pair : (let p : List ℕ × List ℕ = (before, text) in p ≡ cut) = cc in ([], ap (λ p. p.0) (sym pair) ∙ sym (append-nil before))
     by false later same = let found = later same in (b ∷ found.0, found.1 ∙ append_assoc before (b ∷ []) found.0)
 
--- bytes that are none of the mark are passed over
+-- bytes other than the mark are skipped
 passed-over : (mark : ℕ) (front rest before : List ℕ) → Avoids mark front → cut_after (stands_outside mark) before (front ++ rest) ≡ cut_after (stands_outside mark) (before ++ front) rest
 passed-over mark [] rest before avoids = ap (λ b. cut_after (stands_outside mark) b rest) (sym (append-nil before))
 passed-over mark (b ∷ front) rest before avoids =
@@ -89,7 +89,7 @@ module _ (names : Names) (sight : Sight) (seen : IsWithin names sight) where
   fits-body body None = fits-head body
   fits-body body (Some cut) = fits-part (asked_of (Some cut.1)) (head_pieces names cut.0) (head_value sight cut.0) (fits-head cut.0)
 
-  -- whatever a body names, its bytes are among those of all
+  -- the bytes of whatever a body names are among those of all
   part-call_argument : (name : List ℕ) (argument : Option (List ℕ)) → IsPart (called_set names name argument) names.all
   part-call_argument name None = λ byte is. absurd cc
   part-call_argument name (Some argument) = by (function_of name)
@@ -128,7 +128,7 @@ module _ (names : Names) (sight : Sight) (seen : IsWithin names sight) where
   all-body body None = all-head body
   all-body body (Some cut) = within-part names.all (asked_of (Some cut.1)) (head_value sight cut.0) (all-head cut.0)
 
-  -- a function whose name is known, of any argument
+  -- a function with a known name and any argument
   any-call_argument : (name : List ℕ) (argument : Option (List ℕ)) → Within (any_argument_set names (function_of name)) (call_argument sight name argument)
   any-call_argument name None = tt
   any-call_argument name (Some argument) = by (function_of name)
@@ -200,6 +200,6 @@ module _ (names : Names) (sight : Sight) (seen : IsWithin names sight) where
 pub fits-expansion : (names : Names) (sight : Sight) → IsWithin names sight → (text : List ℕ) → Fits (text_pieces names text) (expansion sight text)
 fits-expansion names sight seen text = fits-reading names sight seen (reading_of text)
 
--- and has no bytes but theirs
+-- and has only their bytes
 pub within-expansion : (names : Names) (sight : Sight) → IsWithin names sight → (text : List ℕ) → Within (text_set names text) (expansion sight text)
 within-expansion names sight seen text = fits-set (text_pieces names text) (expansion sight text) (fits-expansion names sight seen text)

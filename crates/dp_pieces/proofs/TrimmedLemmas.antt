@@ -10,7 +10,7 @@ use Rattle.dp_pieces.specs.Trimmed.{before_kept, known_before, loose_front, star
 use Rattle.dp_pieces.proofs.FitsLemmas.{fits-any_bytes_of, fits-set}
 use Rattle.dp_pieces.proofs.WithinLemmas.{within-trim_start}
 
--- a byte of a set that has no blank is none
+-- a byte of a set without blanks is not a blank
 none-below : (bound : ℕ) (set : Bytes) (byte : ℕ) → has_blank_below bound set ≡ false → byte < bound → set byte ≡ true → is_blank byte ≡ false
 unfolding has_blank_below
 none-below zero set byte none below here = absurd (omega (arith, below))
@@ -48,7 +48,7 @@ any-of : (set : Bytes) (front : List ℕ) (pieces : List Piece) (text : List ℕ
 unfolding Fits
 any-of set front pieces text within fits = ((front, text), refl, within, fits)
 
--- no byte of a set that has no blank is cut off
+-- no byte of a set without blanks is cut off
 start-any : (set : Bytes) → has_blank set ≡ false → (front text : List ℕ) → Within set front → trim_start text ≡ text → trim_start (front ++ text) ≡ front ++ text
 start-any set none [] text within kept = kept
 start-any set none (byte ∷ front) text within kept = ap (λ b. if b then trim_start (front ++ text) else byte ∷ (front ++ text)) (no-blank set byte none within.0)
@@ -61,7 +61,7 @@ and-both : (a b : Bool) → (a && b) ≡ true → (a ≡ true) × (b ≡ true)
 and-both true b is = (refl, is)
 and-both false b is = absurd cc
 
--- a text that begins with no blank
+-- a text that does not begin with a blank
 kept-start : (pieces : List Piece) (text : List ℕ) → starts_kept pieces ≡ true → Fits pieces text → trim_start text ≡ text
 unfolding Fits
 kept-start [] text starts fits = subst (λ t. trim_start t ≡ t) (sym fits) refl
@@ -75,7 +75,7 @@ kept-start (AnyOf set ∷ pieces) text starts fits =
     subst (λ t. trim_start t ≡ t) (sym fits.1)
     (start-any set (not-true (has_blank set) both.0) fits.0.0 fits.0.1 fits.2 (kept-start pieces fits.0.1 both.1 fits.3))
 
--- some of the bytes of a set are cut off at the start, and no more where what follows begins with no blank
+-- some of the bytes of a set are cut off at the start, and no more if the rest does not begin with a blank
 start-cut : (set : Bytes) (front text : List ℕ) (pieces : List Piece) → Within set front → trim_start text ≡ text → Fits pieces text
     → Fits (AnyOf set ∷ pieces) (trim_start (front ++ text))
 start-cut set [] text pieces within kept fits = subst (Fits (AnyOf set ∷ pieces)) (sym kept) (any-of set [] pieces text tt fits)
@@ -97,7 +97,7 @@ fits-loose_front set pieces text fits = by (starts_kept pieces) refl
         fits-any_bytes_of (pieces_set (AnyOf set ∷ pieces)) (trim_start text)
         (within-trim_start (pieces_set (AnyOf set ∷ pieces)) text (fits-set (AnyOf set ∷ pieces) text fits))
 
--- one byte of a set is any bytes of it
+-- one byte of a set is any number of bytes of it
 loosely : (set : Bytes) (pieces : List Piece) (text : List ℕ) → Fits (OneOf set ∷ pieces) text → Fits (AnyOf set ∷ pieces) text
 unfolding Fits
 loosely set pieces text fits = ((fits.0.0 ∷ [], fits.0.1), fits.1, (fits.2, tt), fits.3)
@@ -123,7 +123,7 @@ fits-trimmed_start (OneOf set ∷ pieces) text fits = by (has_blank set) refl
         (one-of set fits.0.0 pieces fits.0.1 fits.2 fits.3))
 fits-trimmed_start (AnyOf set ∷ pieces) text fits = fits-loose_front set pieces text fits
 
--- before what is kept a byte stays, and a blank before nothing goes
+-- a byte before the kept text stays, and a blank before nothing is left out
 end-kept : (byte : ℕ) → is_blank byte ≡ false → (kept : List ℕ) → kept_before byte kept ≡ byte ∷ kept
 end-kept byte none [] = ap (λ b. if b then [] else byte ∷ []) none
 end-kept byte none (k ∷ kept) = refl
@@ -136,7 +136,7 @@ end-any set byte here [] pieces fits = by (is_blank byte)
     by false = any-of set (byte ∷ []) pieces [] (here, tt) fits
 end-any set byte here (k ∷ kept) pieces fits = any-of set (byte ∷ []) pieces (k ∷ kept) (here, tt) fits
 
--- one more byte before any bytes of a set
+-- one more byte before any number of bytes of a set
 joined : (set : Bytes) (byte : ℕ) → set byte ≡ true → (pieces : List Piece) (kept : List ℕ) → Fits (AnyOf set ∷ pieces) kept → Fits (AnyOf set ∷ pieces) (kept_before byte kept)
 unfolding Fits
 joined set byte here pieces [] fits = by (is_blank byte)

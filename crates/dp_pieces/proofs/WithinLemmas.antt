@@ -28,12 +28,12 @@ part-left a b byte is = either-left (a byte) (b byte) is
 pub part-right : (a b : Bytes) → IsPart b (either a b)
 part-right a b byte is = either-right (a byte) (b byte) is
 
--- a set that has every byte
+-- a set with every byte
 pub within-all : (a : Bytes) → ((byte : ℕ) → a byte ≡ true) → (text : List ℕ) → Within a text
 within-all a all [] = tt
 within-all a all (b ∷ bs) = (all b, within-all a all bs)
 
--- a text has its own bytes
+-- a text has only its own bytes
 pub within-own : (text : List ℕ) → Within (bytes_in text) text
 within-own [] = tt
 within-own (b ∷ bs) =

@@ -1,4 +1,4 @@
--- Sets by the words of a class.
+-- Sets given by the words of a class.
 use Rattle.std.proofs.Common.{◌≡◌, ℕ, zero, suc, ◌<◌, ◌≤◌, ◌/◌, ◌%◌, ◌==◌, Bool, true, false, nat_lt, List, [], ◌∷◌, length, slice_index, refl, sym, ap, ◌∙◌, arith}
 use Rattle.std.proofs.lemmas.Bool.Decides.{nat_tests}
 use Rattle.std.proofs.lemmas.Nat.Bits.{bit_at-zero}
@@ -10,7 +10,7 @@ use Rattle.dp_pieces.specs.Sets.{set_by}
 use Rattle.dp_pieces.specs.ShapeSteps.{AreBytes}
 use Rattle.dp_pieces.proofs.TakesLemmas.{flipped}
 
--- there is no bit behind the words
+-- there are no bits after the words
 no-word : (words : List ℕ) (k : ℕ) → length words ≤ k → slice_index words k ≡ 0
 no-word [] k few = refl
 no-word (word ∷ words) zero few = absurd (omega (arith, few))

@@ -1,4 +1,4 @@
--- Sets of bytes, and texts whose bytes are among them.
+-- Sets of bytes, and texts with bytes of a set.
 use Rattle.std.specs.Prelude.{◌≡◌, ℕ, zero, suc, Bool, true, false, ◌&&◌, ◌||◌, ◌==◌, nat_le, List}
 use Rattle.std.specs.List.{AllByRecursion}
 use Rattle.dp_conf.specs.Blanks.{is_blank}
@@ -11,28 +11,28 @@ Bytes = ℕ → Bool
 abbrev pub none : Bytes
 none byte = false
 
--- the digits
+-- the set of the digits
 abbrev pub digits : Bytes
 digits byte = nat_le 48 byte && nat_le byte 57
 
--- what a number has: digits, or a minus sign
+-- the bytes of a number: digits, or a minus sign
 abbrev pub numeric : Bytes
 numeric byte = digits byte || byte == 45
 
--- the bytes of either
+-- the bytes of either set
 abbrev pub either : Bytes → Bytes → Bytes
 either a b byte = a byte || b byte
 
--- the bytes that both have
+-- the bytes in both sets
 abbrev pub both : Bytes → Bytes → Bytes
 both a b byte = a byte && b byte
 
--- the set has a blank below a byte
+-- the set contains a blank below a byte
 unfoldable pub has_blank_below : ℕ → Bytes → Bool
 has_blank_below zero set = false
 has_blank_below (suc byte) set = (is_blank byte && set byte) || has_blank_below byte set
 
--- the set has a blank: none is above 32
+-- the set contains a blank: none is above 32
 abbrev pub has_blank : Bytes → Bool
 has_blank set = has_blank_below 33 set
 

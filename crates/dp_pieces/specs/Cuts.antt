@@ -1,11 +1,11 @@
--- Pieces that are cut once at a byte.
+-- Pieces cut once at a byte.
 use Rattle.std.specs.Prelude.{ℕ, Bool, ◌&&◌, ◌||◌, ◌==◌, List, [], ◌∷◌, Option, Some, None, if◌then◌else◌}
 use Rattle.std.specs.Option.{option_map}
 use Rattle.dp_conf.specs.Levels.{next_level}
 use Rattle.dp_pieces.specs.Bytes.{Bytes}
 use Rattle.dp_pieces.specs.Pieces.{AnyOf, Known, OneOf, Piece}
 
--- pieces that are cut at a byte: it stands nowhere, or between these, or an unknown piece may have it
+-- pieces cut at a byte: nowhere, between these lists, or unsure because an unknown piece may contain the byte
 pub data Cutting : Type 0 where
   Nowhere : Cutting
   Unsure : Cutting
@@ -24,11 +24,11 @@ cut_pieces mark (Known byte ∷ pieces) = if byte == mark then At [] pieces else
 cut_pieces mark (OneOf set ∷ pieces) = if set mark then Unsure else with_piece (OneOf set) (cut_pieces mark pieces)
 cut_pieces mark (AnyOf set ∷ pieces) = if set mark then Unsure else with_piece (AnyOf set) (cut_pieces mark pieces)
 
--- an unknown piece may be cut at such a byte of level 0, or change the level
+-- an unknown piece may contain such a byte of level 0, or change the level
 abbrev pub may_cut : ℕ → ℕ → Bytes → Bool
 may_cut mark level set = set 40 || set 41 || set mark && level == 0
 
--- the pieces cut at the first such byte of level 0, from a level on
+-- the pieces cut at the first such byte of level 0, starting at a level
 abbrev pub cut_level : ℕ → ℕ → List Piece → Cutting
 cut_level mark level [] = Nowhere
 cut_level mark level (Known byte ∷ pieces) =
@@ -36,7 +36,7 @@ cut_level mark level (Known byte ∷ pieces) =
 cut_level mark level (OneOf set ∷ pieces) = if may_cut mark level set then Unsure else with_piece (OneOf set) (cut_level mark level pieces)
 cut_level mark level (AnyOf set ∷ pieces) = if may_cut mark level set then Unsure else with_piece (AnyOf set) (cut_level mark level pieces)
 
--- the same at the last such byte: a known byte, and an unknown piece, before the cut of those after it
+-- the same at the last such byte: a known byte, and an unknown piece, before the cut of the pieces after it
 abbrev pub last_known : ℕ → ℕ → Cutting → Cutting
 last_known mark byte Nowhere = if byte == mark then At [] [] else Nowhere
 last_known mark byte Unsure = Unsure
@@ -47,7 +47,7 @@ last_unknown mark set piece Nowhere = if set mark then Unsure else Nowhere
 last_unknown mark set piece Unsure = Unsure
 last_unknown mark set piece (At front rest) = At (piece ∷ front) rest
 
--- the pieces before the last such byte; what stands after it is left out
+-- the pieces before the last such byte; those after it are left out
 abbrev pub cut_last : ℕ → List Piece → Cutting
 cut_last mark [] = Nowhere
 cut_last mark (Known byte ∷ pieces) = last_known mark byte (cut_last mark pieces)

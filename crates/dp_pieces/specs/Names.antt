@@ -14,8 +14,8 @@ use Rattle.dp_vars.specs.declared.value.Function.TheVariants.{Global, Local, Len
 use Rattle.dp_pieces.specs.Bytes.{Bytes, IsPart, Within, digits, none}
 use Rattle.dp_pieces.specs.Pieces.{Fits, Piece, front, any_bytes_of, pieces_set, without}
 
--- the bytes that the values of each name may have, the shapes of the channel's own extension and context, the bytes of the caller's
--- number, and those of any of these
+-- the bytes that the values of each name may have, the shapes of the channel's extension and context, the bytes of the caller's number, and
+-- the bytes of any of these
 pub record Names : Type 0 where
   pub bytes : List ℕ → Bytes
   pub exten : List Piece
@@ -23,7 +23,7 @@ pub record Names : Type 0 where
   pub caller : Bytes
   pub all : Bytes
 
--- a variable: the channel gives its extension and its context before any other value of these names
+-- a variable: the channel's extension and context come before any other value of these names
 abbrev pub variable_pieces : Names → List ℕ → List Piece
 variable_pieces names name =
     if same_text name (codes "EXTEN") then names.exten
@@ -38,7 +38,7 @@ pub record IsWhole (names : Names) : Type 0 where
   pub caller : IsPart names.caller names.all
   pub digits : IsPart digits names.all
 
--- what is seen is as it is known
+-- what is seen agrees with what is known
 pub record IsWithin (names : Names) (sight : Sight) : Type 0 where
   pub variable : (name : List ℕ) → Fits (variable_pieces names name) (sight.variable name)
   pub global : (name : List ℕ) → Within (names.bytes name) (sight.global name)
@@ -46,11 +46,11 @@ pub record IsWithin (names : Names) (sight : Sight) : Type 0 where
   pub caller : Within names.caller sight.caller
   pub whole : IsWhole names
 
--- the bytes of the caller's number, where that is asked for
+-- the bytes of the caller's number, if that is requested
 abbrev pub caller_set : Bytes → List ℕ → Bytes
 caller_set caller argument = if same_text argument (codes "num") then caller else none
 
--- the bytes of a function of an argument
+-- the bytes of a function with an argument
 abbrev pub function_set : Names → Option Function → List ℕ → Bytes
 function_set names None argument = none
 function_set names (Some Global) argument = names.bytes argument
@@ -59,12 +59,12 @@ function_set names (Some Len) argument = digits
 function_set names (Some CallerId) argument = caller_set names.caller argument
 function_set names (Some QueueWaitingCount) argument = digits
 
--- the bytes of a function by its name; a call that is not closed is nothing
+-- the bytes of a function, given its name; a call without a `)` is empty
 abbrev pub called_set : Names → List ℕ → Option (List ℕ) → Bytes
 called_set names name None = none
 called_set names name (Some argument) = function_set names (function_of name) argument
 
--- the bytes of a function of any argument
+-- the bytes of a function with any argument
 abbrev pub any_argument_set : Names → Option Function → Bytes
 any_argument_set names None = none
 any_argument_set names (Some Global) = names.all
@@ -73,7 +73,7 @@ any_argument_set names (Some Len) = digits
 any_argument_set names (Some CallerId) = names.caller
 any_argument_set names (Some QueueWaitingCount) = digits
 
--- a head by what is cut at its first `(`: a function of an argument, or a variable
+-- a head, given its cut at the first `(`: a function with an argument, or a variable
 abbrev pub head_by : Names → List ℕ → Option (List ℕ × List ℕ) → List Piece
 head_by names head None = variable_pieces names head
 head_by names head (Some cut) = any_bytes_of (called_set names cut.0 (before_last 41 cut.1))
@@ -82,20 +82,20 @@ head_by names head (Some cut) = any_bytes_of (called_set names cut.0 (before_las
 unfoldable pub head_pieces : Names → List ℕ → List Piece
 head_pieces names head = head_by names head (cut_once 40 head)
 
--- from an offset ahead, whole or so many bytes; what is counted from the end is bytes of the whole
+-- from an offset that counts from the front, to the end or this many bytes; a length that counts from the end gives bytes of the whole
 abbrev pub part_ahead : ℕ → Option Reach → List Piece → List Piece
 part_ahead offset None pieces = without offset pieces
 part_ahead offset (Some (Ahead size)) pieces = front size (without offset pieces)
 part_ahead offset (Some (Back size)) pieces = any_bytes_of (pieces_set pieces)
 
--- the part of a value that is asked for
+-- the requested part of a value
 abbrev pub part_pieces : Selection → List Piece → List Piece
 part_pieces Whole pieces = pieces
 part_pieces (Part (Ahead offset) size) pieces = part_ahead offset size pieces
 part_pieces (Part (Back offset) size) pieces = any_bytes_of (pieces_set pieces)
 part_pieces Nothing pieces = []
 
--- a text in braces that has no groups: a head, or a head and the part of it that is asked for
+-- a text in braces without groups: a head, or a head and the requested part of it
 abbrev pub body_by : Names → List ℕ → Option (List ℕ × List ℕ) → List Piece
 body_by names body None = head_pieces names body
 body_by names body (Some cut) = part_pieces (asked_of (Some cut.1)) (head_pieces names cut.0)

@@ -1,22 +1,22 @@
--- Texts of which parts are unknown, as pieces one after another.
+-- Texts with unknown parts, as lists of pieces.
 use Rattle.std.specs.Prelude.{◌≡◌, ℕ, zero, suc, true, false, ◌||◌, ◌==◌, List, [], ◌∷◌, ◌++◌, Option, Some, None}
 use Rattle.std.specs.List.{list_any}
 use Rattle.std.specs.Option.{option_map}
 use Rattle.dp_pieces.specs.Bytes.{Bytes, Within}
 
--- a byte that stands there, one byte of a set, or any bytes of a set
+-- a known byte, one byte of a set, or any number of bytes of a set
 pub data Piece : Type 0 where
   Known : ℕ → Piece
   OneOf : Bytes → Piece
   AnyOf : Bytes → Piece
 
--- the byte that stands there
+-- the byte of a piece, if it is known
 abbrev pub byte_of : Piece → Option ℕ
 byte_of (Known byte) = Some byte
 byte_of (OneOf set) = None
 byte_of (AnyOf set) = None
 
--- the text is the pieces one after another
+-- the text consists of the pieces in order
 unfoldable pub Fits : List Piece → List ℕ → Type 0
 Fits [] text = text ≡ []
 Fits (Known byte ∷ pieces) text = (rest : List ℕ) × (text ≡ byte ∷ rest) × Fits pieces rest
@@ -35,7 +35,7 @@ abbrev pub exactly : List ℕ → List Piece
 exactly [] = []
 exactly (byte ∷ bytes) = Known byte ∷ exactly bytes
 
--- the pieces of a text that is made of these bytes
+-- the pieces of a text with these bytes
 abbrev pub any_bytes_of : Bytes → List Piece
 any_bytes_of set = AnyOf set ∷ []
 
@@ -54,7 +54,7 @@ pieces_set (piece ∷ pieces) byte = piece_set piece byte || pieces_set pieces b
 abbrev pub bytes_in : List ℕ → Bytes
 bytes_in text byte = list_any (λ b. b == byte) text
 
--- without the first bytes: bytes that may be any of a set take all that follows into one piece
+-- the pieces without the first bytes: a piece with any number of bytes takes everything after it into one piece
 abbrev pub without : ℕ → List Piece → List Piece
 without zero pieces = pieces
 without (suc count) [] = []
@@ -62,7 +62,7 @@ without (suc count) (Known byte ∷ pieces) = without count pieces
 without (suc count) (OneOf set ∷ pieces) = without count pieces
 without (suc count) (AnyOf set ∷ pieces) = any_bytes_of (pieces_set (AnyOf set ∷ pieces))
 
--- the first bytes alone
+-- the first bytes of the pieces
 abbrev pub front : ℕ → List Piece → List Piece
 front zero pieces = []
 front (suc count) [] = []

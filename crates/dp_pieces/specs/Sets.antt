@@ -1,4 +1,4 @@
--- Sets of bytes by four words, of which each has the bits of 64 bytes.
+-- Sets of bytes as four words with the bits of 64 bytes each.
 use Rattle.std.specs.Prelude.{ℕ, ◌/◌, ◌%◌, ◌==◌, List, slice_index}
 use Rattle.std.specs.Int.{bit_at}
 use Rattle.dp_pieces.specs.Bytes.{Bytes}

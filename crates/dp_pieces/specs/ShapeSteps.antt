@@ -1,4 +1,4 @@
--- What the walks over shapes and names say of their steps. No public clause rests on it.
+-- The steps of the walks over shapes and names. No public clause depends on them.
 use Rattle.std.specs.Prelude.{◌≡◌, ℕ, ◌+◌, ◌≤◌, Bool, true, false, List, [], ◌∷◌, length}
 use Rattle.std.specs.List.{AllByRecursion}
 use Rattle.dp_pattern.specs.Matches.{FitsTail}
@@ -8,11 +8,11 @@ use Rattle.dp_pieces.specs.Pieces.{AnyOf, Fits, Known, OneOf, Piece, bytes_in}
 use Rattle.dp_pieces.specs.declared.shapes.name_place.NamePlace.{NamePlace}
 use Rattle.dp_pieces.specs.declared.shapes.name_place.NamePlace.TheVariants.{Byte, Class}
 
--- nothing above 255 is in the class
+-- the class contains no number above 255
 abbrev pub AreBytes : List ℕ → Type 0
 AreBytes class = (byte : ℕ) → 256 ≤ byte → bytes_in class byte ≡ false
 
--- nor in any of these
+-- nor does any of these
 abbrev pub AreAllBytes : List (List ℕ) → Type 0
 AreAllBytes classes = AllByRecursion AreBytes classes
 
@@ -21,20 +21,20 @@ abbrev pub class_at : NamePlace → List ℕ
 class_at (Byte byte) = byte ∷ []
 class_at (Class class) = class.now
 
--- the piece is any bytes of a set, and not one
+-- the piece has any number of bytes of a set, rather than one
 abbrev pub is_any : Piece → Bool
 is_any (Known byte) = false
 is_any (OneOf set) = false
 is_any (AnyOf set) = true
 
--- how many bytes a text of the pieces has at least
+-- the smallest number of bytes in a text of the pieces
 abbrev pub least_of : List Piece → ℕ
 least_of [] = 0
 least_of (Known byte ∷ pieces) = least_of pieces + 1
 least_of (OneOf set ∷ pieces) = least_of pieces + 1
 least_of (AnyOf set ∷ pieces) = least_of pieces
 
--- a piece that is one byte, met with the class of this
+-- a piece with one byte, met with the class of that byte
 abbrev pub IsMet : Piece → List ℕ → Piece → Type 0
 IsMet (Known byte) class met = met ≡ Known byte
 IsMet (OneOf set) class met = met ≡ OneOf (both set (bytes_in class))
@@ -46,11 +46,11 @@ Takes [] tail digits = FitsTail tail digits
 Takes (class ∷ classes) tail [] = ⊥
 Takes (class ∷ classes) tail (digit ∷ digits) = (bytes_in class digit ≡ true) × Takes classes tail digits
 
--- no byte of the set is in the class
+-- the class contains no byte of the set
 abbrev pub Lacks : Bytes → List ℕ → Type 0
 Lacks set class = (byte : ℕ) → set byte ≡ true → bytes_in class byte ≡ true → ⊥
 
--- no text of the pieces is taken so, nor one of so many bytes of a set, or more
+-- no text of the pieces is taken this way, nor one of this many bytes of a set, or more
 abbrev pub Misses : List Piece → List (List ℕ) → Tail → Type 0
 Misses pieces classes tail = (digits : List ℕ) → Fits pieces digits → Takes classes tail digits → ⊥
 
@@ -58,7 +58,7 @@ abbrev pub MissesWithin : Bytes → ℕ → List (List ℕ) → Tail → Type 0
 MissesWithin set least classes tail =
     (digits : List ℕ) → Within set digits → least ≤ length digits → Takes classes tail digits → ⊥
 
--- each text of the pieces is, and each of so many bytes of a set, or more
+-- each text of the pieces is taken, and each of this many bytes of a set, or more
 abbrev pub AlwaysTakes : List Piece → List (List ℕ) → Tail → Type 0
 AlwaysTakes pieces classes tail = (digits : List ℕ) → Fits pieces digits → Takes classes tail digits
 
@@ -66,21 +66,21 @@ abbrev pub AlwaysTakesWithin : Bytes → ℕ → List (List ℕ) → Tail → Ty
 AlwaysTakesWithin set least classes tail =
     (digits : List ℕ) → Within set digits → least ≤ length digits → Takes classes tail digits
 
--- each text of the one shape is one of the other
+-- each text of the one shape has the other shape
 abbrev pub AlwaysFits : List Piece → List Piece → Type 0
 AlwaysFits pieces other = (text : List ℕ) → Fits pieces text → Fits other text
 
--- the texts of both are the same
+-- both have the same texts
 abbrev pub AreTextsOf : List Piece → List Piece → Type 0
 AreTextsOf pieces other = AlwaysFits pieces other × AlwaysFits other pieces
 
--- any bytes of the empty set
+-- any number of bytes of the empty set
 abbrev pub IsNothing : Piece → Type 0
 IsNothing (Known byte) = ⊥
 IsNothing (OneOf set) = ⊥
 IsNothing (AnyOf set) = IsPart set none
 
--- each text of the one piece is one of the other, and both are one byte or both any bytes
+-- each text of the one piece is one of the other, where both have one byte or both any number
 abbrev pub IsWithinPiece : Piece → Piece → Type 0
 IsWithinPiece (Known byte) (Known other) = byte ≡ other
 IsWithinPiece (Known byte) (OneOf wide) = wide byte ≡ true

@@ -1,10 +1,10 @@
--- Pieces that are cut, by what they are.
+-- Cuts of pieces as values of the definition.
 use Rattle.dp_pieces.specs.Cuts as spec
 use Rattle.dp_pieces.specs.Shown.{shown_all}
 use Rattle.dp_pieces.specs.declared.cuts.Cutting.{Cutting}
 use Rattle.dp_pieces.specs.declared.cuts.Cutting.TheVariants.{Nowhere, Unsure, At}
 
--- what stands before and after the byte
+-- the pieces before and after the byte
 abbrev pub shown_cutting : Cutting → spec.Cutting
 shown_cutting Nowhere = spec.Nowhere
 shown_cutting Unsure = spec.Unsure

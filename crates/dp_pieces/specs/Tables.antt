@@ -1,4 +1,4 @@
--- What is known of the values of names, by a table of sets.
+-- What is known of the values of names, as a table of sets.
 use Rattle.std.specs.Prelude.{ℕ, List, []}
 use Rattle.std.specs.Global.{Vec}
 use Rattle.std.specs.Map.{lookup}
@@ -13,7 +13,7 @@ use Rattle.dp_pieces.specs.Sets.{set_by}
 abbrev pub Entries : Type 0
 Entries = List (Vec ℕ × List ℕ)
 
--- the own set of a name; a name that has none has no byte of its own
+-- the own set of a name; a name without one has no bytes of its own
 abbrev pub own_set : Entries → List ℕ → Bytes
 own_set entries name = set_by (unwrap_or (lookup (λ key. same_text name key.items) entries) [])
 
@@ -21,14 +21,14 @@ own_set entries name = set_by (unwrap_or (lookup (λ key. same_text name key.ite
 abbrev pub name_set : Entries → List ℕ → List ℕ → Bytes
 name_set entries shared name = either (set_by shared) (own_set entries name)
 
--- a table: the sets of names, those that each name has, those of the caller's number, and those of any of these
+-- a table: the sets of names, those that each name has, those of the caller's number, and the bytes of any of these
 pub record Table : Type 0 where
   pub own : Entries
   pub shared : List ℕ
   pub caller : List ℕ
   pub all : List ℕ
 
--- what is known of names by a table, where the channel's own context and extension have these shapes
+-- what a table knows of names, if the channel's context and extension have these shapes
 abbrev pub names_by : Table → List Piece → List Piece → Names
 names_by table context exten = record {
   bytes = λ name. name_set table.own table.shared name;
@@ -38,6 +38,6 @@ names_by table context exten = record {
   all = set_by table.all;
 }
 
--- the same where no channel is, and so no context and no extension
+-- the same without a channel, and so without a context and an extension
 abbrev pub names_in : Table → Names
 names_in table = names_by table [] []

@@ -1,4 +1,4 @@
--- The pieces of a text that is not expanded yet.
+-- The pieces of an unexpanded text.
 use Rattle.std.specs.Prelude.{ℕ, List, [], ◌∷◌, ◌++◌, Option, Some, None, if◌then◌else◌}
 use Rattle.dp_conf.specs.Groups.{Reading, Over, Plain, Group}
 use Rattle.dp_conf.specs.GroupsRead.{reading_of}
@@ -11,7 +11,7 @@ use Rattle.dp_pieces.specs.Names.{Names, any_argument_set, body_by}
 use Rattle.dp_pieces.specs.Pieces.{Known, Piece, bytes_in, text_known, any_bytes_of, pieces_set}
 use Rattle.dp_vars.specs.Values.{function_of}
 
--- the bytes of a text in braces that is known as far as its first `(`: a function whose argument is not known
+-- the bytes of a text in braces that is known up to its first `(`: a function with an unknown argument
 abbrev pub begun_set : Names → List ℕ → Bytes
 begun_set names name = if bytes_in name 58 then names.all else any_argument_set names (function_of name)
 
@@ -19,7 +19,7 @@ begun_set names name = if bytes_in name 58 then names.all else any_argument_set 
 abbrev pub called_pieces : Names → List ℕ → List Piece
 called_pieces names name = any_bytes_of (begun_set names name)
 
--- a text in braces that is not known may name anything, or is known in part
+-- a text in braces that is unknown may name anything, or is partly known
 abbrev pub unknown_pieces : Names → Option (List ℕ × List Piece) → List Piece
 unknown_pieces names None = any_bytes_of names.all
 unknown_pieces names (Some cut) = called_pieces names cut.0
@@ -29,7 +29,7 @@ abbrev pub braces_pieces : Names → List Piece → Option (List ℕ) → List P
 braces_pieces names pieces None = unknown_pieces names (cut_known 40 pieces)
 braces_pieces names pieces (Some body) = body_by names body (cut_outside 58 body)
 
--- a group by its body: an expression comes to a number or to a part of its text
+-- a group, given its body: the value of an expression is a number or a part of its text
 abbrev pub group_pieces : Names → GroupKind → List Piece → List Piece
 group_pieces names Braces body = braces_pieces names body (text_known body)
 group_pieces names Brackets body = any_bytes_of (either (pieces_set body) numeric)

@@ -1,4 +1,4 @@
-//! The arguments of a text by its pieces, and parts of these.
+//! The arguments of a text given as pieces, and prefixes and suffixes of pieces.
 ghost use Rattle.std.specs.Prelude.{◌≡◌, IfOk, map};
 ghost use Rattle.dp_pieces.specs.Arguments.{shapes_of};
 ghost use Rattle.dp_pieces.specs.Pieces.{front, any_bytes_of, pieces_set, without};
@@ -10,12 +10,12 @@ use crate::trims::trimmed;
 use dp_conf::NoMemory;
 use std::alloc::Global;
 
-/// The shapes of the arguments: what known commas outside parentheses part, each without the blanks at its ends. It fails only for want
-/// of memory.
+/// The shapes of the arguments, which are separated by known commas outside parentheses, each without the blanks at its ends. It fails only
+/// if memory runs out.
 pub fn shapes_of(alloc: Global, pieces: &[Piece]) -> Result<Vec<Vec<Piece>>, NoMemory>
     ensures { IfOk result (λ shapes. map (λ shape. shown_all shape.items) shapes.items ≡ shapes_of (shown_all pieces.now)) }
 {
-    // A target has three parts at most.
+    // A target has at most three parts.
     let mut shapes = Vec::with_capacity(alloc, 3)?;
     let mut rest = Some(pieces);
     while let Some(left) = rest {
@@ -26,7 +26,7 @@ pub fn shapes_of(alloc: Global, pieces: &[Piece]) -> Result<Vec<Vec<Piece>>, NoM
     Ok(shapes)
 }
 
-/// Any bytes of these pieces, as one piece.
+/// Any bytes of these pieces, as a single piece.
 pub(crate) fn any_of(alloc: Global, pieces: &[Piece]) -> Result<Vec<Piece>, NoMemory>
     ensures { IfOk result (λ all. shown_all all.items ≡ any_bytes_of (pieces_set (shown_all pieces.now))) }
 {
@@ -34,8 +34,8 @@ pub(crate) fn any_of(alloc: Global, pieces: &[Piece]) -> Result<Vec<Piece>, NoMe
     Ok(all)
 }
 
-/// The pieces without so many of the first bytes. Where a piece that may have any bytes comes first, it and what follows it become one
-/// such piece. It fails only when out of memory.
+/// The pieces without this many of the first bytes. If a piece with any number of bytes comes first, it and the pieces after it become a
+/// single such piece. It fails only if memory runs out.
 pub fn without(alloc: Global, count: usize, pieces: &[Piece]) -> Result<Vec<Piece>, NoMemory>
     ensures { IfOk result (λ rest. shown_all rest.items ≡ without count (shown_all pieces.now)) }
 {
@@ -57,8 +57,8 @@ pub fn without(alloc: Global, count: usize, pieces: &[Piece]) -> Result<Vec<Piec
     Ok(kept)
 }
 
-/// So many of the first bytes of the pieces. Where a piece that may have any bytes comes before that, it and what follows it become one
-/// such piece. It fails only when out of memory.
+/// This many of the first bytes of the pieces. If a piece with any number of bytes comes before their end, it and the pieces after it
+/// become a single such piece. It fails only if memory runs out.
 pub fn front(alloc: Global, count: usize, pieces: &[Piece]) -> Result<Vec<Piece>, NoMemory>
     ensures { IfOk result (λ first. shown_all first.items ≡ front count (shown_all pieces.now)) }
 {

@@ -32,14 +32,14 @@ fn with_bits(word: u64, other: u64) -> u64
     word | other
 }
 
-/// The word with the bits that both have.
+/// The word with the bits that are set in both.
 fn shared_bits(word: u64, other: u64) -> u64
     ensures { (i : ℕ) → (bit_at result i == 1) ≡ (bit_at word i == 1 && bit_at other i == 1) }
 {
     word & other
 }
 
-/// Whether the other word has each bit of the word.
+/// Whether each bit of the word is set in the other word.
 fn are_bits_of(word: u64, other: u64) -> bool
     ensures part { IsTrue result → (i : ℕ) → (bit_at word i == 1) ≡ true → (bit_at other i == 1) ≡ true }
     ensures no_part { IsFalse result → ((i : ℕ) → i < 64 → (bit_at word i == 1) ≡ true → (bit_at other i == 1) ≡ true) → ⊥ }
@@ -47,10 +47,10 @@ fn are_bits_of(word: u64, other: u64) -> bool
     word | other == other
 }
 
-/// The bits of the blanks: up to that of 32, without that of the line feed.
+/// The bits of the blanks: those up to bit 32, except that of the line feed.
 const BLANKS: u64 = 0x1_ffff_fbff;
 
-/// A set of bytes. Byte b has bit b % 64 of word b / 64.
+/// A set of bytes. Bit b % 64 of word b / 64 is byte b.
 #[derive(Clone, Copy)]
 pub struct ByteSet {
     words: [u64; 4],
@@ -74,14 +74,14 @@ impl ByteSet {
         ByteSet { words: [0; 4] }
     }
 
-    /// The set of these words.
+    /// The set with these words.
     pub(crate) fn of_words(words: [u64; 4]) -> Self
         ensures { result ≡ words }
     {
         ByteSet { words }
     }
 
-    /// Whether the set has the byte.
+    /// Whether the set contains the byte.
     #[tactic(auto, unfolding(crate::specs::Sets::set_by))]
     pub fn has(&self, byte: u8) -> bool
         ensures { result ≡ set_by self.now byte }
@@ -89,7 +89,7 @@ impl ByteSet {
         has_bit(self.words[usize::from(byte / 64)], byte % 64)
     }
 
-    /// Puts a byte in the set.
+    /// Adds a byte to the set.
     #[tactic(auto, unfolding(crate::specs::Sets::set_by))]
     pub fn put(&mut self, byte: u8)
         ensures { (b : ℕ) → set_by self.new b ≡ (b == byte || set_by self.old b) }
@@ -98,7 +98,7 @@ impl ByteSet {
         self.words[place] = with_bit(self.words[place], byte % 64);
     }
 
-    /// Puts all bytes of the other set in this one.
+    /// Adds all bytes of the other set to this one.
     #[tactic(auto, unfolding(crate::specs::Sets::set_by))]
     pub fn add(&mut self, other: &ByteSet)
         ensures { (b : ℕ) → set_by self.new b ≡ either (set_by self.old) (set_by other.now) b }
@@ -108,7 +108,7 @@ impl ByteSet {
         }
     }
 
-    /// Keeps the bytes that the other set has too.
+    /// Keeps only the bytes that the other set contains too.
     #[tactic(auto, unfolding(crate::specs::Sets::set_by))]
     fn keep(&mut self, other: &ByteSet)
         ensures { (b : ℕ) → set_by self.new b ≡ both (set_by self.old) (set_by other.now) b }
@@ -118,7 +118,7 @@ impl ByteSet {
         }
     }
 
-    /// The bytes that both sets have.
+    /// The bytes that both sets contain.
     pub(crate) fn common(&self, other: &ByteSet) -> Self
         ensures { (b : ℕ) → set_by result b ≡ both (set_by self.now) (set_by other.now) b }
     {
@@ -127,7 +127,7 @@ impl ByteSet {
         shared
     }
 
-    /// The set of one byte.
+    /// The set of a single byte.
     pub fn of(byte: u8) -> Self
         ensures { (b : ℕ) → set_by result b ≡ (b == byte) }
     {
@@ -147,7 +147,7 @@ impl ByteSet {
         set
     }
 
-    /// The bytes of both sets.
+    /// The bytes of both sets together.
     pub fn with(&self, other: &ByteSet) -> Self
         ensures { (b : ℕ) → set_by result b ≡ either (set_by self.now) (set_by other.now) b }
     {
@@ -156,7 +156,7 @@ impl ByteSet {
         both
     }
 
-    /// Whether the set has a blank, a byte of 32 or less other than a line feed.
+    /// Whether the set contains a blank, a byte of 32 or less other than a line feed.
     pub fn has_blank(&self) -> bool
         ensures { result ≡ has_blank (set_by self.now) }
     {
@@ -171,14 +171,14 @@ impl ByteSet {
         false
     }
 
-    /// Whether the byte is a blank of the set.
+    /// Whether the byte is a blank and the set contains it.
     fn has_as_blank(&self, byte: u8) -> bool
         ensures { result ≡ (blank byte && set_by self.now byte) }
     {
         is_blank(byte) && self.has(byte)
     }
 
-    /// Whether each byte of the set is in the other.
+    /// Whether each byte of the set is in the other set.
     #[tactic(auto, unfolding(crate::specs::Sets::set_by))]
     pub fn is_part(&self, other: &ByteSet) -> bool
         ensures part { IsTrue result → IsPart (set_by self.now) (set_by other.now) }

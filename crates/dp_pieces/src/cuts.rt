@@ -1,4 +1,4 @@
-//! Pieces that are cut at a byte: at the first one, at the first outside parentheses, at the last, and after a known text.
+//! Pieces cut at a byte: at the first one, at the first one outside parentheses, at the last one, and after a known text.
 ghost use Rattle.std.specs.Prelude.{◌≡◌, ℕ, ◌+◌, ◌^◌, ◌<◌, List, IfSome, MatchOption, None, Some, [], ◌∷◌, length, map};
 ghost use Rattle.dp_pieces.specs.Arguments.{are_clean, split_pieces};
 ghost use Rattle.dp_pieces.specs.Cuts as cuts;
@@ -11,7 +11,7 @@ ghost use Rattle.dp_pieces.specs.steps.Stands.{cut_rule, is_clean_piece, level_a
 use crate::byte_set::ByteSet;
 use crate::piece::Piece;
 
-/// Pieces that are cut at a byte: it stands nowhere, or between these two, or a piece that is not known may have it.
+/// Pieces cut at a byte: nowhere, unsure because an unknown piece may contain the byte, or between these two lists.
 #[derive(Clone, Copy)]
 pub enum Cutting<'a> {
     Nowhere,
@@ -19,7 +19,7 @@ pub enum Cutting<'a> {
     At(&'a [Piece], &'a [Piece]),
 }
 
-/// Where pieces are cut: at the first such byte, at the first outside parentheses, or at the first known comma outside these.
+/// The place of the cut: at the first such byte, at the first one outside parentheses, or at the first known comma outside these.
 #[derive(Clone, Copy)]
 enum Rule {
     First(u8),
@@ -27,7 +27,7 @@ enum Rule {
     Comma,
 }
 
-/// How a piece stands to a rule: it is the byte of the cut, it may have that byte, or it has none.
+/// The relation of a piece to a rule: it is the byte of the cut, it may contain that byte, or it does not contain it.
 #[derive(Clone, Copy)]
 enum Stand {
     Here,
@@ -42,15 +42,15 @@ pub fn cut_pieces(pieces: &[Piece], mark: u8) -> Cutting<'_>
     cut_by(pieces, Rule::First(mark))
 }
 
-/// The pieces cut at the first such byte outside parentheses. A piece that is not known may have a parenthesis, and then nothing is
-/// known of what follows.
+/// The pieces cut at the first such byte outside parentheses. An unknown piece may contain a parenthesis, and then nothing is known of the
+/// pieces after it.
 pub fn cut_level(pieces: &[Piece], mark: u8) -> Cutting<'_>
     ensures { shown_cutting result ≡ cuts.cut_level mark 0 (shown_all pieces.now) }
 {
     cut_by(pieces, Rule::Outside(mark))
 }
 
-/// The pieces up to their first known comma outside parentheses, and those after it, where there is such a comma.
+/// The pieces up to their first known comma outside parentheses, and those after it if there is such a comma.
 pub fn first_part(pieces: &[Piece]) -> (&[Piece], Option<&[Piece]>)
     ensures parts { MatchOption result.1 (split_pieces 0 (shown_all pieces.now) ≡ shown_all result.0.now ∷ [])
         (λ rest. split_pieces 0 (shown_all pieces.now) ≡ shown_all result.0.now ∷ split_pieces 0 (shown_all rest.now)) }
@@ -62,7 +62,7 @@ pub fn first_part(pieces: &[Piece]) -> (&[Piece], Option<&[Piece]>)
     }
 }
 
-/// The level of parentheses after a piece that stands at this level. A piece that is not known is taken to change none.
+/// The level of parentheses after a piece at this level. An unknown piece is assumed not to change the level.
 fn level_after(level: usize, piece: &Piece) -> usize
     requires { level + 1 < 2 ^ 64 }
     ensures { result ≡ level_after level (shown_piece piece.now) }
@@ -74,14 +74,14 @@ fn level_after(level: usize, piece: &Piece) -> usize
     }
 }
 
-/// Whether a byte of the set may be cut at, or change the level.
+/// Whether a byte of the set may be the one to cut at, or change the level.
 fn may_cut(mark: u8, level: usize, set: &ByteSet) -> bool
     ensures { result ≡ cuts.may_cut mark level (set_by set.now) }
 {
     set.has(b'(') || set.has(b')') || (set.has(mark) && level == 0)
 }
 
-/// How a known byte stands to a rule.
+/// The relation of a known byte to a rule.
 fn stand_known(rule: Rule, level: usize, byte: u8) -> Stand
     ensures { result ≡ stand_of rule level (Known byte) }
 {
@@ -93,7 +93,7 @@ fn stand_known(rule: Rule, level: usize, byte: u8) -> Stand
     if is_here { Stand::Here } else { Stand::Apart }
 }
 
-/// How a piece that may have the bytes of a set stands to a rule.
+/// The relation of a piece with any bytes of a set to a rule.
 fn stand_unknown(rule: Rule, level: usize, set: &ByteSet) -> Stand
     ensures { result ≡ stand_of rule level (OneOf (set_by set.now)) }
 {
@@ -105,7 +105,7 @@ fn stand_unknown(rule: Rule, level: usize, set: &ByteSet) -> Stand
     if may_be { Stand::Maybe } else { Stand::Apart }
 }
 
-/// How a piece stands to a rule at a level of parentheses.
+/// The relation of a piece to a rule at a level of parentheses.
 fn stand_at(rule: Rule, level: usize, piece: &Piece) -> Stand
     ensures { result ≡ stand_of rule level (shown_piece piece.now) }
 {
@@ -130,7 +130,7 @@ fn cut_by(pieces: &[Piece], rule: Rule) -> Cutting<'_>
     Cutting::Nowhere
 }
 
-/// The pieces before the last such byte. What stands after it is left out.
+/// The pieces before the last such byte. The pieces after it are left out.
 pub fn cut_last(pieces: &[Piece], mark: u8) -> Cutting<'_>
     ensures { shown_cutting result ≡ cuts.cut_last mark (shown_all pieces.now) }
 {
@@ -145,7 +145,7 @@ pub fn cut_last(pieces: &[Piece], mark: u8) -> Cutting<'_>
     Cutting::Nowhere
 }
 
-/// The pieces before the first such byte, all of them known, and those after it, or None where one that is not known comes first.
+/// The pieces before the first such byte, all of them known, and those after it, or None if an unknown piece comes first.
 pub fn cut_known(pieces: &[Piece], mark: u8) -> Option<(&[Piece], &[Piece])>
     ensures { MatchOption result (cuts.cut_known mark (shown_all pieces.now) ≡ None)
         (λ cut. (name : List ℕ) × (cuts.cut_known mark (shown_all pieces.now) ≡ Some (name, shown_all cut.1.now)) × (shown_all cut.0.now ≡ exactly name)) }
@@ -161,7 +161,7 @@ pub fn cut_known(pieces: &[Piece], mark: u8) -> Option<(&[Piece], &[Piece])>
     None
 }
 
-/// Whether a piece at a level of parentheses parts no arguments and changes no level, unless it is known.
+/// Whether a piece at a level of parentheses is known, or neither separates arguments nor changes the level.
 fn is_clean(level: usize, piece: &Piece) -> bool
     ensures { result ≡ is_clean_piece level (shown_piece piece.now) }
 {
@@ -171,7 +171,7 @@ fn is_clean(level: usize, piece: &Piece) -> bool
     }
 }
 
-/// Whether no piece that is not known parts arguments: none has a parenthesis, nor a comma outside them.
+/// Whether no unknown piece separates arguments: none contains a parenthesis, or a comma outside them.
 pub fn are_clean(pieces: &[Piece]) -> bool
     ensures { result ≡ are_clean 0 (shown_all pieces.now) }
 {

@@ -1,4 +1,4 @@
-//! Laws over the definitions of this crate.
+//! Laws about the definitions of this crate.
 ghost use Rattle.std.specs.Prelude.{◌≡◌, ℕ, List, true};
 ghost use Rattle.dp_conf.specs.Blanks.{trim};
 ghost use Rattle.dp_conf.specs.Cut.{before_last, cut_once};
@@ -19,24 +19,24 @@ ghost use Rattle.dp_vars.specs.Sights.{Sight};
 ghost use Rattle.dp_vars.specs.Values.{expansion};
 ghost use Rattle.dp_vars.specs.declared.part.Selection.{Selection};
 
-/// The expansion of a text fits its pieces, in every sight within what is known of the names. It does nothing.
+/// States that the expansion of a text fits its pieces, for everything that may be seen within what is known of the names. It does nothing.
 pub fn expansion_fits()
     ensures { (names : Names) (sight : Sight) (text : List ℕ) → IsWithin names sight → Fits (text_pieces names text) (expansion sight text) }
 {}
 
-/// What fits pieces has no bytes but theirs. It does nothing.
+/// States that a text that fits pieces has only their bytes. It does nothing.
 pub fn bytes_within()
     ensures { (pieces : List Piece) (text : List ℕ) → Fits pieces text → Within (pieces_set pieces) text }
 {}
 
-/// Where no unknown piece has a comma or a parenthesis, the arguments of a text that fits pieces are as many as the parts of these,
-/// and each fits its part without blanks at the ends. It does nothing.
+/// States that, if no unknown piece contains a comma or a parenthesis, a text that fits pieces has as many arguments as the pieces have
+/// parts, and each argument fits its part without blanks at the ends. It does nothing.
 pub fn arguments_fit()
     ensures { (pieces : List Piece) (text : List ℕ) → are_clean 0 pieces ≡ true → Fits pieces text → AllFit (shapes_of pieces) (arguments_of text) }
 {}
 
-/// A text is cut once where its pieces are: at the first such byte, at the first of level 0, before the last one, and after a known
-/// text. It does nothing.
+/// States that a text is cut where its pieces are: at the first such byte, at the first one of level 0, before the last one, and after a
+/// known text. It does nothing.
 pub fn cuts_fit()
     ensures first { (mark : ℕ) (pieces : List Piece) (text : List ℕ) → Fits pieces text → IsCutAs (cut_pieces mark pieces) (cut_once mark text) }
     ensures level { (mark : ℕ) (pieces : List Piece) (text : List ℕ) → Fits pieces text → IsCutAs (cut_level mark 0 pieces) (cut_outside mark text) }
@@ -44,15 +44,15 @@ pub fn cuts_fit()
     ensures known { (mark : ℕ) (pieces : List Piece) (text : List ℕ) → Fits pieces text → IsCutKnown mark (cut_known mark pieces) text }
 {}
 
-/// A part of a text, as `:offset:length` asks for it, fits that part of its pieces; so does a text without the blanks at its ends. It
-/// does nothing.
+/// States that a part of a text, as requested by `:offset:length`, fits that part of its pieces, and so does a text without the blanks at
+/// its ends. It does nothing.
 pub fn parts_fit()
     ensures part { (asked : Selection) (pieces : List Piece) (text : List ℕ) → Fits pieces text → Fits (part_pieces asked pieces) (part asked text) }
     ensures trimmed { (pieces : List Piece) (text : List ℕ) → Fits pieces text → Fits (without_end_blanks pieces) (trim text) }
 {}
 
-/// A text that fits a shape and matches the name of an extension fits the shape met with the name, and this has no bytes but those of
-/// the shape. It does nothing.
+/// States that a text that fits a shape and matches the name of an extension fits the shape met with the name, and that the met shape has
+/// only bytes of the shape. It does nothing.
 pub fn meet_fits()
     ensures fits { (pieces : List Piece) (name : Meaning) (text : List ℕ) → Fits pieces text → Matches name text → Fits (after_match pieces name) text }
     ensures bytes { (pieces : List Piece) (name : Meaning) (text : List ℕ) → Fits pieces text → Matches name text → IsPart (pieces_set (after_match pieces name)) (pieces_set pieces) }

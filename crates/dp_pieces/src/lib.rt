@@ -1,4 +1,4 @@
-//! Texts that are not expanded yet, as pieces: a known byte, one byte of a set, or any bytes of a set.
+//! Unexpanded texts as pieces: a known byte, one byte of a set, or any number of bytes of a set.
 #![tactic(auto)]
 
 mod arguments;

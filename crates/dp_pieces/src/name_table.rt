@@ -1,4 +1,4 @@
-//! What is known of the values of names, in a table.
+//! A table of what is known of the values of names.
 ghost use Rattle.std.specs.Prelude.{◌≡◌, ℕ, List, false, ◌&&◌, ◌||◌, OnErr, OnOk, IsTrue};
 ghost use Rattle.dp_conf.specs.Words.{same_text};
 ghost use Rattle.dp_pieces.specs.Bytes.{IsPart, digits, either};
@@ -12,7 +12,7 @@ use indexmap::IndexMap;
 use std::alloc::Global;
 use std::marker::Model;
 
-/// The bytes that the values of names may have: some that each name may have, and for some names more.
+/// The bytes that the values of names may have: some that each name may have, and further ones for some names.
 #[derive(Drop)]
 pub struct NameTable {
     own: IndexMap<Vec<u8>, ByteSet>,
@@ -30,7 +30,7 @@ impl Model for NameTable {
 }
 
 impl NameTable {
-    /// The table in which no name has a byte.
+    /// The table in which no name has bytes.
     pub fn new(alloc: Global) -> Self
         ensures bytes { (name : List ℕ) (b : ℕ) → (names_in result).bytes name b ≡ false }
         ensures caller { (b : ℕ) → (names_in result).caller b ≡ false }
@@ -70,7 +70,7 @@ impl NameTable {
         &self.all
     }
 
-    /// Whether any value may have the bytes that each name has of its own.
+    /// Whether any value may have each name's own bytes.
     fn has_own(&self) -> bool
         ensures { IsTrue result → (name : List ℕ) → IsPart (own_set self.now.own name) (set_by self.now.all) }
     {
@@ -100,8 +100,8 @@ impl NameTable {
         self.caller.is_part(&self.all) && ByteSet::digits().is_part(&self.all)
     }
 
-    /// Whether any value may have the bytes of each name, those of the caller's number, and the digits. A table has no digits at first:
-    /// `hold_anywhere` gives them.
+    /// Whether any value may have the bytes of each name, those of the caller's number, and the digits. A new table has no digits:
+    /// `hold_anywhere` adds them.
     pub fn is_whole(&self) -> bool
         ensures { IsTrue result → IsWhole (names_in self.now) }
     {
@@ -115,14 +115,14 @@ impl NameTable {
         set.is_part(&self.bytes(name))
     }
 
-    /// Whether the values of each name may have all bytes of the set, as far as is seen.
+    /// Whether the values of each name may have all bytes of the set, as far as can be seen.
     pub fn has_everywhere(&self, set: &ByteSet) -> bool
         ensures { IsTrue result → (name : List ℕ) → IsPart (set_by set.now) ((names_in self.now).bytes name) }
     {
         set.is_part(&self.shared)
     }
 
-    /// The set's bytes, and those that the name has as its own.
+    /// The bytes of the set, and the name's own bytes.
     #[tactic(auto, using(crate::proofs::BlankLemmas::no_bytes))]
     fn own_with(&self, name: &[u8], set: &ByteSet) -> ByteSet
         ensures { (b : ℕ) → set_by result b ≡ either (own_set self.now.own name.now) (set_by set.now) b }
@@ -133,7 +133,7 @@ impl NameTable {
         }
     }
 
-    /// Lets the values of the name have the bytes of the set. Where memory is wanting nothing changes.
+    /// Lets the values of the name have the bytes of the set. If memory runs out nothing changes.
     pub fn hold(&mut self, alloc: Global, name: &[u8], set: &ByteSet) -> Result<(), NoMemory>
         ensures bytes { OnOk result ((other : List ℕ) (b : ℕ) → (names_in self.new).bytes other b
             ≡ ((names_in self.old).bytes other b || (same_text other name.now && set_by set.now b))) }

@@ -1,4 +1,4 @@
-//! What is known of the values of names in a channel whose own extension and context have known shapes.
+//! What is known of the values of names in a channel, given the shapes of its extension and context.
 ghost use Rattle.std.specs.Prelude.{◌≡◌, ℕ, List, IfOk, Some};
 ghost use Rattle.dp_conf.specs.Cut.{before_last};
 ghost use Rattle.dp_conf.specs.Levels.{cut_outside};
@@ -22,7 +22,7 @@ use dp_conf::{GroupKind, NoMemory, before_last, cut_once, cut_outside};
 use dp_vars::{Function, function_of, read_asked};
 use std::alloc::Global;
 
-/// What is known of names where the channel's own extension and context have these shapes.
+/// What is known of names if the channel's extension and context have these shapes.
 #[derive(Clone, Copy)]
 pub struct NamesAt<'a> {
     pub table: &'a NameTable,
@@ -46,14 +46,14 @@ impl NamedPieces for NamesAt<'_> {
     }
 }
 
-/// What a number may have: digits, or a minus sign.
+/// The bytes of a number: digits, or a minus sign.
 fn numeric() -> ByteSet
     ensures { (b : ℕ) → set_by result b ≡ bytes.numeric b }
 {
     ByteSet::digits().with(&ByteSet::of(b'-'))
 }
 
-/// The pieces of an expression by those of its body: any bytes of these or of a number.
+/// The pieces of an expression, given those of its body: any bytes of these or of a number.
 fn expression(alloc: Global, body: &[Piece]) -> Result<Vec<Piece>, NoMemory>
     ensures { IfOk result (λ pieces. shown_all pieces.items ≡ any_bytes_of (bytes.either (pieces_set (shown_all body.now)) bytes.numeric)) }
 {
@@ -77,7 +77,7 @@ impl NamesAt<'_> {
         *self.table.caller()
     }
 
-    /// The pieces of a variable. The channel gives its extension and its context before any other value of these names.
+    /// The pieces of a variable. The channel's extension and context come before any other value of these names.
     fn variable(&self, alloc: Global, name: &[u8]) -> Result<Vec<Piece>, NoMemory>
         ensures { IfOk result (λ pieces. shown_all pieces.items ≡ names.variable_pieces (names_of self.now) name.now) }
     {
@@ -90,7 +90,7 @@ impl NamesAt<'_> {
         }
     }
 
-    /// The bytes of the caller's number, where that is asked for.
+    /// The bytes of the caller's number, if that is requested.
     fn caller_set(&self, argument: &[u8]) -> ByteSet
         ensures { (b : ℕ) → set_by result b ≡ names.caller_set (names_of self.now).caller argument.now b }
     {
@@ -101,7 +101,7 @@ impl NamesAt<'_> {
         }
     }
 
-    /// The bytes of a function of an argument.
+    /// The bytes of a function with an argument.
     fn function_set(&self, function: Option<Function>, argument: &[u8]) -> ByteSet
         ensures { (b : ℕ) → set_by result b ≡ names.function_set (names_of self.now) function argument.now b }
     {
@@ -113,7 +113,7 @@ impl NamesAt<'_> {
         }
     }
 
-    /// The bytes of a function by its name and what stands after its `(`. A call that is not closed is nothing.
+    /// The bytes of a function, given its name and the text after its `(`. A call without a `)` is empty.
     fn called_set(&self, name: &[u8], rest: &[u8]) -> ByteSet
         ensures { (b : ℕ) → set_by result b ≡ names.called_set (names_of self.now) name.now (before_last 41 rest.now) b }
     {
@@ -133,7 +133,7 @@ impl NamesAt<'_> {
         }
     }
 
-    /// The pieces of a head, of which what stands after the first `:` asks for a part.
+    /// The pieces of a head, of which the text after the first `:` requests a part.
     fn part(&self, alloc: Global, head: &[u8], tail: &[u8]) -> Result<Vec<Piece>, NoMemory>
         ensures { IfOk result (λ pieces. shown_all pieces.items
             ≡ names.part_pieces (asked_of (Some tail.now)) (names.head_pieces (names_of self.now) head.now)) }
@@ -143,7 +143,7 @@ impl NamesAt<'_> {
         Ok(part)
     }
 
-    /// The pieces of a text in braces that has no groups.
+    /// The pieces of a text in braces without groups.
     fn body(&self, alloc: Global, body: &[u8]) -> Result<Vec<Piece>, NoMemory>
         ensures { IfOk result (λ pieces. shown_all pieces.items ≡ names.body_by (names_of self.now) body.now (cut_outside 58 body.now)) }
     {
@@ -153,7 +153,7 @@ impl NamesAt<'_> {
         }
     }
 
-    /// The bytes of a function of any argument.
+    /// The bytes of a function with any argument.
     fn any_argument_set(&self, function: Option<Function>) -> ByteSet
         ensures { (b : ℕ) → set_by result b ≡ names.any_argument_set (names_of self.now) function b }
     {
@@ -165,7 +165,7 @@ impl NamesAt<'_> {
         }
     }
 
-    /// The bytes of a text in braces that begins with this name and a `(`, and of which no more is known.
+    /// The bytes of a text in braces that begins with this name and a `(`, and of which nothing else is known.
     fn begun_set(&self, name: &[u8]) -> ByteSet
         ensures { (b : ℕ) → set_by result b ≡ texts.begun_set (names_of self.now) name.now b }
     {
@@ -176,7 +176,7 @@ impl NamesAt<'_> {
         }
     }
 
-    /// The pieces of a text in braces that is known as far as its first `(`, by the pieces before that.
+    /// The pieces of a text in braces that is known up to its first `(`, given the pieces before that.
     fn begun_pieces(&self, alloc: Global, front: &[Piece]) -> Result<Vec<Piece>, NoMemory>
         ensures { IfOk result (λ pieces. (name : List ℕ) → shown_all front.now ≡ exactly name
             → shown_all pieces.items ≡ texts.called_pieces (names_of self.now) name) }
@@ -189,7 +189,7 @@ impl NamesAt<'_> {
         Ok(pieces)
     }
 
-    /// The pieces of a text in braces that is not known, or known in part.
+    /// The pieces of a text in braces that is unknown, or partly known.
     fn unknown_pieces(&self, alloc: Global, body: &[Piece]) -> Result<Vec<Piece>, NoMemory>
         ensures { IfOk result (λ pieces. shown_all pieces.items ≡ texts.unknown_pieces (names_of self.now) (cut_known 40 (shown_all body.now))) }
     {
@@ -199,7 +199,7 @@ impl NamesAt<'_> {
         }
     }
 
-    /// The pieces of a text in braces by its own pieces.
+    /// The pieces of a text in braces, given its own pieces.
     fn braces(&self, alloc: Global, body: &[Piece]) -> Result<Vec<Piece>, NoMemory>
         ensures { IfOk result (λ pieces. shown_all pieces.items ≡ texts.braces_pieces (names_of self.now) (shown_all body.now) (text_known (shown_all body.now))) }
     {

@@ -1,4 +1,4 @@
-//! Parts of pieces, as `:offset` and `:offset:length` after a name ask for them.
+//! Parts of pieces, as requested by `:offset` and `:offset:length` after a name.
 ghost use Rattle.std.specs.Prelude.{◌≡◌, IfOk, Some};
 ghost use Rattle.dp_pieces.specs.Names as names;
 ghost use Rattle.dp_pieces.specs.Shown.{shown_all};
@@ -24,7 +24,8 @@ fn range_of(
     Ok(part)
 }
 
-/// The pieces from an offset ahead, whole or so many bytes. What is counted from the end is any bytes of the whole.
+/// The pieces from an offset that counts from the front, to the end or this many bytes. A length that counts from the end gives any bytes
+/// of the whole.
 fn part_ahead(
     alloc: Global,
     offset: usize,
@@ -40,7 +41,7 @@ fn part_ahead(
     }
 }
 
-/// The part of the pieces that is asked for.
+/// The requested part of the pieces.
 pub(crate) fn part_of(
     alloc: Global,
     asked: Selection,

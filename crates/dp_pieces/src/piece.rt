@@ -1,4 +1,4 @@
-//! Pieces of a text of which parts are unknown.
+//! Pieces of a text with unknown parts.
 ghost use Rattle.std.specs.Prelude.{◌≡◌, ◌||◌, ℕ, IfOk, MatchOption, None, Some};
 ghost use Rattle.dp_pieces.specs.Pieces.{byte_of, text_known, any_bytes_of, piece_set, pieces_set};
 ghost use Rattle.dp_pieces.specs.Sets.{set_by};
@@ -8,7 +8,7 @@ use crate::byte_set::ByteSet;
 use dp_conf::NoMemory;
 use std::alloc::Global;
 
-/// A piece of a text: a byte that stands there, one byte of a set, or any bytes of a set.
+/// A piece of a text: a known byte, one byte of a set, or any number of bytes of a set.
 #[derive(Clone, Copy)]
 pub enum Piece {
     Known(u8),
@@ -17,7 +17,7 @@ pub enum Piece {
 }
 
 impl Piece {
-    /// The byte that stands there, where that is known.
+    /// The byte of the piece, if it is known.
     pub fn byte(&self) -> Option<u8>
         ensures { result ≡ byte_of (shown_piece self.now) }
     {
@@ -27,7 +27,7 @@ impl Piece {
         }
     }
 
-    /// Whether the byte is one of the piece's.
+    /// Whether the byte is one of those of the piece.
     pub(crate) fn may_be(&self, byte: u8) -> bool
         ensures { result ≡ piece_set (shown_piece self.now) byte }
     {
@@ -38,7 +38,7 @@ impl Piece {
     }
 }
 
-/// Puts the bytes of a piece in the set.
+/// Adds the bytes of a piece to the set.
 fn add_piece(set: &mut ByteSet, piece: &Piece)
     ensures { (b : ℕ) → set_by set.new b ≡ (set_by set.old b || piece_set (shown_piece piece.now) b) }
 {
@@ -48,7 +48,7 @@ fn add_piece(set: &mut ByteSet, piece: &Piece)
     }
 }
 
-/// Puts the bytes of all pieces in the set.
+/// Adds the bytes of all pieces to the set.
 pub fn add_pieces(set: &mut ByteSet, pieces: &[Piece])
     ensures { (b : ℕ) → set_by set.new b ≡ (set_by set.old b || pieces_set (shown_all pieces.now) b) }
 {
@@ -66,7 +66,7 @@ pub fn bytes_of(pieces: &[Piece]) -> ByteSet
     set
 }
 
-/// Whether a text of the pieces may have the byte.
+/// Whether a text of the pieces may contain the byte.
 #[tactic(auto, unfolding(crate::specs::Pieces::pieces_set))]
 pub(crate) fn may_have(pieces: &[Piece], byte: u8) -> bool
     ensures { result ≡ pieces_set (shown_all pieces.now) byte }
@@ -81,7 +81,7 @@ pub(crate) fn may_have(pieces: &[Piece], byte: u8) -> bool
     false
 }
 
-/// Any bytes of the set, as one piece.
+/// Any number of bytes of the set, as a single piece.
 pub(crate) fn any_bytes(alloc: Global, set: ByteSet) -> Result<Vec<Piece>, NoMemory>
     ensures { IfOk result (λ all. shown_all all.items ≡ any_bytes_of (set_by set)) }
 {
@@ -90,7 +90,7 @@ pub(crate) fn any_bytes(alloc: Global, set: ByteSet) -> Result<Vec<Piece>, NoMem
     Ok(all)
 }
 
-/// The same pieces.
+/// A copy of the pieces.
 pub(crate) fn copy_of(alloc: Global, pieces: &[Piece]) -> Result<Vec<Piece>, NoMemory>
     ensures { IfOk result (λ copy. shown_all copy.items ≡ shown_all pieces.now) }
 {
@@ -99,7 +99,7 @@ pub(crate) fn copy_of(alloc: Global, pieces: &[Piece]) -> Result<Vec<Piece>, NoM
     Ok(copy)
 }
 
-/// The text of pieces that are all known, or None where some piece is not. It fails only when out of memory.
+/// The text of pieces that are all known, or None if one of them is not. It fails only if memory runs out.
 pub fn known_text(alloc: Global, pieces: &[Piece]) -> Result<Option<Vec<u8>>, NoMemory>
     ensures { IfOk result (λ text. MatchOption text (text_known (shown_all pieces.now) ≡ None) (λ bytes. text_known (shown_all pieces.now) ≡ Some bytes.items)) }
 {

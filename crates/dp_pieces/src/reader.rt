@@ -1,4 +1,4 @@
-//! A text read as its pieces, in one pass with no recursion.
+//! Reading a text as pieces, in one pass without recursion.
 ghost use Rattle.std.specs.Prelude.{◌≡◌, ◌+◌, ◌≤◌, ℕ, [], ◌∷◌, ◌++◌, IfOk, OnOk, drop, length, map, reverse, take};
 ghost use Rattle.dp_conf.specs.Groups.{opener};
 ghost use Rattle.dp_conf.specs.GroupsRead.{first_of};
@@ -14,10 +14,10 @@ use std::alloc::Global;
 
 /// What is known of the values of names.
 pub trait NamedPieces {
-    // What that is.
+    // What is known of the names.
     ghost names: { Self → Names };
 
-    /// The pieces of the value of a group, by the pieces of its body. It fails only when out of memory.
+    /// The pieces of the value of a group, given the pieces of its body. It fails only if memory runs out.
     fn group(&self, alloc: Global, kind: GroupKind, body: &[Piece]) -> Result<Vec<Piece>, NoMemory>
         ensures { IfOk result (λ pieces. shown_all pieces.items ≡ group_pieces (names self.now) kind (shown_all body.now)) };
 }
@@ -32,7 +32,7 @@ fn opener(kind: GroupKind) -> u8
     }
 }
 
-/// Pieces after others.
+/// Adds pieces at the end.
 fn push_all(pieces: &mut Vec<Piece>, more: &[Piece]) -> Result<(), NoMemory>
     ensures { OnOk result (pieces.new.items ≡ pieces.old.items ++ more.now) }
 {
@@ -40,7 +40,7 @@ fn push_all(pieces: &mut Vec<Piece>, more: &[Piece]) -> Result<(), NoMemory>
     Ok(())
 }
 
-/// Puts the pieces of a group in the place of its opening and its body.
+/// Replaces an opening and its body with the pieces of the group.
 fn put_group<N: NamedPieces>(
     alloc: Global,
     names: &N,
@@ -58,21 +58,21 @@ fn put_group<N: NamedPieces>(
     Ok(())
 }
 
-/// An opening that waits for its end, with the place of its `$` among the pieces.
+/// An opening that waits for its end, with the place of its `$` in the pieces.
 #[derive(Clone, Copy)]
 struct Open {
     kind: GroupKind,
     start: usize,
 }
 
-/// The pieces so far, and the openings that wait.
+/// The pieces so far, and the waiting openings.
 #[derive(Drop)]
 struct Reading {
     pieces: Vec<Piece>,
     waiting: Vec<Open>,
 }
 
-/// Reads a text that is not expanded yet as its pieces. It fails only when out of memory.
+/// Reads an unexpanded text as pieces. It fails only if memory runs out.
 pub fn read_pieces<N: NamedPieces>(
     alloc: Global,
     names: &N,
@@ -94,7 +94,7 @@ pub fn read_pieces<N: NamedPieces>(
 }
 
 impl Reading {
-    /// The kind of the innermost opening that waits.
+    /// The kind of the innermost waiting opening.
     fn innermost(&self) -> Option<GroupKind>
         ensures { result ≡ first_of (steps.kinds_of (read_of self.now).waiting) }
     {
@@ -128,7 +128,7 @@ impl Reading {
         Ok(())
     }
 
-    /// The pieces, where the text ends.
+    /// The pieces at the end of the text.
     fn finish(self) -> Vec<Piece>
         ensures { shown_all result.items ≡ (read_of self).pieces }
     {

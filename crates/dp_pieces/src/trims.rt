@@ -1,4 +1,4 @@
-//! Pieces without the blanks at the ends of their texts.
+//! Pieces of a text without the blanks at its ends.
 ghost use Rattle.std.specs.Prelude.{◌≡◌, ◌∷◌, IfOk, MatchOption, None, Some};
 ghost use Rattle.dp_pieces.specs.Bytes.{has_blank};
 ghost use Rattle.dp_pieces.specs.Pieces.{AnyOf};
@@ -12,7 +12,7 @@ use crate::piece::{Piece, add_pieces};
 use dp_conf::{NoMemory, is_blank};
 use std::alloc::Global;
 
-/// The pieces from the first that is no known blank.
+/// The pieces from the first one that is not a known blank.
 fn skip_blanks(pieces: &[Piece]) -> &[Piece]
     ensures { shown_all result.now ≡ without_blanks (shown_all pieces.now) }
 {
@@ -36,7 +36,7 @@ fn is_known_blank(piece: &Piece) -> bool
     }
 }
 
-/// Whether a text of these pieces begins with no blank. An empty text does not.
+/// Whether no text of these pieces begins with a blank. An empty text does not begin with one.
 fn starts_kept(pieces: &[Piece]) -> bool
     ensures { result ≡ trims.starts_kept (shown_all pieces.now) }
 {
@@ -56,7 +56,7 @@ fn starts_kept(pieces: &[Piece]) -> bool
     true
 }
 
-/// The bytes of a piece that may lose its blanks at the start: any bytes, or one byte that may be a blank.
+/// The bytes of a piece that may lose blanks at the start: any number of bytes, or one byte that may be a blank.
 fn losing(piece: &Piece) -> Option<ByteSet>
     ensures { MatchOption result (losing_set (shown_piece piece.now) ≡ None) (λ set. losing_set (shown_piece piece.now) ≡ Some (set_by set)) }
 {
@@ -67,7 +67,7 @@ fn losing(piece: &Piece) -> Option<ByteSet>
     }
 }
 
-/// Any bytes of the set before these pieces.
+/// Any number of bytes of the set, before these pieces.
 fn any_before(alloc: Global, set: ByteSet, pieces: &[Piece]) -> Result<Vec<Piece>, NoMemory>
     ensures { IfOk result (λ all. shown_all all.items ≡ AnyOf (set_by set) ∷ shown_all pieces.now) }
 {
@@ -77,7 +77,7 @@ fn any_before(alloc: Global, set: ByteSet, pieces: &[Piece]) -> Result<Vec<Piece
     Ok(all)
 }
 
-/// Any bytes of the set before these pieces; where these may lose blanks too, any bytes of all.
+/// Any number of bytes of the set, before these pieces; if these may lose blanks too, any number of bytes of all.
 fn loose_front(alloc: Global, set: ByteSet, pieces: &[Piece]) -> Result<Vec<Piece>, NoMemory>
     ensures { IfOk result (λ loose. shown_all loose.items ≡ trims.loose_front (set_by set) (shown_all pieces.now)) }
 {
@@ -90,7 +90,7 @@ fn loose_front(alloc: Global, set: ByteSet, pieces: &[Piece]) -> Result<Vec<Piec
     Ok(loose)
 }
 
-/// What stands in the place of pieces whose first is no known blank, without the blanks at the start, or None where they stay as they are.
+/// The replacement for pieces whose first one is not a known blank, without the blanks at the start, or None if they are unchanged.
 fn loose_start(alloc: Global, pieces: &[Piece]) -> Result<Option<Vec<Piece>>, NoMemory>
     ensures { IfOk result (λ loose. MatchOption loose (start_by (shown_all pieces.now) ≡ shown_all pieces.now)
         (λ all. start_by (shown_all pieces.now) ≡ shown_all all.items)) }
@@ -104,7 +104,7 @@ fn loose_start(alloc: Global, pieces: &[Piece]) -> Result<Option<Vec<Piece>>, No
     Ok(None)
 }
 
-/// A piece that more pieces follow, which may all lose their blanks.
+/// A piece before others that may all lose their blanks.
 fn soften(piece: Piece) -> Piece
     ensures { shown_piece result ≡ soft_piece (shown_piece piece) }
 {
@@ -127,7 +127,7 @@ fn soften(piece: Piece) -> Piece
     }
 }
 
-/// The pieces up to the last that is no known blank.
+/// The pieces up to the last one that is not a known blank.
 fn skip_last(pieces: &[Piece]) -> &[Piece]
     ensures { shown_all result.now ≡ without_last (shown_all pieces.now) }
 {
@@ -153,7 +153,7 @@ fn trimmed_end(alloc: Global, pieces: &[Piece]) -> Result<Vec<Piece>, NoMemory>
     Ok(kept)
 }
 
-/// The pieces of a text without the blanks at both ends. It fails only when out of memory.
+/// The pieces of a text without the blanks at both ends. It fails only if memory runs out.
 pub fn trimmed(alloc: Global, pieces: &[Piece]) -> Result<Vec<Piece>, NoMemory>
     ensures { IfOk result (λ kept. shown_all kept.items ≡ trims.without_end_blanks (shown_all pieces.now)) }
 {

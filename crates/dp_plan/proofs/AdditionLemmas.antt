@@ -1,4 +1,4 @@
--- An entry whose place or label is taken is noted, and any other is added.
+-- An entry whose place or label is taken gets a note, and any other entry is added.
 use Rattle.std.proofs.Common.{◌≡◌, ℕ, Bool, true, false, cond, List, ◌++◌, ◌∷◌, [], Option, Some, None, refl, ap, ◌∙◌, sym}
 use Rattle.std.specs.Option.{option_to_list}
 use Rattle.dp_conf.specs.Words.{same_text}
@@ -13,19 +13,19 @@ use Rattle.dp_plan.specs.declared.entry.Entry.{Entry}
 use Rattle.dp_plan.specs.declared.note.NoteKind.{NoteKind}
 use Rattle.dp_plan.specs.declared.note.NoteKind.TheVariants.{DoublePriority, DoubleLabel}
 
--- what is noted, or the draft with the entry
+-- the draft with the note, or the draft with the entry
 abbrev pub noted_or : Drafted → ℕ → Drafted → Option NoteKind → Drafted
 noted_or d line with_item None = with_item
 noted_or d line with_item (Some kind) = with_note d line kind
 
--- the draft with what the entry takes
+-- the draft with the place and the label of the entry taken
 abbrev with_claim : Drafted → ℕ → Entry → Drafted
 with_claim d number entry = record d {
   taken = d.taken ++ slot_of number entry ∷ [];
   labels = d.labels ++ option_to_list (label_of number entry);
 }
 
--- the draft with what the entry takes, and the entry
+-- the draft with the place and the label of the entry taken, and the entry
 abbrev with_both : Drafted → ℕ → ℕ → ℕ → Entry → Drafted
 with_both d line place number entry = record (with_claim d number entry) {
   contexts = changed_at (with_entry entry) place d.contexts;
@@ -64,7 +64,7 @@ kept_addition d line place number entry e =
       by false true same = absurd cc
       by false false same = refl
 
--- a context that stands among the names is there already
+-- a context whose name is among the names exists already
 opened_before : (d : Drafted) (context : List ℕ) (place : ℕ) → StandsAt (same_text context) d.names place → with_context d context ≡ d
 opened_before d context place stands = ap (λ t. cond t d (record d {
   names = d.names ++ context ∷ [];
@@ -73,14 +73,14 @@ opened_before d context place stands = ap (λ t. cond t d (record d {
   lines = d.lines ++ [] ∷ [];
 })) stands.there
 
--- so an entry goes to its place, by the number of its extension
+-- so an entry is added at its place, given the number of its extension
 pub added_open : (d : Drafted) (table : Table) (line place number : ℕ) (context : List ℕ) (entry : Entry) → StandsAt (same_text context) d.names place → number ≡ number_in table (extension_of context entry.name)
     → with_item d table (Adds line context entry) ≡ with_addition d line place number entry
 added_open d table line place number context entry stands is =
     ap (λ (o : Drafted). with_entry_of o line context (number_in table (extension_of context entry.name)) entry) (opened_before d context place stands)
     ∙ (λ i. with_addition d line (sym stands.at i) (sym is i) entry)
 
--- and so does an include
+-- and so is an include
 pub included_open : (d : Drafted) (table : Table) (line place : ℕ) (context name : List ℕ) → StandsAt (same_text context) d.names place
     → with_item d table (Includes line context name) ≡ with_inclusion d line place name
 included_open d table line place context name stands =

@@ -1,4 +1,4 @@
--- The entries that are kept stand at different places, and so do those of each context.
+-- The entries that are kept have different places, and so do those of each context.
 use Rattle.std.proofs.Common.{◌≡◌, ℕ, Bool, true, false, cond, ◌&&◌, ◌==◌, List, [], ◌∷◌, ◌++◌, map, refl, ap, subst, ◌∙◌, sym}
 use Rattle.std.specs.List.{All, AllByRecursion, IsDistinct, filter}
 use Rattle.std.specs.Cmp.{IsEquivalence, nat_eq_equiv}
@@ -17,7 +17,7 @@ use Rattle.dp_plan.proofs.DraftLemmas.{kept_by-filter_map, distinct-more}
 use Rattle.dp_plan.proofs.HistoryLemmas.{both_equiv, same_extension_equiv}
 use Rattle.dp_plan.proofs.PositionLemmas.{or_false}
 
--- to stand at the same place is an equivalence
+-- having the same place is an equivalence
 same_place_equiv : IsEquivalence same_place
 same_place_equiv =
     both_equiv (on_equiv (λ (a : Addition). extension_of a.context a.entry.name) same_extension_equiv) (on_equiv (λ (a : Addition). a.entry.priority) nat_eq_equiv)
@@ -26,12 +26,12 @@ kept_in-push : (items : List Item) (x : Item) → IsDistinct same_place (kept_in
 kept_in-push items x apart = subst (IsDistinct same_place) (sym (kept_by-filter_map is_taken added_in items x))
     (distinct-more same_place_equiv is_taken (λ kept a free. (or_false (is_place_taken kept a) (is_label_taken kept a) free).0) (kept_in items) (added_in x) apart)
 
--- the entries that are kept stand at different places
+-- the entries that are kept have different places
 pub kept-apart : (items : List Item) → IsDistinct same_place (kept_in items)
 unfolding IsDistinct
 kept-apart items = snoc_from (λ xs. IsDistinct same_place (kept_in xs)) kept_in-push [] items tt
 
--- those of one context that stand at other places than one of its entries have another name or priority
+-- entries of a context whose places differ from that of one of its entries have another name or priority
 others-apart : (name : List ℕ) (a : Addition) (ys : List Addition) → same_text name a.context ≡ true → AllByRecursion (λ y. same_place a y ≡ false) ys → AllByRecursion (λ e. shares_place a.entry e ≡ false) (map (λ y. y.entry) (filter (λ y. same_text name y.context) ys))
 others-apart name a [] e apart = tt
 others-apart name a (y ∷ ys) e apart = by (others-apart name a ys e apart.1) (same_text name y.context) refl where
@@ -44,7 +44,7 @@ others-apart name a (y ∷ ys) e apart = by (others-apart name a ys e apart.1) (
       (ap (λ t. (t && same_name a.entry.name y.entry.name) && a.entry.priority == y.entry.priority) (sym there) ∙ apart.0, rest)
   by rest false f = rest
 
--- the entries of a context are apart where all that are kept are
+-- the entries of a context are apart if all kept entries are
 entries-apart : (name : List ℕ) (kept : List Addition) → IsDistinct same_place kept → AreApart (map (λ a. a.entry) (filter (λ a. same_text name a.context) kept))
 unfolding IsDistinct
 entries-apart name [] apart = tt

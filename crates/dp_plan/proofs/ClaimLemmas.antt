@@ -1,9 +1,9 @@
--- What an entry takes where it has no label.
+-- An entry without a label takes no label.
 use Rattle.std.proofs.Common.{◌≡◌, List, None, ap, sym}
 use Rattle.std.proofs.lemmas.List.{append-nil}
 use Rattle.dp_plan.specs.steps.Draft.{Drafted, with_label}
 use Rattle.dp_plan.specs.declared.label.Label.{Label}
 
--- where there is no label, none is taken
+-- without a label no label is taken
 pub unlabelled : (d : Drafted) → d ≡ with_label d None
 unlabelled d = ap (λ (labels : List Label). record d { labels = labels }) (sym (append-nil d.labels))

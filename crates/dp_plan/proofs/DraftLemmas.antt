@@ -1,4 +1,4 @@
--- What the items make of a draft, one after another, is what the dialplan of all of them says.
+-- The draft made by the items, one after another, is the dialplan of all of them.
 use Rattle.std.proofs.Common.{◌≡◌, ℕ, suc, ◌+◌, Bool, true, false, cond, not, ◌&&◌, ◌||◌, ◌==◌, List, [], ◌∷◌, ◌++◌, Option, Some, None, map, fold, get_or, refl, ap, subst, ◌∙◌, sym, arith}
 use Rattle.std.specs.List.{AllByRecursion, IsDistinct, list_any, filter_map, filter, flat_map, cons_option, position_or_len}
 use Rattle.std.specs.Option.{option_map, option_to_list}
@@ -42,7 +42,7 @@ use Rattle.dp_plan.proofs.HistoryLemmas.{reading_of}
 use Rattle.dp_plan.proofs.PositionLemmas.{or_true, or_right}
 use Rattle.dp_plan.proofs.TableLemmas.{is_known, known-kept, known-with_priority, number-kept, number-with_priority, same_number}
 
--- the list with one more element, unless it is taken up
+-- the list with one more element, unless that is taken
 abbrev pub more_by : {X : Type 0} → (List X → X → Bool) → List X → Option X → List X
 more_by taken kept None = kept
 more_by taken kept (Some x) = kept ++ cond (taken kept x) [] (x ∷ [])
@@ -64,7 +64,7 @@ kept_by-option taken xs (Some x) = kept_by-push taken [] xs x
 pub kept_by-filter_map : {X Y : Type 0} (taken : List Y → Y → Bool) (h : X → Option Y) (xs : List X) (x : X) → kept_by taken [] (filter_map h (xs ++ x ∷ [])) ≡ more_by taken (kept_by taken [] (filter_map h xs)) (h x)
 kept_by-filter_map taken h xs x = ap (kept_by taken []) (filter_map-append h xs (x ∷ [])) ∙ kept_by-option taken (filter_map h xs) (h x)
 
--- what is remarked of an item, by the items before it
+-- the remark on an item, given the items before it
 abbrev pub remark_of : List Item → Item → List Remark
 remark_of before (Begins section) = []
 remark_of before (Sets global) = []
@@ -73,30 +73,30 @@ remark_of before (Adds line context entry) =
 remark_of before (Includes line context name) = Asks line name ∷ []
 remark_of before (Unknown line) = Noted (record { line = line; kind = UnknownKey }) ∷ []
 
--- the remarks of the items
+-- the remarks on the items
 abbrev pub remarks_in : List Item → List Remark
 remarks_in items = flat_map (λ remarks. remarks) (each_after remark_of [] items)
 
--- one more item's remark goes last
+-- the remark on one more item comes last
 remarks_in-push : (items : List Item) (x : Item) → remarks_in (items ++ x ∷ []) ≡ remarks_in items ++ remark_of items x
 remarks_in-push items x =
     ap (flat_map (λ (remarks : List Remark). remarks)) (each_after-push remark_of [] items x)
     ∙ (flat_map-append (λ (remarks : List Remark). remarks) (each_after remark_of [] items) (remark_of items x ∷ [])
     ∙ ap (λ (more : List Remark). flat_map (λ (remarks : List Remark). remarks) (each_after remark_of [] items) ++ more) (append-nil (remark_of items x)))
 
--- one more item's line goes last
+-- the line of one more item comes last
 pub kept_lines-push : (items : List Item) (x : Item) → kept_lines (items ++ x ∷ []) ≡ kept_lines items ++ kept_line items x
 kept_lines-push items x =
     ap (flat_map (λ (lines : List KeptLine). lines)) (each_after-push kept_line [] items x)
     ∙ (flat_map-append (λ (lines : List KeptLine). lines) (each_after kept_line [] items) (kept_line items x ∷ [])
     ∙ ap (λ (more : List KeptLine). flat_map (λ (lines : List KeptLine). lines) (each_after kept_line [] items) ++ more) (append-nil (kept_line items x)))
 
--- remarks that are notes are those notes
+-- remarks that are notes give those notes
 remark_notes-noted : (names : List (List ℕ)) (notes : List Note) → flat_map (remark_notes names) (map Noted notes) ≡ notes
 remark_notes-noted names [] = refl
 remark_notes-noted names (note ∷ notes) = ap (λ (ns : List Note). note ∷ ns) (remark_notes-noted names notes)
 
--- the remarks of an item come to its notes
+-- the remarks on an item give its notes
 remark_notes-one : (names : List (List ℕ)) (before : List Item) (x : Item) → flat_map (remark_notes names) (remark_of before x) ≡ note_of names before x
 remark_notes-one names before (Begins section) = refl
 remark_notes-one names before (Sets global) = refl
@@ -110,7 +110,7 @@ remark_notes-each names before (x ∷ items) =
     flat_map-append (remark_notes names) (remark_of before x) (flat_map (λ remarks. remarks) (each_after remark_of (before ++ x ∷ []) items))
     ∙ (λ i. remark_notes-one names before x i ++ remark_notes-each names (before ++ x ∷ []) items i)
 
--- the remarks of the items come to their notes
+-- the remarks on the items give their notes
 pub remark_notes-notes : (items : List Item) → flat_map (remark_notes (names_in items)) (remarks_in items) ≡ notes_of items
 unfolding notes_of
 remark_notes-notes items = remark_notes-each (names_in items) [] items
@@ -133,7 +133,7 @@ slot_in es a = slot_of (number_of es a) a.entry
 abbrev label_in : Priorities → Addition → Option Label
 label_in es a = label_of (number_of es a) a.entry
 
--- the numbers of the extensions of what is kept in the context of a name
+-- the numbers of the extensions of the entries kept in the context with a name
 abbrev pub numbers_of : Priorities → List Addition → List ℕ → List ℕ
 numbers_of es kept name = map (number_of es) (filter (λ a. same_text name a.context) kept)
 
@@ -141,7 +141,7 @@ numbers_of es kept name = map (number_of es) (filter (λ a. same_text name a.con
 abbrev pub IsKnown : Priorities → List Addition → Type 0
 IsKnown es kept = AllByRecursion (λ a. is_known es (extension_in a) ≡ true) kept
 
--- a draft by its extensions, its global variables, its names, what is kept and by which lines, its includes, and its remarks
+-- a draft with these extensions, global variables, names, kept entries and their lines, includes, and remarks
 abbrev pub draft_of_parts : Priorities → List GlobalVariable → List (List ℕ) → List Addition → List KeptLine → List Inclusion → List Remark → Drafted
 draft_of_parts es globals names kept lines included remarks = record {
   globals = globals;
@@ -154,23 +154,23 @@ draft_of_parts es globals names kept lines included remarks = record {
   remarks = remarks;
 }
 
--- the draft that the items say
+-- the draft of the items
 abbrev pub drafted_in : List Item → Drafted
 drafted_in items = draft_of_parts (reading_of items).extensions (filter_map global_in items) (names_in items) (kept_in items) (kept_lines items) (filter_map included_in items) (remarks_in items)
 
--- every context of what is kept, of its lines, and of what is included, has its name among the names
+-- every context of a kept entry, of its line, and of an include, has its name among the names
 abbrev pub IsAllNamed : List (List ℕ) → List Addition → List KeptLine → List Inclusion → Type 0
 IsAllNamed names kept lines included =
     AllByRecursion (λ (a : Addition). is_named names a.context ≡ true) kept × AllByRecursion (λ (l : KeptLine). is_named names l.context ≡ true) lines
     × AllByRecursion (λ (k : Inclusion). is_named names k.context ≡ true) included
 
--- texts that are the same are in the same lists
+-- equal texts are in the same lists
 is_named-same : (names : List (List ℕ)) (a b : List ℕ) → same_text a b ≡ true → is_named names a ≡ is_named names b
 is_named-same [] a b e = refl
 is_named-same (n ∷ names) a b e =
     ap (λ t. t || is_named names a) (nat_list_eq_equiv.congr a b n e) ∙ ap (λ t. same_text b n || t) (is_named-same names a b e)
 
--- what belongs to a context of an absent name is nothing
+-- a context without a name in the list has no elements
 filter-absent : {X : Type 0} (name_of : X → List ℕ) (names : List (List ℕ)) (xs : List X) (name : List ℕ) → is_named names name ≡ false
     → AllByRecursion (λ x. is_named names (name_of x) ≡ true) xs → filter (λ x. same_text name (name_of x)) xs ≡ []
 filter-absent name_of names [] name absent named = refl
@@ -184,7 +184,7 @@ filter-absent {X} name_of names (x ∷ xs) name absent named =
         absurd cc
     by there rest false e = rest
 
--- more names name what was named
+-- a longer list of names contains the names of a shorter one
 is_named-append : (names more : List (List ℕ)) (name : List ℕ) → is_named names name ≡ true → is_named (names ++ more) name ≡ true
 is_named-append names more name e = list_any-append (same_text name) names more ∙ or_true (is_named names name) (is_named more name) e
 
@@ -193,14 +193,14 @@ is_named-last names name =
     list_any-append (same_text name) names (name ∷ [])
     ∙ or_right (is_named names name) (same_text name name || false) (or_true (same_text name name) false (nat_list_eq_equiv.refl name))
 
--- a name that was added is named
+-- a name that was added is in the list
 is_named-more : (names : List (List ℕ)) (name : List ℕ) → is_named (more_by is_named names (Some name)) name ≡ true
 is_named-more names name = by (is_named names name) refl where
   by : (t : Bool) → is_named names name ≡ t → is_named (names ++ cond t [] (name ∷ [])) name ≡ true
   by true e = is_named-append names [] name e
   by false e = is_named-last names name
 
--- one more name leaves all named
+-- with one more name all contexts are still named
 IsAllNamed-more : (names : List (List ℕ)) (kept : List Addition) (lines : List KeptLine) (included : List Inclusion) (name : List ℕ)
     → IsAllNamed names kept lines included → IsAllNamed (more_by is_named names (Some name)) kept lines included
 IsAllNamed-more names kept lines included name named =
@@ -213,7 +213,7 @@ IsAllNamed-more names kept lines included name named =
           (λ k. is_named-append names more k.context) included named.2,
     )
 
--- one more element leaves them distinct, where what is the same as one of them is taken up
+-- with one more element they stay distinct, if an element equal to one of them is taken
 pub distinct-more : {X : Type 0} {eq : X → X → Bool} → IsEquivalence eq → (taken : List X → X → Bool)
     → ((kept : List X) (x : X) → taken kept x ≡ false → list_any (eq x) kept ≡ false)
     → (kept : List X) (o : Option X) → IsDistinct eq kept → IsDistinct eq (more_by taken kept o)
@@ -228,7 +228,7 @@ names-more = distinct-more nat_list_eq_equiv is_named (λ names name e. e)
 
 -- ---- contexts that begin
 
--- the draft with a context that is new or there already
+-- the draft with a context that is new or exists already
 with_context-is : (es : Priorities) (globals : List GlobalVariable) (names : List (List ℕ)) (kept : List Addition) (lines : List KeptLine) (included : List Inclusion) (remarks : List Remark) (name : List ℕ) → IsAllNamed names kept lines included → with_context (draft_of_parts es globals names kept lines included remarks) name ≡ draft_of_parts es globals (more_by is_named names (Some name)) kept lines included remarks
 with_context-is es globals names kept lines included remarks name named = by (is_named names name) refl where
   before : Drafted
@@ -247,7 +247,7 @@ with_context-is es globals names kept lines included remarks name named = by (is
 
 -- ---- a context that is changed
 
--- contexts of other names stay as they were
+-- contexts with other names are unchanged
 map-others : {C : Type 0} (make made : List ℕ → C) (context : List ℕ) (names : List (List ℕ)) (name : List ℕ)
     → ((n : List ℕ) → same_text n context ≡ false → made n ≡ make n) → same_text name context ≡ true
     → AllByRecursion (λ n. same_text name n ≡ false) names → map made names ≡ map make names
@@ -256,7 +256,7 @@ map-others make made context (n ∷ names) name other e apart =
     let not_this : same_text n context ≡ false = nat_list_eq_equiv.symm n context ∙ (sym (nat_list_eq_equiv.congr name context n e) ∙ apart.0) in
     λ i. other n not_this i ∷ map-others make made context names name other e apart.1 i
 
--- what changes the context of one name alone changes the one at the name's place
+-- a change of the context with one name is a change at the place of the name
 map-changed : {C : Type 0} (make made : List ℕ → C) (change : C → C) (context : List ℕ) (names : List (List ℕ))
     → ((n : List ℕ) → same_text n context ≡ true → made n ≡ change (make n)) → ((n : List ℕ) → same_text n context ≡ false → made n ≡ make n)
     → IsDistinct same_text names → map made names ≡ changed_at change (position_or_len (same_text context) names) (map make names)
@@ -274,14 +274,14 @@ map-changed {C} make made change context (n ∷ names) this other distinct =
         let next : suc (position_or_len (same_text context) names) ≡ 1 + position_or_len (same_text context) names = omega arith in
         (λ i. other n (nat_list_eq_equiv.symm n context ∙ e) i ∷ later i) ∙ ap (λ place. changed_at change place (map make (n ∷ names))) next
 
--- the parts of what is of a name, with one more element
+-- the parts of the elements with a name, with one more element
 parts-push : {X Y : Type 0} (key : X → List ℕ) (part : X → Y) (xs : List X) (x : X) (name : List ℕ) (t : Bool) → same_text name (key x) ≡ t
     → map part (filter (λ y. same_text name (key y)) (xs ++ x ∷ [])) ≡ map part (filter (λ y. same_text name (key y)) xs) ++ map part (cond t (x ∷ []) [])
 parts-push key part xs x name t e =
     ap (map part) (filter-append (λ y. same_text name (key y)) xs (x ∷ []) ∙ ap (λ u. filter (λ y. same_text name (key y)) xs ++ cond u (x ∷ []) []) e)
     ∙ map-append part (filter (λ y. same_text name (key y)) xs) (cond t (x ∷ []) [])
 
--- one more entry goes to the context of its name
+-- one more entry is added to the context with its name
 contexts-entry : (kept : List Addition) (included : List Inclusion) (a : Addition) (names : List (List ℕ)) → IsDistinct same_text names
     → map (context_of (kept ++ a ∷ []) included) names ≡ changed_at (with_entry a.entry) (position_or_len (same_text a.context) names) (map (context_of kept included) names)
 contexts-entry kept included a names distinct =
@@ -296,7 +296,7 @@ contexts-entry kept included a names distinct =
         → (context_of (kept ++ a ∷ []) included n).entries ≡ (context_of kept included n).entries ++ map (λ x. x.entry) (cond t (a ∷ []) [])
     pushed = parts-push (λ (x : Addition). x.context) (λ (x : Addition). x.entry) kept a
 
--- one more number goes to those of the context of its entry
+-- one more number is added to those of the context of its entry
 numbers-entry : (es : Priorities) (kept : List Addition) (a : Addition) (names : List (List ℕ)) → IsDistinct same_text names
     → map (numbers_of es (kept ++ a ∷ [])) names ≡ changed_at (with_number (number_of es a)) (position_or_len (same_text a.context) names) (map (numbers_of es kept) names)
 numbers-entry es kept a names distinct =
@@ -308,7 +308,7 @@ numbers-entry es kept a names distinct =
         → numbers_of es (kept ++ a ∷ []) n ≡ numbers_of es kept n ++ map (number_of es) (cond t (a ∷ []) [])
     pushed = parts-push (λ (x : Addition). x.context) (number_of es) kept a
 
--- one more line goes to those of the context of its entry
+-- one more line is added to those of the context of its entry
 lines-entry : (lines : List KeptLine) (l : KeptLine) (names : List (List ℕ)) → IsDistinct same_text names
     → map (context_lines (lines ++ l ∷ [])) names ≡ changed_at (with_number l.line) (position_or_len (same_text l.context) names) (map (context_lines lines) names)
 lines-entry lines l names distinct =
@@ -320,7 +320,7 @@ lines-entry lines l names distinct =
         → context_lines (lines ++ l ∷ []) n ≡ context_lines lines n ++ map (λ x. x.line) (cond t (l ∷ []) [])
     pushed = parts-push (λ (x : KeptLine). x.context) (λ (x : KeptLine). x.line) lines l
 
--- one more include goes to the context of its name
+-- one more include is added to the context with its name
 contexts-include : (kept : List Addition) (included : List Inclusion) (k : Inclusion) (names : List (List ℕ)) → IsDistinct same_text names
     → map (context_of kept (included ++ k ∷ [])) names ≡ changed_at (with_include k.name) (position_or_len (same_text k.context) names) (map (context_of kept included) names)
 contexts-include kept included k names distinct =
@@ -335,9 +335,9 @@ contexts-include kept included k names distinct =
         → (context_of kept (included ++ k ∷ []) n).includes ≡ (context_of kept included n).includes ++ map (λ x. x.name) (cond t (k ∷ []) [])
     pushed = parts-push (λ (x : Inclusion). x.context) (λ (x : Inclusion). x.name) included k
 
--- ---- what is taken
+-- ---- taken places and labels
 
--- the places that are taken, by the slots and by what is kept
+-- the taken places, given the slots and the kept entries
 is_slot_taken-is : (es : Priorities) (kept : List Addition) (a : Addition) → is_known es (extension_in a) ≡ true → IsKnown es kept → list_any (same_slot (slot_in es a)) (map (slot_in es) kept) ≡ is_place_taken kept a
 is_slot_taken-is es [] a known all = refl
 is_slot_taken-is es (k ∷ kept) a known all =
@@ -345,7 +345,7 @@ is_slot_taken-is es (k ∷ kept) a known all =
     let rest = is_slot_taken-is es kept a known all.1 in
     λ i. (same i && a.entry.priority == k.entry.priority) || rest i
 
--- a label among those that are taken, by the labels and by what is kept
+-- whether a label is taken, given the labels and the kept entries
 marked-some : (es : Priorities) (kept : List Addition) (a : Addition) (label : List ℕ) → is_known es (extension_in a) ≡ true → IsKnown es kept → list_any (same_marked (record { extension = number_of es a; label = label })) (filter_map (label_in es) kept) ≡ list_any (λ b. of_one_extension a b && shares_label (Some label) b.entry.label) kept
 marked-some es [] a label known all = refl
 marked-some es (k ∷ kept) a label known all =
@@ -411,7 +411,7 @@ with_inclusion-is es globals names kept lines included remarks line k distinct =
 abbrev priorities_after : Reading → Item → Priorities
 priorities_after reading x = (after reading x).extensions
 
--- what two functions say of each element alike, they say of all
+-- two functions that agree on each element give the same list
 map-alike : {X Y : Type 0} (f g : X → Y) (xs : List X) → AllByRecursion (λ x. f x ≡ g x) xs → map f xs ≡ map g xs
 map-alike f g [] alike = refl
 map-alike f g (x ∷ xs) alike = λ i. alike.0 i ∷ map-alike f g xs alike.1 i
@@ -420,7 +420,7 @@ filter_map-alike : {X Y : Type 0} (f g : X → Option Y) (xs : List X) → AllBy
 filter_map-alike f g [] alike = refl
 filter_map-alike f g (x ∷ xs) alike = λ i. cons_option (alike.0 i) (filter_map-alike f g xs alike.1 i)
 
--- what holds of each element holds of those that a test lets pass
+-- what holds of each element holds of those that pass a test
 pub each-filtered : {X : Type 0} (P : X → Type 0) (test : X → Bool) (xs : List X) → AllByRecursion P xs → AllByRecursion P (filter test xs)
 each-filtered P test [] all = tt
 each-filtered {X} P test (x ∷ xs) all = by (each-filtered P test xs all.1) (test x) where
@@ -428,7 +428,7 @@ each-filtered {X} P test (x ∷ xs) all = by (each-filtered P test xs all.1) (te
   by rest true = (all.0, rest)
   by rest false = rest
 
--- a line of an extension leaves the draft of what is kept as it is
+-- a line of an extension does not change the draft of the kept entries
 draft_of_parts-written : (es : Priorities) (e : Extension) (v : ℕ) (globals : List GlobalVariable) (names : List (List ℕ)) (kept : List Addition) (lines : List KeptLine) (included : List Inclusion) (remarks : List Remark) → IsKnown es kept → draft_of_parts es globals names kept lines included remarks ≡ draft_of_parts (insert_entry same_extension es e v) globals names kept lines included remarks
 draft_of_parts-written es e v globals names kept lines included remarks all = λ i. record {
   globals = globals;
@@ -455,12 +455,12 @@ draft_of_parts-written es e v globals names kept lines included remarks all = λ
       map-alike (number_of es) (number_of es') ours
       (each-weaker known (λ a. number_of es a ≡ number_of es' a) same ours (each-filtered known (λ a. same_text name a.context) kept all))
 
--- the extensions of what is kept stay known
+-- the extensions of the kept entries stay known
 known-all : (es : Priorities) (e : Extension) (v : ℕ) (kept : List Addition) → IsKnown es kept → IsKnown (insert_entry same_extension es e v) kept
 known-all es e v kept all =
     each-weaker (λ a. is_known es (extension_in a) ≡ true) (λ a. is_known (insert_entry same_extension es e v) (extension_in a) ≡ true) (λ a. known-kept es e v (extension_in a)) kept all
 
--- one more item, by the parts of the draft
+-- one more item, given the parts of the draft
 with_item-is : (reading : Reading) (globals : List GlobalVariable) (names : List (List ℕ)) (kept : List Addition) (lines : List KeptLine) (included : List Inclusion) (remarks : List Remark) (x : Item) → IsAllNamed names kept lines included → IsDistinct same_text names → IsKnown reading.extensions kept
     → (before : List Item) → kept_in before ≡ kept
     → with_item (draft_of_parts reading.extensions globals names kept lines included remarks) reading.extensions x ≡ draft_of_parts (priorities_after reading x) (globals ++ cons_option (global_in x) []) (more_by is_named names (context_in x)) (more_by is_taken kept (added_in x)) (lines ++ kept_line before x) (included ++ cons_option (included_in x) []) (remarks ++ remark_of before x)
@@ -498,14 +498,14 @@ pub reading-items : (made : MadeOf) (items : List Item) → (fold after_item mad
 reading-items made [] = refl
 reading-items made (item ∷ items) = reading-items (after_item made item) items
 
--- what the items make of a draft, and what stays true of its names and its extensions
+-- the draft that the items make, and what stays true of its names and its extensions
 pub record Makes (items : List Item) : Type 0 where
   pub draft : (fold after_item unmade items).draft ≡ drafted_in items
   pub known : IsKnown (reading_of items).extensions (kept_in items)
   pub named : IsAllNamed (names_in items) (kept_in items) (kept_lines items) (filter_map included_in items)
   pub distinct : IsDistinct same_text (names_in items)
 
--- what holds of each element, and of one more where it is taken up
+-- what holds of each element holds with one more that is taken
 each-more : {X : Type 0} (P : X → Type 0) (taken : List X → X → Bool) (kept : List X) (o : Option X)
     → AllByRecursion P kept → AllByRecursion P (cons_option o []) → AllByRecursion P (more_by taken kept o)
 each-more P taken kept None all one = all
@@ -515,7 +515,7 @@ each-more {X} P taken kept (Some x) all one = each-append P kept (cond (taken ke
     by true = tt
     by false = one
 
--- with one more item, all are named
+-- with one more item all contexts are named
 named-more : (before : List Item) (names : List (List ℕ)) (kept : List Addition) (lines : List KeptLine) (included : List Inclusion) (x : Item) → IsAllNamed names kept lines included
     → IsAllNamed (more_by is_named names (context_in x)) (more_by is_taken kept (added_in x)) (lines ++ kept_line before x) (included ++ cons_option (included_in x) [])
 named-more items names kept lines included x named =
@@ -555,7 +555,7 @@ named-more items names kept lines included x named =
     inclusion (Includes line context name) = (is_named-more names context, tt)
     inclusion (Unknown line) = tt
 
--- the extensions of what is kept with one more item are known
+-- the extensions of the kept entries with one more item are known
 known-more : (reading : Reading) (kept : List Addition) (x : Item) → IsKnown reading.extensions kept
     → IsKnown (priorities_after reading x) (more_by is_taken kept (added_in x))
 known-more reading kept (Begins section) all = all
@@ -594,7 +594,7 @@ distinct-none : IsDistinct same_text []
 unfolding IsDistinct
 distinct-none = tt
 
--- the items make the draft that they say
+-- the items make their draft
 pub Makes-all : (items : List Item) → Makes items
 Makes-all items = snoc_from Makes Makes-push [] items (record { draft = refl; known = tt; named = (tt, tt, tt); distinct = distinct-none })
 

@@ -1,4 +1,4 @@
--- What is known of each entry of a line that is read.
+-- Facts about each entry of a line that is read.
 use Rattle.std.proofs.Common.{◌≡◌, ℕ, ◌+◌, ◌<◌, ◌≤◌, Bool, true, false, cond, ◌==◌, nat_le, List, [], ◌∷◌, Option, Some, None, Result, Ok, Err, Contains, codes, refl, ◌∙◌, sym, subst, arith, true≢false}
 use Rattle.std.specs.List.{AllByRecursion, list_any}
 use Rattle.std.specs.Option.{option_map, IfSome}
@@ -33,13 +33,13 @@ use Rattle.dp_plan.proofs.PartsKnown.{IsExtension, IsLabel, IsLabelled, IsApplic
 
 -- ---- answers
 
--- what is so of each way on is so of all
+-- what holds after each step holds after all
 pub then-known : {X Y E : Type 0} (P : X → Type 0) (Q : Y → Type 0) (first : Result X E) (next : X → Result Y E)
     → IfOk first P → ((x : X) → P x → IfOk (next x) Q) → IfOk (first >>= next) Q
 then-known P Q (Ok x) next fine each = each x fine
 then-known P Q (Err fault) next fine each = tt
 
--- the same after what is asked of a line
+-- the same after a step for a line
 then_at-known : {X Y : Type 0} (P : X → Type 0) (Q : Y → Type 0) (line : ℕ) (first : Result X PlanKind) (next : X → Result Y LoadFault)
     → IfOk first P → ((x : X) → P x → IfOk (next x) Q) → IfOk (at_line line first >>= next) Q
 then_at-known P Q line (Ok x) next fine each = each x fine
@@ -62,7 +62,7 @@ differs byte b apart = by (b == byte) apart
     by true apart = absurd (apart refl)
     by false apart = refl
 
--- a byte that spellings have only from texts does not stand in the spelling where it does not stand in the text
+-- a byte that spellings contain only if the text does is not in the spelling if it is not in the text
 spelling-avoids : (byte : ℕ) → is_own byte ≡ false → (text : List ℕ) (name : Meaning) → meaning_of text ≡ Ok name → Avoids byte text → Avoids byte (spelling name)
 spelling-avoids byte own text name read avoids =
     recursion_from_All (λ b. (b == byte) ≡ false) (spelling name)
@@ -179,7 +179,7 @@ label_of-known text (Some cut) bytes avoids c =
     (each-without_last (λ b. (b == 44) ≡ false) 41 cut.1 (each-cut_rest (λ b. (b == 44) ≡ false) 40 text cut.0 cut.1 is avoids)))
     (λ label fine. fine)
 
--- what is known of a written priority
+-- facts about a written priority
 record IsPriorityText (written : Written × Option (List ℕ)) : Type 0 where
   number : IsWritten written.0
   label : IsLabelled written.1
@@ -194,7 +194,7 @@ written_priority-known text bytes avoids =
 
 -- ---- the application
 
--- what is known of an application that is called
+-- facts about an application as written
 pub record IsCalled (called : List ℕ × List ℕ) : Type 0 where
   pub name : IsApplication called.0
   pub one_line : Avoids 10 called.1
@@ -232,7 +232,7 @@ application_of-known text line = by (cut_once 40 text) refl
 
 -- ---- the entry
 
--- what is so of a text is so of it where it is shallow
+-- what holds of a text holds of it if it is shallow
 pub shallow-known : (P : List ℕ → Type 0) (line : ℕ) (text : List ℕ) → P text → IfOk (shallow_at line text) (λ shallow. P shallow × (is_too_deep shallow ≡ false))
 shallow-known P line text fine = by (is_too_deep text) refl
   where
@@ -259,7 +259,7 @@ entry_by-known history line context name priority application extension bytes av
       accepted = shallow.1;
     }))))
 
--- the entry of a name, and of what stands before and after the comma in the rest of a line
+-- the entry with a name, given the texts before and after the comma in the rest of a line
 entry_of-known : (history : History) (line : ℕ) (context : List ℕ) (name : Result Meaning LoadFault) (text front rest : List ℕ)
     → IfOk name IsExtension → AreLineBytes text → IsCut 44 text front rest → IfOk (entry_of history line context name (trim front) (trim rest)) IsEntry
 entry_of-known history line context name text front rest names bytes is =
@@ -288,7 +288,7 @@ pub exten_entry-known : (history : History) (line : ℕ) (context value : List �
 unfolding exten_entry
 exten_entry-known history line context value bytes = exten_cut-known history line context value (cut_once 44 value) bytes refl
 
--- what is known of the last name since a header
+-- facts about the last name since a header
 abbrev pub IsLastName : Option Meaning → Type 0
 IsLastName None = Unit {0}
 IsLastName (Some name) = IsExtension name

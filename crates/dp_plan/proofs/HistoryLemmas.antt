@@ -1,4 +1,4 @@
--- What a reader keeps of the lines so far is what their items say.
+-- What a reader keeps of the lines so far is the history of their items.
 use Rattle.std.proofs.Common.{◌≡◌, ℕ, Bool, true, false, cond, ◌&&◌, List, [], ◌∷◌, ◌++◌, Option, Some, None, fold, refl, ap, ◌∙◌, sym}
 use Rattle.std.specs.Option.{option_or, unwrap_or, option_flatten}
 use Rattle.std.specs.Map.{lookup}
@@ -16,7 +16,7 @@ use Rattle.dp_plan.specs.declared.extension.Extension.{Extension}
 use Rattle.dp_plan.specs.declared.section.Section.TheVariants.{General}
 use Rattle.dp_plan.specs.Item.{Item, Begins, Sets, Adds, Includes, Unknown}
 
--- ---- values that are found first
+-- ---- values found first
 
 or_none : {X : Type 0} (o : Option X) → option_or o None ≡ o
 or_none None = refl
@@ -41,7 +41,7 @@ and_right : (a b : Bool) → (a && b) ≡ true → b ≡ true
 and_right true b e = e
 and_right false b e = absurd cc
 
--- what is the same in two ways at once is an equivalence where each is
+-- equality in two ways at once is an equivalence if each is
 pub both_equiv : {X : Type 0} {E F : X → X → Bool} → IsEquivalence E → IsEquivalence F → IsEquivalence (λ x y. E x y && F x y)
 both_equiv {X} {E} {F} first second = record {
   refl = λ x i. first.refl x i && second.refl x i;
@@ -49,12 +49,12 @@ both_equiv {X} {E} {F} first second = record {
   congr = λ x y z e i. first.congr x y z (and_left (E x y) (F x y) e) i && second.congr x y z (and_right (E x y) (F x y) e) i;
 }
 
--- to be the same extension is an equivalence
+-- being the same extension is an equivalence
 pub same_extension_equiv : IsEquivalence same_extension
 same_extension_equiv =
     both_equiv (on_equiv (λ (e : Extension). e.context) nat_list_eq_equiv) (on_equiv (λ (e : Extension). e.spelling) nat_list_eq_equiv)
 
--- ---- a map of which one entry was written
+-- ---- a map with one entry changed
 
 cond_twice : {X : Type 0} (t : Bool) (x y z : X) → cond t x z ≡ cond t x (cond t y z)
 cond_twice true x y z = refl
@@ -65,7 +65,7 @@ cond_apart true true x y z apart = let no = apart refl in absurd cc
 cond_apart true false x y z apart = refl
 cond_apart false t x y z apart = refl
 
--- what a key has once a key was written
+-- the value of a key after another value was written
 pub lookup-insert_entry : {K V : Type 0} (eq : K → K → Bool) → IsEquivalence eq → (es : List (K × V)) (k : K) (v : V) (q : K) → lookup (eq q) (insert_entry eq es k v) ≡ cond (eq q k) (Some v) (lookup (eq q) es)
 lookup-insert_entry eq laws [] k v q = refl
 lookup-insert_entry {K} {V} eq laws (e ∷ es) k v q = by (lookup-insert_entry eq laws es k v q) (eq k e.0) refl where
@@ -100,7 +100,7 @@ or_if : {X : Type 0} (t : Bool) (x : X) (o : Option X) → cond t (Some x) o ≡
 or_if true x o = refl
 or_if false x o = refl
 
--- the reading after one more item stands for the history with it
+-- the reading after one more item represents the history with it
 history_in-after : (reading : Reading) (items : List Item) (x : Item) → history_in reading ≡ history_of items → history_in (after reading x) ≡ history_and items x
 history_in-after reading items (Begins section) same = λ i. record { section = section; name = None; priority = (same i).priority }
 history_in-after reading items (Sets global) same = same
@@ -122,6 +122,6 @@ history_kept-push items x same =
     ap history_in (fold-append after unread items (x ∷ []))
     ∙ (history_in-after (reading_of items) items x same ∙ sym (history_of-push items x))
 
--- the reading of some items stands for their history
+-- the reading of some items represents their history
 pub history_kept : (items : List Item) → history_in (reading_of items) ≡ history_of items
 history_kept items = snoc_from (λ xs. history_in (reading_of xs) ≡ history_of xs) history_kept-push [] items refl

@@ -1,5 +1,5 @@
--- The words of items, of sections and of written priorities, for proofs of the crates that stand on this one, which see no
--- variants of them: each as a function, and what is so of each variant is so of all.
+-- The constructors of items, of sections and of written priorities, for proofs of crates that depend on this one and do not see them: each
+-- as a function, and what holds of each constructor holds of all.
 use Rattle.std.proofs.Common.{ℕ, List}
 use Rattle.dp_plan.specs.declared.entry.Entry.{Entry}
 use Rattle.dp_plan.specs.Item.{Item, Begins, Sets, Adds, Includes, Unknown}

@@ -1,4 +1,4 @@
--- What is known of each item of lines that are read.
+-- Facts about each item of lines that are read.
 use Rattle.std.proofs.Common.{◌≡◌, ℕ, Bool, true, false, cond, ◌==◌, List, [], ◌∷◌, ◌++◌, Option, Some, None, Result, Ok, Err, codes, refl}
 use Rattle.std.specs.List.{AllByRecursion, list_any}
 use Rattle.std.specs.Option.{option_or, unwrap_or, option_flatten, IfSome}
@@ -29,7 +29,7 @@ IsFineSection General = Unit {0}
 IsFineSection Globals = Unit {0}
 IsFineSection (Context name) = IsContextName name
 
--- what is known of an item
+-- facts about an item
 abbrev pub IsFine : Item → Type 0
 IsFine (Begins section) = IsFineSection section
 IsFine (Sets global) = IsGlobal global
@@ -132,7 +132,7 @@ line_item-known : (history : History) (line : LineOf) → IsFineSection history.
 line_item-known history (Header line name) fine last known = (section-known name known, tt)
 line_item-known history (Pair line key value) fine last known = pair_item-known history history.section line key value fine last known
 
--- ---- what stands before a line
+-- ---- the lines before a line
 
 latest-known : {Y : Type 0} (P : Y → Type 0) (f : Item → Option Y) → ((x : Item) → IsFine x → IfSome (f x) P) → (xs : List Item) → AreFine xs
     → IfSome (latest f xs) P

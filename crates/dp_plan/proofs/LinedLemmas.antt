@@ -1,4 +1,4 @@
--- Each entry that is kept has its line.
+-- Each kept entry has its line.
 use Rattle.std.proofs.Common.{◌≡◌, ℕ, suc, Bool, true, false, cond, List, [], ◌∷◌, ◌++◌, length, map, refl, ap, ◌∙◌, sym}
 use Rattle.std.specs.List.{filter}
 use Rattle.std.proofs.lemmas.List.{append-nil, map-append}
@@ -16,7 +16,7 @@ line_contexts = map (λ l. l.context)
 abbrev added_contexts : List Addition → List (List ℕ)
 added_contexts = map (λ a. a.context)
 
--- the lines of the entries that are kept are of the contexts of these entries, in their order
+-- the lines of the kept entries have the contexts of these entries, in their order
 abbrev AreAlike : List Item → Type 0
 AreAlike items = line_contexts (kept_lines items) ≡ added_contexts (kept_in items)
 
@@ -46,7 +46,7 @@ alike-push items x alike =
 alike-all : (items : List Item) → AreAlike items
 alike-all items = snoc_from AreAlike alike-push [] items refl
 
--- how many pass a test depends on what is tested alone
+-- the number of elements that pass a test depends only on the tested part
 count-by : {X Y K : Type 0} (key : X → K) (part : X → Y) (test : K → Bool) (xs : List X) → length (map part (filter (λ x. test (key x)) xs)) ≡ length (filter test (map key xs))
 count-by key part test [] = refl
 count-by {X} {Y} key part test (x ∷ xs) = by (test (key x)) (count-by key part test xs)

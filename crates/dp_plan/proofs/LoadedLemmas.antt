@@ -1,4 +1,4 @@
--- What loading comes to, stage by stage.
+-- The results of loading, stage by stage.
 use Rattle.std.proofs.Common.{List, [], Result, Ok}
 use Rattle.dp_conf.specs.Answers.{◌>>=◌}
 use Rattle.dp_conf.specs.Lines.{LineOf, LineFault}
@@ -9,7 +9,7 @@ use Rattle.dp_plan.specs.declared.fault.LoadFault.{LoadFault}
 use Rattle.dp_plan.specs.Item.{Item}
 use Rattle.dp_plan.specs.declared.note.Note.{Note}
 
--- the dialplan of readings that all gave items
+-- the dialplan of readings, if all gave items
 abbrev pub of_items : Result (List Item) LoadFault → Result (PlanOf × List Note) LoadFault
 of_items read = read >>= λ items. Ok (plan_of items, notes_of items)
 

@@ -1,4 +1,4 @@
--- What the lines of a text make, one after another, is what its items say.
+-- The result of the lines of a text, one after another, is that of their items.
 use Rattle.std.proofs.Common.{◌≡◌, ℕ, List, [], ◌∷◌, ◌++◌, fold, map, Result, Ok, Err, refl, ap, subst, sym, ◌∙◌}
 use Rattle.std.specs.List.{All, filter_map, flat_map}
 use Rattle.std.proofs.lemmas.List.{append-nil, append_assoc}
@@ -35,12 +35,12 @@ use Rattle.dp_plan.proofs.NumberedLemmas.{contexts-numbered}
 abbrev State : Type 0
 State = Result MadeOf LoadFault
 
--- a fault that is kept aside stays
+-- a kept fault stays
 after_fault : (fault : LoadFault) (lines : List LineOf) → fold after_one (Err fault) lines ≡ Err fault
 after_fault fault [] = refl
 after_fault fault (line ∷ lines) = after_fault fault lines
 
--- where all lines were taken, the text makes the draft of the state
+-- if all lines were taken the text has the draft of the state
 pub drafted_of-taken : (text : List ℕ) (before state : State) → before ≡ Ok unmade → all_taken after_one before (lines_of text) ≡ Ok state → drafted_of text ≡ draft_made state
 unfolding drafted_of
 drafted_of-taken text before state new e = by (lines_of text) (sym (ap (λ (s : State). all_taken after_one s (lines_of text)) new) ∙ e)
@@ -51,7 +51,7 @@ drafted_of-taken text before state new e = by (lines_of text) (sym (ap (λ (s : 
         ap draft_made same
     by (Err fault) e = absurd cc
 
--- where a line of the text is refused, so is the text
+-- if a line of the text is refused, so is the text
 pub Refuses-text : (text : List ℕ) (before : State) (conf : ConfFault) → Refuses (line_fault conf) (all_taken after_one before (lines_of text)) → Refuses (reason_of (fault_of_conf conf)) (drafted_of text)
 unfolding drafted_of
 Refuses-text text before (At line kind) refused =
@@ -61,7 +61,7 @@ Refuses-text text before conf_no_memory refused = tt
 
 -- ---- items
 
--- what some items make
+-- the result of some items
 abbrev pub made_by : List Item → MadeOf
 made_by items = fold after_item unmade items
 
@@ -79,7 +79,7 @@ made_of_items-front : (before item : List Item) (rest : Result (List Item) LoadF
 made_of_items-front before item (Ok items) = ap (λ (xs : List Item). let done : State = Ok (made_by xs) in done) (append_assoc before item items)
 made_of_items-front before item (Err fault) = refl
 
--- what lines after some items make is what their items make
+-- the result of lines after some items is that of their items
 after_lines-items : (before : List Item) (lines : List LineOf) → fold after_one (Ok (made_by before)) lines ≡ made_of_items before (items_after before lines)
 after_lines-items before [] = ap (λ (xs : List Item). let done : State = Ok (made_by xs) in done) (sym (append-nil before))
 after_lines-items before (line ∷ lines) =
@@ -155,8 +155,7 @@ lines_loaded-drafted text = ap lines_of_draft (drafted-items text) ∙ by (lines
   by (Ok lines) = lines_of_items-draft (items_after [] lines)
   by (Err fault) = refl
 
--- what is known of the draft of a text: its names are those of its contexts, and their entries are apart and have their numbers
--- and their lines
+-- facts about the draft of a text: its names are those of its contexts, and their entries are apart and have their numbers and their lines
 pub record IsFit (d : Drafted) : Type 0 where
   pub names : d.names ≡ map (λ (c : PlanContext). c.name) d.contexts
   pub apart : All (λ (c : PlanContext). AreApart c.entries) d.contexts

@@ -1,4 +1,4 @@
--- What a text loads as is the dialplan of its items, and so its entries are known.
+-- A text loads as the dialplan of its items, so facts about its entries are known.
 use Rattle.std.proofs.Common.{◌≡◌, ℕ, ◌<◌, Bool, true, false, cond, List, [], ◌∷◌, ◌++◌, map, Option, Some, None, Result, Ok, Err, refl, ap, subst}
 use Rattle.std.specs.Prelude.{EachIndex, slice_index}
 use Rattle.std.specs.List.{All, AllByRecursion, filter, filter_map, cons_option}
@@ -83,7 +83,7 @@ plan_and_notes-made text plan notes e = by (lines_of text) refl e
     by (Err fault) read e = absurd cc
     by (Ok lines) read e = of_read lines read (items_after [] lines) refl e
 
--- each item of a text of bytes is known
+-- the facts hold of each item of a text of bytes
 pub made-fine : (text : List ℕ) (plan : PlanOf) → AllByRecursion (λ b. b < 256) text → (made : IsMade text plan) → AllByRecursion IsFine made.items
 made-fine text plan bytes made =
     IfOk-at_ok (AllByRecursion IsFine) made.given (items_after-known [] made.lines tt (lines_of-known text made.lines bytes made.read))
@@ -100,12 +100,12 @@ added-known (Adds line context entry) fine = (fine.1, tt)
 added-known (Includes line context name) fine = tt
 added-known (Unknown line) fine = tt
 
--- each entry that is kept is known
+-- the facts hold of each kept entry
 pub kept-known : (items : List Item) → AllByRecursion IsFine items → AllByRecursion IsFineAddition (kept_in items)
 kept-known items fine =
     each-kept IsFineAddition is_taken [] (filter_map added_in items) (each-filter_map IsFine IsFineAddition added_in added-known items fine)
 
--- so is each of a context
+-- and of each entry of a context
 pub entries-known : (kept : List Addition) (name : List ℕ) → AllByRecursion IsFineAddition kept
     → AllByRecursion IsEntry (map (λ a. a.entry) (filter (λ a. same_text name a.context) kept))
 entries-known kept name additions =
@@ -134,7 +134,7 @@ plan-apart items = contexts-apart (kept_in items) (filter_map included_in items)
 
 -- ---- the dialplan of a text
 
--- the name of each entry of what a text loads as is what some text means
+-- the name of each entry that a text loads is the meaning of some text
 pub plan_and_notes-named : (text : List ℕ) (plan : PlanOf) (notes : List Note) → EachIndex text (λ k. slice_index text k < 256)
     → plan_and_notes text ≡ Ok (plan, notes) → All (λ (c : PlanContext). AreNamed c.entries) plan.contexts
 plan_and_notes-named text plan notes bytes e =

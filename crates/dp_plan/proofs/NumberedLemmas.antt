@@ -1,4 +1,4 @@
--- Entries whose extensions have one number have one name.
+-- Entries whose extensions have the same number have the same name.
 use Rattle.std.proofs.Common.{◌≡◌, ℕ, zero, suc, true, List, [], ◌∷◌, map, slice_get, Some, refl, ap, subst, ◌∙◌, sym}
 use Rattle.std.specs.List.{AllByRecursion, filter}
 use Rattle.std.specs.Option.{option_map}
@@ -13,7 +13,7 @@ use Rattle.dp_plan.proofs.DraftLemmas.{Priorities, IsKnown, numbers_of, each-fil
 use Rattle.dp_plan.proofs.PositionLemmas.{and_true}
 use Rattle.dp_plan.proofs.TableLemmas.{is_known, same_number}
 
--- what stands at a place of the values of a function is the value of what stands there
+-- the element at a place of mapped values is the value of the element at this place
 at_place : {X Y : Type 0} (f : X → Y) (xs : List X) (i : ℕ) (y : Y) → slice_get (map f xs) i ≡ Some y → (x : X) × (slice_get xs i ≡ Some x) × (f x ≡ y)
 at_place f [] i y here = absurd cc
 at_place f (x ∷ xs) zero y here =
@@ -21,7 +21,7 @@ at_place f (x ∷ xs) zero y here =
     (x, refl, same)
 at_place f (x ∷ xs) (suc i) y here = at_place f xs i y here
 
--- the value of what stands at a place stands at the place
+-- the value of the element at a place is at this place of the mapped values
 value_at : {X Y : Type 0} (f : X → Y) (xs : List X) (i : ℕ) (x : X) → slice_get xs i ≡ Some x → slice_get (map f xs) i ≡ Some (f x)
 value_at f [] i x here = absurd cc
 value_at f (y ∷ xs) zero x here = ap (option_map f) here
@@ -40,7 +40,7 @@ module _ (es : Priorities) where
   abbrev number_of : Addition → ℕ
   number_of a = number_in es (extension_of a.context a.entry.name)
 
-  -- entries that were added have their numbers
+  -- added entries have their numbers
   numbered : (xs : List Addition) → IsKnown es xs → AreNumbered (map (λ a. a.entry) xs) (map number_of xs)
   numbered xs all i j a b at_i at_j one =
       let x = at_place (λ (c : Addition). c.entry) xs i a at_i in

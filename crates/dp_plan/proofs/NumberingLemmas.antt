@@ -1,4 +1,4 @@
--- A priority that is a number is none of the words that priorities may be, and has no label.
+-- A priority that is a number is not one of the words for priorities, and has no label.
 use Rattle.std.proofs.Common.{length, ◌≡◌, ℕ, Bool, true, false, cond, ◌==◌, ◌&&◌, ◌||◌, nat_le, List, [], ◌∷◌, codes, Some, None, refl, ap, sym, ◌∙◌, arith, min, ◌-◌, ◌^◌}
 use Rattle.std.specs.List.{list_all, list_any, position_or_len}
 use Rattle.std.specs.Option.{option_map}
@@ -9,7 +9,7 @@ use Rattle.dp_conf.specs.Numbers.{is_digit, digits_number, most_priority, number
 use Rattle.dp_conf.specs.Words.{same_text}
 use Rattle.dp_plan.specs.EntryLine.{without_label, written_number, written_of, written_priority}
 
--- a digit is no byte above the digits
+-- a digit is not a byte above the digits
 digit-apart : (b other : ℕ) → is_digit b ≡ true → nat_le other 57 ≡ false → (b == other) ≡ false
 digit-apart b other digit above = by (nat_le 48 b) (nat_le b 57) refl digit
   where
@@ -26,7 +26,7 @@ digit-no_plus b digit = by (nat_le 48 b) (nat_le b 57) refl digit
     by true high within both = grind (arith, nat_tests)
     by false high within both = absurd cc
 
--- no plus stands among digits
+-- digits contain no plus
 no_plus : (text : List ℕ) → list_all is_digit text ≡ true → list_any (λ b. b == byte "+") text ≡ false
 no_plus [] all = refl
 no_plus (b ∷ bs) all = by (is_digit b) refl all (λ rest. no_plus bs rest)
@@ -36,11 +36,11 @@ no_plus (b ∷ bs) all = by (is_digit b) refl all (λ rest. no_plus bs rest)
     by true digit all later = ap (λ (first : Bool). first || list_any (λ b. b == byte "+") bs) (digit-no_plus b digit) ∙ later all
     by false digit all later = absurd cc
 
--- a text that begins with a digit is no word
+-- a text that begins with a digit is not a word
 no_word : (b : ℕ) (bs : List ℕ) (other : ℕ) (rest : List ℕ) → is_digit b ≡ true → nat_le other 57 ≡ false → same_text (b ∷ bs) (other ∷ rest) ≡ false
 no_word b bs other rest digit above = ap (λ (first : Bool). first && same_text bs rest) (digit-apart b other digit above)
 
--- what a number above the greatest of 64 bits is written as, that one is written as too
+-- a number above the greatest of 64 bits is written like the greatest
 capped : (number : ℕ) → written_number (Some (min number (2 ^ 64 - 1))) ≡ written_number (Some number)
 capped number = by (nat_le number (2 ^ 64 - 1)) refl
   where
@@ -54,7 +54,7 @@ capped number = by (nat_le number (2 ^ 64 - 1)) refl
         let great : nat_le number most_priority ≡ false = grind (arith, nat_tests) in
         ap (λ (n : ℕ). written_number (Some n)) most ∙ cc
 
--- a number is written as what it is
+-- the written priority of a number
 pub number_as_written : (text : List ℕ) (number : ℕ) → option_map (λ n. min n (2 ^ 64 - 1)) (number_of text) ≡ Some number → written_of text ≡ written_number (Some number)
 number_as_written [] number read = absurd cc
 number_as_written (b ∷ bs) number read = by (list_all is_digit (b ∷ bs)) refl read
@@ -83,7 +83,7 @@ number_as_written (b ∷ bs) number read = by (list_all is_digit (b ∷ bs)) ref
         let is : min exact (2 ^ 64 - 1) ≡ number = cc in
         words all ∙ (sym (capped exact) ∙ ap (λ (n : ℕ). written_number (Some n)) is)
 
--- a digit is no parenthesis
+-- a digit is not a parenthesis
 digit-no_parenthesis : (b : ℕ) → is_digit b ≡ true → (b == byte "(") ≡ false
 digit-no_parenthesis b digit = by (nat_le 48 b) (nat_le b 57) refl digit
   where
@@ -91,7 +91,7 @@ digit-no_parenthesis b digit = by (nat_le 48 b) (nat_le b 57) refl digit
     by true high within both = grind (arith, nat_tests)
     by false high within both = absurd cc
 
--- no parenthesis stands among digits
+-- digits contain no parenthesis
 no_parenthesis : (text : List ℕ) → list_all is_digit text ≡ true → position_or_len (λ b. b == byte "(") text ≡ length text
 no_parenthesis [] all = refl
 no_parenthesis (b ∷ bs) all = by (is_digit b) refl all (λ rest. no_parenthesis bs rest)
@@ -105,7 +105,7 @@ no_parenthesis (b ∷ bs) all = by (is_digit b) refl all (λ rest. no_parenthesi
 number_uncut : (text : List ℕ) → list_all is_digit text ≡ true → cut_once (byte "(") text ≡ None
 number_uncut text all = rw (no_parenthesis text all) (grind (arith, nat_tests))
 
--- a number alone is a priority without a label
+-- a number without anything else is a priority without a label
 pub number_alone : (text : List ℕ) (number : ℕ) → option_map (λ n. min n (2 ^ 64 - 1)) (number_of text) ≡ Some number
     → written_priority text ≡ without_label (written_number (Some number))
 unfolding written_priority

@@ -1,4 +1,4 @@
--- What is known of each part of a dialplan that loads, so that a line can say the part again.
+-- Facts about each part of a loaded dialplan, which allow a line to say the part again.
 use Rattle.std.proofs.Common.{◌≡◌, ℕ, ◌==◌, false, List, ◌∷◌, codes, Option, Some, None}
 use Rattle.dp_conf.specs.Shallow.{is_too_deep}
 use Rattle.dp_conf.specs.Words.{same_word}
@@ -16,7 +16,7 @@ pub record HasFirst (text : List ℕ) : Type 0 where
   pub rest : List ℕ
   pub is : text ≡ first ∷ rest
 
--- a key: its line is neither a header nor a directive, and its first `=` stands after it
+-- a key: its line is neither a header nor a directive, and its first `=` comes after it
 pub record IsKey (key : List ℕ) : Type 0 where
   pub first : ℕ
   pub rest : List ℕ
@@ -86,7 +86,7 @@ pub record IsEntry (entry : Entry) : Type 0 where
   pub one_line : Avoids 10 entry.arguments
   pub accepted : is_too_deep entry.arguments ≡ false
 
--- the name that an include has
+-- the name in an include
 pub record IsIncluded (name : List ℕ) : Type 0 where
   pub value : IsValue name
   pub no_comma : Avoids 44 name

@@ -1,4 +1,4 @@
--- The order in which the entries of a context are asked.
+-- The order in which the entries of a context are tried.
 use Rattle.std.proofs.Common.{◌≡◌, ℕ, zero, suc, ◌+◌, ◌<◌, Bool, true, false, true≢false, ◌&&◌, List, [], ◌∷◌, ◌++◌, length, length-take-le, map, take, get_or, slice_get, Some, Bor, refl, sym, ap, ◌∙◌, subst, ◌⊎◌, inl, inr, ⊎_elim, arith, nat_cmp, is_eq, is_lt, Ordering, Less, Equal, Greater, IsPermutation, IsSortedBy}
 use Rattle.std.specs.Cmp.{IsTotalOrder, IsStrictWeakOrder, unsigned_ties}
 use Rattle.std.specs.Cmp.Lexicographic.{nat_list_eq_equiv, options_total}
@@ -32,7 +32,7 @@ use Rattle.dp_plan.specs.declared.entry.EntryId.{EntryId}
 pub entry_cmp_total : IsTotalOrder entry_cmp
 entry_cmp_total = then_total (on_total (λ (e : Entry). e.name) name_cmp_total) (on_total (λ (e : Entry). e.priority) nat_cmp_total)
 
--- entries that tie have one name and priority
+-- entries that are equal in the order have the same name and priority
 tied-shares_place : (a b : Entry) → entry_cmp a b ≡ Equal → shares_place a b ≡ true
 tied-shares_place a b e =
     let parts = then_is_Equal (name_cmp a.name b.name) (nat_cmp a.priority b.priority) e in
@@ -40,7 +40,7 @@ tied-shares_place a b e =
     let priorities = unsigned_ties a.priority b.priority ∙ ap is_eq parts.1 in
     λ i. names i && priorities i
 
--- whichever of the two entries is named first, they share a place or do not
+-- sharing a place does not depend on which of the two entries is named first
 shares_place-symm : (a b : Entry) → shares_place a b ≡ shares_place b a
 shares_place-symm a b =
     let names = nat_list_eq_equiv.symm (spelling a.name) (spelling b.name) in
@@ -53,7 +53,7 @@ less_from_apart a b Less e apart back = refl
 less_from_apart a b Equal e apart back = absurd (true≢false (sym (tied-shares_place a b e) ∙ apart))
 less_from_apart a b Greater e apart back = absurd (true≢false (sym (ap is_lt (entry_cmp_total.antisymm b a ∙ ap ordering_reverse e)) ∙ back))
 
--- of entries that are apart, two that tie are one
+-- of entries that are apart, two that are equal in the order are the same
 pub one_place : (entries : List Entry) → AreApart entries → (i j : ℕ) (a b : Entry) → slice_get entries i ≡ Some a → slice_get entries j ≡ Some b → entry_cmp a b ≡ Equal → i ≡ j
 one_place entries apart i j a b at_i at_j tied =
     elim (cases_order i j) [
@@ -69,15 +69,15 @@ one_place entries apart i j a b at_i at_j tied =
 
 -- ---- the ranking of a context
 
--- an entry is less than another, by their numbers
+-- an entry is less than another, given their numbers
 abbrev pub is_before : List Entry → EntryId → EntryId → Bool
 is_before entries x y = is_lt (id_cmp entries x y)
 
--- the order of the entries by their numbers is total
+-- the order of the entries, given by their numbers, is total
 id_cmp_total : (entries : List Entry) → IsStrictWeakOrder (is_before entries)
 id_cmp_total entries = ranks_by (options_total entry_cmp_total) (λ (id : EntryId). slice_get entries id.entry)
 
--- a closure that compares the entries sorts their numbers by their order
+-- a closure that compares the entries sorts their numbers by the order of the entries
 pub IsSortedBy-entries : {F : Type 0} {g : Mut F (Bor EntryId × (Bor EntryId × Unit {0})) Ordering} {f : F} (entries : List Entry) (ids : List EntryId)
     → ((lt : EntryId → EntryId → Bool) → IsStrictWeakOrder lt → ComparesAs g lt f → IsSortedBy lt ids)
     → ((a : Bor EntryId × (Bor EntryId × Unit {0})) (r : Ordering) (f' : F) → Called g f a r f' → (r ≡ id_cmp entries a.0.now a.1.0.now) × (f' ≡ f)) → IsSortedBy (is_before entries) ids
@@ -85,23 +85,23 @@ IsSortedBy-entries {g = g} {f = f} entries ids up h =
     up (is_before entries) (id_cmp_total entries)
     (always_returns_same g (λ a r. is_lt r ≡ is_before entries a.0.now a.1.0.now) f (λ a r f' k. (ap is_lt (h a r f' k).0, (h a r f' k).1)))
 
--- the entry of a number
+-- the entry with a number
 abbrev entry_of : List Entry → Entry → EntryId → Entry
 entry_of entries d id = get_or entries id.entry d
 
--- the entries of all numbers are the entries
+-- the entries with all numbers are the entries
 entries_of_all : (number : ℕ) (entries : List Entry) (d : Entry) → map (entry_of entries d) (ids_of number entries) ≡ entries
 entries_of_all number entries d =
     map-map (entry_of entries d) (λ (k : ℕ). record { context = number; entry = k }) (range_with_len 0 (length entries))
     ∙ sym (fill_by_all (λ (k : ℕ). get_or entries k d) entries (length entries) d refl (λ k lt. refl))
 
--- the number at a place of which an entry is known
+-- the number at a place whose entry is known
 id_at : (entries : List Entry) (ids : List EntryId) (place : ℕ) (a : Entry) → ranked_entry entries ids place ≡ Some a → (id : EntryId) × (slice_get ids place ≡ Some id) × (slice_get entries id.entry ≡ Some a)
 id_at entries [] place a e = absurd (none-some a e)
 id_at entries (id ∷ ids) zero a e = (id, refl, e)
 id_at entries (id ∷ ids) (suc place) a e = id_at entries ids place a e
 
--- sorted, the numbers of entries that are apart are their ranking
+-- when sorted, the numbers of entries that are apart are their ranking
 pub IsRanking-sorted : (number : ℕ) (entries : List Entry) (numbered ids : List EntryId)
     → numbered ≡ ids_of number entries → IsPermutation numbered ids → IsSortedBy (is_before entries) ids → AreApart entries → IsRanking number entries ids
 IsRanking-sorted number entries numbered ids all shuffled up apart = record {
@@ -128,7 +128,7 @@ IsRanking-sorted number entries numbered ids all shuffled up apart = record {
 
 -- ---- the rankings of all contexts
 
--- an element of a list with one more is an element of the list or the last
+-- an element of a list with one more is an element of the list or the last one
 slice_get_push_cases : {X : Type 0} (xs : List X) (x : X) (i : ℕ) (y : X) → slice_get (xs ++ x ∷ []) i ≡ Some y → (slice_get xs i ≡ Some y) ⊎ ((i ≡ length xs) × (x ≡ y))
 slice_get_push_cases [] x zero y e = inr (refl, same_Some x y e)
 slice_get_push_cases [] x (suc i) y e = absurd (none-some y e)
@@ -143,14 +143,14 @@ ranked_by_cases contexts rankings context ids before last number c r (inl hc) (i
 ranked_by_cases contexts rankings context ids before last number c r (inr hc) (inl hr) = absurd (omega (arith, before.count, slice_get_within rankings number r hr, hc.0))
 ranked_by_cases contexts rankings context ids before last number c r (inr hc) (inr hr) = rw (hc.0, ← hc.1, ← hr.1) last
 
--- with the ranking of one more context, the contexts with it are ranked
+-- with the ranking of one more context, the contexts including it are ranked
 AreRanked-push : (contexts : List PlanContext) (rankings : List (List EntryId)) (context : PlanContext) (ids : List EntryId) → AreRanked contexts rankings → IsRanking (length contexts) context.entries ids → AreRanked (contexts ++ context ∷ []) (rankings ++ ids ∷ [])
 AreRanked-push contexts rankings context ids before last = record {
   count = length_push rankings ids ∙ (ap (λ n. n + 1) before.count ∙ sym (length_push contexts context));
   each = λ number c r ec er. ranked_by_cases contexts rankings context ids before last number c r (slice_get_push_cases contexts context number c ec) (slice_get_push_cases rankings ids number r er);
 }
 
--- with the ranking of the context at the place, one more of the contexts is ranked
+-- with the ranking of the context at the place, one more context is ranked
 pub AreRanked-more : (contexts : List PlanContext) (rankings : List (List EntryId)) (n : ℕ) (context : PlanContext) (ids : List EntryId)
     → AreRanked (take n contexts) rankings → n < length contexts → context ≡ get_or contexts n context → IsRanking n context.entries ids → AreRanked (take (n + 1) contexts) (rankings ++ ids ∷ [])
 AreRanked-more contexts rankings n context ids before within here last =
@@ -158,7 +158,7 @@ AreRanked-more contexts rankings n context ids before within here last =
     let more : take n contexts ++ context ∷ [] ≡ take (n + 1) contexts = ap (λ (c : PlanContext). take n contexts ++ c ∷ []) here ∙ sym (take_more contexts n context within) in
     subst (λ (l : List PlanContext). AreRanked l (rankings ++ ids ∷ [])) more (AreRanked-push (take n contexts) rankings context ids before (subst (λ (m : ℕ). IsRanking m context.entries ids) size last))
 
--- with one more context whose entries are named, so are those of all contexts up to it
+-- with one more context whose entries are named, the entries of all contexts up to it are named
 pub AreAllNamed-more : (contexts : List PlanContext) (n : ℕ) (context : PlanContext) → All (λ (c : PlanContext). AreNamed c.entries) (take n contexts) → n < length contexts → context ≡ get_or contexts n context → AreNamed context.entries → All (λ (c : PlanContext). AreNamed c.entries) (take (n + 1) contexts)
 AreAllNamed-more contexts n context before within here named =
     let P : PlanContext → Type 0 = λ c. AreNamed c.entries in

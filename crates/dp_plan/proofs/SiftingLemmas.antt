@@ -1,4 +1,4 @@
--- What the lines of a text come to, one after another, where those with a fault are passed over.
+-- The result of the lines of a text, one after another, if those with a fault are skipped.
 use Rattle.std.proofs.Common.{◌≡◌, ℕ, true, List, [], ◌∷◌, ◌++◌, fold, Result, Ok, Err, refl, ap, subst, sym, ◌∙◌}
 use Rattle.std.specs.Result.{is_ok}
 use Rattle.std.proofs.lemmas.List.{append-nil, append_assoc}
@@ -24,7 +24,7 @@ use Rattle.dp_plan.proofs.LoadingLemmas.{made_by, made_by-append, made_by-histor
 
 -- ---- lines
 
--- what lines without a fault have made, with the faults of the others
+-- the result of lines without a fault, with the faults of the others
 abbrev sifted_of : List Item → List LoadFault → Sifted
 sifted_of items faults = record { made = made_by items; faults = faults }
 
@@ -49,7 +49,7 @@ sifted-faults before found (line ∷ lines) =
         ∙ (append_assoc found (fault ∷ []) (faults_after before lines)
         ∙ ap (λ (items : List Item). found ++ (fault ∷ faults_after items lines)) (sym (append-nil before)))
 
--- where all lines were taken, the faults of the text are those that were found
+-- if all lines were taken the faults of the text are those that were found
 pub faults_of-taken : (text : List ℕ) (before state : Sifted) → before ≡ unsifted → all_taken after_any before (lines_of text) ≡ Ok state → faults_of text ≡ Ok state.faults
 unfolding faults_of
 faults_of-taken text before state new e = by (lines_of text) (sym (ap (λ (s : Sifted). all_taken after_any s (lines_of text)) new) ∙ e)
@@ -61,7 +61,7 @@ faults_of-taken text before state new e = by (lines_of text) (sym (ap (λ (s : S
         (sym (sifted-faults [] [] lines) ∙ ap (λ (s : Sifted). s.faults) same)
     by (Err fault) e = absurd cc
 
--- where a line of the text is refused, so is the text
+-- if a line of the text is refused, so is the text
 pub Refuses-faults : (text : List ℕ) (before : Sifted) (conf : ConfFault) → Refuses (line_fault conf) (all_taken after_any before (lines_of text)) → Refuses (reason_of (fault_of_conf conf)) (faults_of text)
 unfolding faults_of
 Refuses-faults text before (At line kind) refused =
@@ -71,12 +71,12 @@ Refuses-faults text before conf_no_memory refused = tt
 
 -- ---- faults and loading
 
--- what some lines read as, beside all their faults: it is no fault where there is none, and else the first
+-- the reading of some lines compared with all their faults: it has no fault if there are none, and else the first
 abbrev IsFirst : {X : Type 0} → Result X LoadFault → List LoadFault → Type 0
 IsFirst read [] = is_ok read ≡ true
 IsFirst read (fault ∷ faults) = read ≡ Err fault
 
--- what is read on passes the fault on
+-- a next step passes the fault on
 IsFirst-passed_on : {X Y : Type 0} (next : X → Y) (read : Result X LoadFault) (faults : List LoadFault) → IsFirst read faults → IsFirst (read >>= λ x. let done : Result Y LoadFault = Ok (next x) in done) faults
 IsFirst-passed_on next (Ok x) [] is = refl
 IsFirst-passed_on next (Err fault) [] is = absurd cc
@@ -97,7 +97,7 @@ IsFirst-lines lines faults same =
     subst (IsFirst (of_items (items_after [] lines))) same
     (IsFirst-passed_on (λ (items : List Item). (plan_of items, notes_of items)) (items_after [] lines) (faults_after [] lines) (IsFirst-items [] lines))
 
--- a text loads where it has no fault, and is refused for the first fault that it has
+-- a text loads if it has no fault, and is refused for its first fault otherwise
 IsFirst-text : (text : List ℕ) (faults : List LoadFault) → faults_of text ≡ Ok faults → IsFirst (plan_and_notes text) faults
 unfolding faults_of plan_and_notes
 IsFirst-text text faults e = by (lines_of text) e
@@ -125,7 +125,7 @@ faults-text text fault e = by (lines_of text) e
 
 -- ---- lines without a fault
 
--- alone they are read as among the others
+-- read alone they give the same as among the others
 items-faultless : (before : List Item) (lines : List LineOf) → items_after before (faultless_after before lines) ≡ Ok (kept_after before lines)
 items-faultless before [] = refl
 items-faultless before (line ∷ lines) = by (line_item (history_of before) line) refl (λ item. items-faultless (before ++ item) lines)

@@ -20,7 +20,7 @@ use Rattle.dp_plan.specs.declared.extension.Extension.{Extension}
 use Rattle.dp_plan.proofs.HistoryLemmas.{same_extension_equiv}
 use Rattle.dp_plan.proofs.PositionLemmas.{or_right, or_true, position-more, position-new, same_position}
 
--- what stands at a place stands within the list
+-- an element at a place is within the list
 pub stands_within : {X : Type 0} (test : X → Bool) (xs : List X) (place : ℕ) → StandsAt test xs place → place < length xs
 stands_within {X} test xs place stands = subst (λ n. n < length xs) (sym stands.at) (within xs stands.there) where
   within : (ys : List X) → list_any test ys ≡ true → position_or_len test ys < length ys
@@ -30,12 +30,12 @@ stands_within {X} test xs place stands = subst (λ n. n < length xs) (sym stands
     by later true there = omega arith
     by later false there = omega (arith, later there)
 
--- so a number stands within the table
+-- so a number is within the table
 pub number_within : (table : Table) (extension : Extension) (number : ℕ) → HasNumber table extension number → number < length table
 number_within table extension number has =
     subst (λ n. number < n) (length-keys_of table) (stands_within (same_extension extension) (keys_of table) number has)
 
--- what is found stands there
+-- what is found is at its place
 pub stands_found : {X : Type 0} (test : X → Bool) (xs : List X) (place : ℕ) (d : X) → position test xs ≡ Some place → StandsAt test xs place
 stands_found test xs place d found =
     let at = position-Some test xs place d found in
@@ -44,7 +44,7 @@ stands_found test xs place d found =
       at = sym (position_or_len_is test xs place d (omega (arith, at.0)) at.2 (λ within. at.1));
     }
 
--- the value at the place of a key is the one that the key finds
+-- the value at the place of a key is the one found for the key
 value_found : {K V : Type 0} (eq : K → K → Bool) (es : List (K × V)) (q : K) → option_map (λ (e : K × V). e.1) (slice_get es (position_or_len (eq q) (keys_of es))) ≡ lookup (eq q) es
 value_found eq [] q = refl
 value_found {K} {V} eq (e ∷ es) q = by (value_found eq es q) (eq q e.0) where
@@ -58,12 +58,12 @@ value_found {K} {V} eq (e ∷ es) q = by (value_found eq es q) (eq q e.0) where
       let next : 1 + position_or_len (eq q) (keys_of es) ≡ suc (position_or_len (eq q) (keys_of es)) = omega arith in
       ap value next ∙ later
 
--- an extension finds its last priority by its number
+-- the last priority of an extension is found by its number
 pub priority_found : (table : Table) (extension : Extension) (number : ℕ) → HasNumber table extension number → option_map (λ entry. entry.1) (slice_get table number) ≡ lookup (same_extension extension) table
 priority_found table extension number has =
     ap (λ n. option_map (λ (entry : Extension × ℕ). entry.1) (slice_get table n)) has.at ∙ value_found same_extension table extension
 
--- a value that goes to a key that is there is written at the key's place
+-- a value for an existing key is written at the place of the key
 value_written : {K V : Type 0} (eq : K → K → Bool) (es : List (K × V)) (q : K) (v : V) → list_any (eq q) (keys_of es) ≡ true → set_value_at es (position_or_len (eq q) (keys_of es)) v ≡ insert_entry eq es q v
 value_written eq [] q v there = absurd cc
 value_written {K} {V} eq (e ∷ es) q v there = by (value_written eq es q v) (eq q e.0) there where
@@ -79,7 +79,7 @@ pub written_at : (table : Table) (context : List ℕ) (name : Meaning) (number p
 written_at table context name number priority has =
     ap (λ n. set_value_at table n priority) has.at ∙ value_written same_extension table (extension_of context name) priority has.there
 
--- names that are spelled alike have one number
+-- names with the same spelling have one number
 pub number_same : (table : Table) (context : List ℕ) (name other : Meaning) (number : ℕ) → same_text (spelling other) (spelling name) ≡ true → HasNumber table (extension_of context other) number → HasNumber table (extension_of context name) number
 number_same table context name other number same has =
     subst (λ (text : List ℕ). HasNumber table (record { context = context; spelling = text }) number) ((bytes_decides (spelling other) (spelling name)).0 same) has
@@ -135,6 +135,6 @@ number_after_written table context name number priority is = record {
   at = is ∙ sym (number-with_priority table (extension_of context name) priority);
 }
 
--- two extensions of a table have one number exactly where they are the same
+-- two extensions of a table have one number exactly if they are the same
 pub same_number : (es : List (Extension × ℕ)) (a b : Extension) → is_known es a ≡ true → is_known es b ≡ true → (number_in es a == number_in es b) ≡ same_extension a b
 same_number es a b known other = same_position same_extension same_extension_equiv (keys_of es) a b known other

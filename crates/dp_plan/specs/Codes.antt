@@ -1,4 +1,4 @@
--- The numbers of the faults of a dialplan, the names that are printed beside them, and the text of a fault at a line.
+-- The numbers of the faults of a dialplan, the names printed next to them, and the text of a fault at a line.
 use Rattle.std.specs.Prelude.{ℕ, List, ◌++◌, codes, decimal}
 use Rattle.dp_conf.specs.Codes.{conf_fault_text}
 use Rattle.dp_pattern.specs.Codes.{fault_name}
@@ -33,7 +33,7 @@ plan_name NoExten = codes "NoExten"
 plan_name PriorityLimit = codes "PriorityLimit"
 plan_name ShortLine = codes "ShortLine"
 
--- what is printed where a dialplan did not load
+-- what is printed if a dialplan did not load
 abbrev pub load_fault_text : LoadFault → List ℕ
 load_fault_text (Conf fault) = conf_fault_text fault
 load_fault_text (Pattern line fault) = fault_name fault ++ codes " line " ++ decimal line

@@ -4,13 +4,13 @@ use Rattle.std.specs.List.{All}
 use Rattle.dp_pattern.specs.Name.{IsName}
 use Rattle.dp_plan.specs.declared.entry.Entry.{Entry}
 
--- a context: its name, and its entries and the names of the contexts that it includes, in the order of the file
+-- a context: its name, and its entries and the names of the contexts that it includes, in file order
 pub record PlanContext : Type 0 where
   pub name : List ℕ
   pub entries : List Entry
   pub includes : List (List ℕ)
 
--- the name of each entry is one that some text means
+-- the name of each entry is the meaning of some text
 abbrev pub AreNamed : List Entry → Type 0
 AreNamed = All (λ entry. IsName entry.name)
 

@@ -1,4 +1,4 @@
--- The extensions of a dialplan: a context and a name, where two names of one meaning are one.
+-- The extensions of a dialplan: a context and a name, where two names with one meaning are the same.
 use Rattle.std.specs.Prelude.{ℕ, Bool, ◌&&◌, List}
 use Rattle.dp_conf.specs.Words.{same_text}
 use Rattle.dp_pattern.specs.Name.{Meaning}
@@ -9,7 +9,7 @@ use Rattle.dp_plan.specs.declared.extension.Extension.{Extension}
 abbrev pub same_name : Meaning → Meaning → Bool
 same_name a b = same_text (spelling a) (spelling b)
 
--- the extension of a name in a context
+-- the extension with a name in a context
 abbrev pub extension_of : List ℕ → Meaning → Extension
 extension_of context name = record { context = context; spelling = spelling name }
 

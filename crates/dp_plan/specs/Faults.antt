@@ -1,4 +1,4 @@
--- The faults of a dialplan beside those of its text, and out of memory.
+-- The faults of a dialplan apart from those of its text, and out-of-memory.
 use Rattle.std.specs.Prelude.{ℕ, Option, Some, None, Result, Ok, Err}
 use Rattle.dp_conf.specs.Lines.{LineFault}
 use Rattle.dp_conf.specs.declared.fault.ConfFault.{ConfFault}
@@ -11,7 +11,7 @@ use Rattle.dp_plan.specs.declared.fault.PlanKind.{PlanKind}
 use Rattle.dp_plan.specs.declared.fault.LoadFault.{LoadFault}
 use Rattle.dp_plan.specs.declared.fault.LoadFault.TheVariants.{Conf, Pattern, Plan, NoMemory}
 
--- out of memory is outermost
+-- out-of-memory is outermost
 abbrev pub fault_of_conf : ConfFault → LoadFault
 fault_of_conf (At line kind) = Conf (At line kind)
 fault_of_conf conf_no_memory = NoMemory
@@ -21,11 +21,11 @@ abbrev pub fault_at : ℕ → ItemKind → LoadFault
 fault_at line (BadName fault) = Pattern line fault
 fault_at line (BadLine kind) = Plan line kind
 
--- a line that is refused, as a fault of the dialplan
+-- a refused line, as a fault of the dialplan
 abbrev pub fault_of_line : FaultyLine ItemKind → LoadFault
 fault_of_line fault = fault_at fault.line fault.kind
 
--- why a dialplan is refused; out of memory is no reason
+-- the reason why a dialplan is refused; out-of-memory has no reason
 abbrev pub reason_of : LoadFault → Option LoadFault
 reason_of (Conf fault) = Some (Conf fault)
 reason_of (Pattern line fault) = Some (Pattern line fault)

@@ -1,4 +1,4 @@
--- What a line is read with: what the items of the lines before it say.
+-- What the items before a line say of it.
 use Rattle.std.specs.Prelude.{ℕ, ◌&&◌, List, [], ◌∷◌, Option, Some, None, if◌then◌else◌}
 use Rattle.std.specs.Option.{option_or, unwrap_or, option_flatten}
 use Rattle.dp_conf.specs.Words.{same_text}
@@ -27,7 +27,7 @@ section_in (Adds line context entry) = None
 section_in (Includes line context name) = None
 section_in (Unknown line) = None
 
--- the name that an item leaves for the lines after it: an entry its own, and a header none
+-- the name that an item leaves for the lines after it: an entry leaves its own, and a header none
 abbrev pub name_in : Item → Option (Option Meaning)
 name_in (Begins section) = Some None
 name_in (Sets global) = None
@@ -44,7 +44,7 @@ priority_in context name (Adds line c entry) =
 priority_in context name (Includes line c included) = None
 priority_in context name (Unknown line) = None
 
--- what the items say, all of them, also those that are dropped later
+-- what all items say together, including those that are dropped later
 abbrev pub history_of : List Item → History
 history_of items = record {
   section = unwrap_or (latest section_in items) General;

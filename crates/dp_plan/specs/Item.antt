@@ -1,11 +1,11 @@
--- What a line of a dialplan does.
+-- The effect of a line of a dialplan.
 use Rattle.std.specs.Prelude.{ℕ, List}
 use Rattle.dp_plan.specs.declared.entry.Entry.{Entry}
 use Rattle.dp_plan.specs.declared.plan.GlobalVariable.{GlobalVariable}
 use Rattle.dp_plan.specs.declared.section.Section.{Section}
 
--- a section begins; a global variable is set; by the line of this number an entry is added to the context of this name, or
--- the context of the first name includes the other; the line of this number has a key that its section does not know
+-- a section begins; a global variable is set; the line with this number adds an entry to the context with this name, or an include of the
+-- second name to the context with the first; the line with this number has a key that its section does not know
 pub data Item : Type 0 where
   Begins : Section → Item
   Sets : GlobalVariable → Item

@@ -1,4 +1,4 @@
--- The items of a dialplan's lines: sections that begin, global variables, entries, includes, and keys that no context has.
+-- The items of a dialplan's lines: sections that begin, global variables, entries, includes, and keys that contexts do not have.
 use Rattle.std.specs.Prelude.{ℕ, ◌||◌, ◌==◌, List, [], ◌∷◌, ◌++◌, Option, Some, None, Result, Ok, Err, codes, if◌then◌else◌}
 use Rattle.std.specs.List.{list_any}
 use Rattle.std.specs.Str.{byte}
@@ -24,18 +24,18 @@ section_named name =
     else if same_word name (codes "globals") then Globals
     else Context name
 
--- a global variable; an empty key is none, whatever its value
+-- a global variable; an empty key sets none, whatever its value
 abbrev pub global_item : ℕ → List ℕ → List ℕ → Result Item LoadFault
 global_item line [] value = Ok (Unknown line)
 global_item line (k ∷ key) value =
     shallow_at line value >>= λ shallow. Ok (Sets (record { name = k ∷ key; value = shallow }))
 
--- an include of one context, with no times
+-- an include of one context, without times
 abbrev pub include_item : ℕ → List ℕ → List ℕ → Result Item LoadFault
 include_item line context name =
     if list_any (λ b. b == byte ",") name then Err (Plan line (LeftOut IncludeTimes)) else Ok (Includes line context name)
 
--- why a key is refused, where it is one of those that are left out
+-- the reason why a key is refused, if it is one of the unsupported ones
 abbrev pub refused_key : List ℕ → Option PlanKind
 refused_key key =
     if same_word key (codes "switch") || same_word key (codes "lswitch") || same_word key (codes "eswitch")
@@ -43,12 +43,12 @@ refused_key key =
     else if same_word key (codes "ignorepat") then Some (LeftOut IgnorePat)
     else None
 
--- a pair that says nothing of a context
+-- a pair that has no meaning in a context
 abbrev pub other_item : ℕ → Option PlanKind → Result Item LoadFault
 other_item line (Some kind) = Err (Plan line kind)
 other_item line None = Ok (Unknown line)
 
--- the entry of a line goes to the context
+-- the entry of a line is added to the context
 abbrev pub entry_item : List ℕ → ℕ → Result Entry LoadFault → Result Item LoadFault
 entry_item context line entry = entry >>= λ e. Ok (Adds line context e)
 
@@ -64,18 +64,18 @@ context_item history context line key value =
 abbrev pub just : Result Item LoadFault → Result (List Item) LoadFault
 just item = item >>= λ i. Ok (i ∷ [])
 
--- a pair, by its section; settings say nothing
+-- a pair, given its section; settings have no item
 abbrev pub pair_item : History → Section → ℕ → List ℕ → List ℕ → Result (List Item) LoadFault
 pair_item history General line key value = Ok []
 pair_item history Globals line key value = just (global_item line key value)
 pair_item history (Context name) line key value = just (context_item history name line key value)
 
--- the item of a line, or the line's fault, by what the lines before it say
+-- the item of a line, or the line's fault, given what the lines before it say
 abbrev pub line_item : History → LineOf → Result (List Item) LoadFault
 line_item history (Header line name) = Ok (Begins (section_named name) ∷ [])
 line_item history (Pair line key value) = pair_item history history.section line key value
 
--- the items of lines, each line read by the items of those before it, or the fault of the first line that has one
+-- the items of lines, each line read with the items of those before it, or the fault of the first faulty line
 abbrev pub items_after : List Item → List LineOf → Result (List Item) LoadFault
 items_after before [] = Ok []
 items_after before (line ∷ lines) =

@@ -1,4 +1,4 @@
--- What a text loads as: a dialplan, its notes and the lines of its entries, or the first fault.
+-- The result of loading a text: a dialplan, its notes and the lines of its entries, or the first fault.
 use Rattle.std.specs.Prelude.{◌≡◌, ℕ, ◌<◌, List, [], length, map, Result, Ok, EachIndex, slice_index}
 use Rattle.dp_conf.specs.Answers.{◌>>=◌}
 use Rattle.dp_conf.specs.Lines.{lines_of}

@@ -1,4 +1,4 @@
--- A dialplan, and what the items of its lines make of it.
+-- A dialplan, and how it is made from the items of its lines.
 use Rattle.std.specs.Prelude.{ℕ, Bool, false, ◌&&◌, ◌||◌, ◌==◌, List, [], ◌∷◌, ◌++◌, Option, Some, None, map, filter, if◌then◌else◌}
 use Rattle.std.specs.List.{list_any, filter_map, flat_map}
 use Rattle.dp_conf.specs.Answers.{each_after}
@@ -13,7 +13,7 @@ use Rattle.dp_plan.specs.declared.section.Section.{Section}
 use Rattle.dp_plan.specs.declared.section.Section.TheVariants.{General, Globals, Context}
 use Rattle.dp_plan.specs.Item.{Item, Begins, Sets, Adds, Includes, Unknown}
 
--- a dialplan: its global variables in the order of the file, and its contexts in the order of first appearance
+-- a dialplan: its global variables in file order, and its contexts in the order of first appearance
 pub record PlanOf : Type 0 where
   pub globals : List GlobalVariable
   pub contexts : List PlanContext
@@ -23,16 +23,16 @@ pub record Addition : Type 0 where
   pub context : List ℕ
   pub entry : Entry
 
--- a context's name that a line includes in a context
+-- the name of a context that a line includes in a context
 pub record Inclusion : Type 0 where
   pub context : List ℕ
   pub name : List ℕ
 
--- two entries are of one extension: the context and the name
+-- two entries are of one extension: the same context and name
 abbrev pub of_one_extension : Addition → Addition → Bool
 of_one_extension a b = same_text a.context b.context && same_name a.entry.name b.entry.name
 
--- two entries stand at the same place: the extension and the priority
+-- two entries have the same place: the same extension and priority
 abbrev pub same_place : Addition → Addition → Bool
 same_place a b = of_one_extension a b && a.entry.priority == b.entry.priority
 
@@ -60,7 +60,7 @@ is_taken before addition = is_place_taken before addition || is_label_taken befo
 abbrev pub is_named : List (List ℕ) → List ℕ → Bool
 is_named before name = list_any (same_text name) before
 
--- the elements that none of those kept before them takes up
+-- the elements that are not taken by one of those kept before them
 abbrev pub kept_by : {X : Type 0} → (List X → X → Bool) → List X → List X → List X
 kept_by taken before [] = []
 kept_by taken before (x ∷ xs) =
@@ -82,7 +82,7 @@ included_in (Adds line context entry) = None
 included_in (Includes line context name) = Some (record { context = context; name = name })
 included_in (Unknown line) = None
 
--- the context that a section is
+-- the context of a section
 abbrev pub section_name : Section → Option (List ℕ)
 section_name General = None
 section_name Globals = None
@@ -104,15 +104,15 @@ global_in (Adds line context entry) = None
 global_in (Includes line context name) = None
 global_in (Unknown line) = None
 
--- the entries that are kept, of all contexts: the first of each place, unless its label is taken
+-- the entries that are kept, of all contexts: the first at each place, unless its label is taken
 abbrev pub kept_in : List Item → List Addition
 kept_in items = kept_by is_taken [] (filter_map added_in items)
 
--- the contexts' names in the order of first appearance
+-- the names of the contexts, in the order of first appearance
 abbrev pub names_in : List Item → List (List ℕ)
 names_in items = kept_by is_named [] (filter_map context_in items)
 
--- the context of a name, with its entries among those that are kept, and its includes
+-- the context with a name, with its entries among those that are kept, and its includes
 abbrev pub context_of : List Addition → List Inclusion → List ℕ → PlanContext
 context_of kept included name = record {
   name = name;
@@ -132,11 +132,11 @@ pub record KeptLine : Type 0 where
   pub context : List ℕ
   pub line : ℕ
 
--- the line of an entry, unless an entry that is kept has its priority or its label
+-- the line of an entry, unless a kept entry has its priority or its label
 abbrev pub entry_line : ℕ → List Addition → Addition → List KeptLine
 entry_line line kept addition = if is_taken kept addition then [] else (record { context = addition.context; line = line }) ∷ []
 
--- the line of an item that adds an entry, where the entry is kept after the items before it
+-- the line of an item that adds an entry, if the entry is kept after the items before it
 abbrev pub kept_line : List Item → Item → List KeptLine
 kept_line before (Begins section) = []
 kept_line before (Sets global) = []
@@ -144,30 +144,30 @@ kept_line before (Adds line context entry) = entry_line line (kept_in before) (r
 kept_line before (Includes line context name) = []
 kept_line before (Unknown line) = []
 
--- the lines of the entries that are kept, of all contexts
+-- the lines of the kept entries, of all contexts
 abbrev pub kept_lines : List Item → List KeptLine
 kept_lines items = flat_map (λ lines. lines) (each_after kept_line [] items)
 
--- those of the entries of the context of a name
+-- those of the entries of the context with a name
 abbrev pub context_lines : List KeptLine → List ℕ → List ℕ
 context_lines kept name = map (λ k. k.line) (filter (λ k. same_text name k.context) kept)
 
--- the lines of the entries of each context of the dialplan of the items, in the order of its contexts and their entries
+-- the lines of the entries of each context in the dialplan of the items, in the order of its contexts and their entries
 unfoldable pub entry_lines_of : List Item → List (List ℕ)
 entry_lines_of items = map (context_lines (kept_lines items)) (names_in items)
 
--- the note on an entry, where it is dropped: an entry that is kept has its priority or its label
+-- the note on a dropped entry: a kept entry has its priority or its label
 abbrev pub entry_note : ℕ → List Addition → Addition → List Note
 entry_note line kept addition =
     if is_place_taken kept addition then (record { line = line; kind = DoublePriority }) ∷ []
     else if is_label_taken kept addition then (record { line = line; kind = DoubleLabel }) ∷ []
     else []
 
--- the note on an include, where no context has the name
+-- the note on an include if no context has the name
 abbrev pub include_note : ℕ → List (List ℕ) → List ℕ → List Note
 include_note line names name = if is_named names name then [] else (record { line = line; kind = UnknownContext }) ∷ []
 
--- the note of an item, by the names of all contexts and the items before it
+-- the note on an item, given the names of all contexts and the items before it
 abbrev pub note_of : List (List ℕ) → List Item → Item → List Note
 note_of names before (Begins section) = []
 note_of names before (Sets global) = []
@@ -176,6 +176,6 @@ note_of names before (Adds line context entry) =
 note_of names before (Includes line context name) = include_note line names name
 note_of names before (Unknown line) = (record { line = line; kind = UnknownKey }) ∷ []
 
--- the notes of the items, in the order of their lines
+-- the notes on the items, in the order of their lines
 unfoldable pub notes_of : List Item → List Note
 notes_of items = flat_map (λ notes. notes) (each_after (note_of (names_in items)) [] items)

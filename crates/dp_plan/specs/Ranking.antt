@@ -1,4 +1,4 @@
--- The entries of a context in the order in which a look-up asks them.
+-- The entries of a context in the order in which a look-up tries them.
 use Rattle.std.specs.Prelude.{◌≡◌, ℕ, ◌<◌, Bool, ◌&&◌, ◌==◌, List, length, map, slice_get, Option, Some}
 use Rattle.std.specs.List.{range_with_len, IsDistinct}
 use Rattle.std.specs.List.Sorted.{IsPermutation}
@@ -12,7 +12,7 @@ use Rattle.dp_plan.specs.Extensions.{same_name}
 use Rattle.dp_plan.specs.declared.entry.Entry.{Entry}
 use Rattle.dp_plan.specs.declared.entry.EntryId.{EntryId}
 
--- entries are in the order of their names, and those of one name in the order of their priorities
+-- entries are ordered by their names, and those with one name by their priorities
 abbrev pub entry_cmp : Entry → Entry → Ordering
 entry_cmp a b = ordering_then (name_cmp a.name b.name) (nat_cmp a.priority b.priority)
 
@@ -24,23 +24,23 @@ shares_place a b = same_name a.name b.name && a.priority == b.priority
 abbrev pub AreApart : List Entry → Type 0
 AreApart = IsDistinct shares_place
 
--- the numbers of so many entries of a context, in the order of the file
+-- the numbers of this many entries of a context, in file order
 abbrev pub numbers_of : ℕ → ℕ → List EntryId
 numbers_of number count = map (λ k. record { context = number; entry = k }) (range_with_len 0 count)
 
--- the numbers of the entries of a context, in the order of the file
+-- the numbers of the entries of a context, in file order
 abbrev pub ids_of : ℕ → List Entry → List EntryId
 ids_of number entries = numbers_of number (length entries)
 
--- the order of two entries by their numbers, where a number of none comes first
+-- the order of two entries, given by their numbers; a number without an entry comes first
 abbrev pub id_cmp : List Entry → EntryId → EntryId → Ordering
 id_cmp entries a b = option_cmp entry_cmp (slice_get entries a.entry) (slice_get entries b.entry)
 
--- the entry whose number stands at the place
+-- the entry whose number is at the place
 abbrev pub ranked_entry : List Entry → List EntryId → ℕ → Option Entry
 ranked_entry entries ids place = option_and_then (λ id. slice_get entries id.entry) (slice_get ids place)
 
--- the numbers of all entries of a context, each once, and each entry before those that are greater
+-- the numbers of all entries of a context, each once, and each entry before greater ones
 pub record IsRanking (number : ℕ) (entries : List Entry) (ids : List EntryId) : Type 0 where
   pub whole : IsPermutation (ids_of number entries) ids
   pub rising : (i j : ℕ) (a b : Entry) → i < j → ranked_entry entries ids i ≡ Some a → ranked_entry entries ids j ≡ Some b → entry_cmp a b ≡ Less

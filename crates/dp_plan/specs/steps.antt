@@ -1,4 +1,4 @@
--- What private functions say of their steps. No public clause rests on it.
+-- The steps of private functions. No public clause depends on them.
 pub mod ContextName
 pub mod Draft
 pub mod ItemFaults

@@ -1,4 +1,4 @@
-//! Every fault of a dialplan's text.
+//! All faults in the text of a dialplan.
 ghost use Rattle.std.specs.Prelude.{◌≡◌, ℕ, List, [], ◌∷◌, OnOk, Ok, Err, true};
 ghost use Rattle.std.specs.Result.{is_ok};
 ghost use Rattle.dp_conf.specs.Answers.{Answers};
@@ -15,7 +15,7 @@ use dp_conf::{FaultyLine, Line, NoMemory, TakeFault, TakeLine, beside, take_line
 use std::alloc::Global;
 use std::marker::Model;
 
-/// What the lines without a fault have made, and the faults of the others.
+/// The result of the lines without a fault, and the faults of the other lines.
 #[derive(Drop)]
 struct PlanFaults {
     made: Made,
@@ -31,7 +31,7 @@ impl Model for PlanFaults {
 }
 
 impl PlanFaults {
-    /// Before the first line.
+    /// The value before the first line.
     fn new(alloc: Global) -> Self
         ensures { result ≡ spec.unsifted }
     {
@@ -49,7 +49,7 @@ impl PlanFaults {
         Ok(())
     }
 
-    /// The faults. What the other lines have made is dropped.
+    /// The faults. The result of the other lines is dropped.
     fn into_faults(self) -> Vec<LoadFault>
         ensures { result.items ≡ self.faults }
     {
@@ -63,7 +63,7 @@ impl TakeLine for PlanFaults {
 
     ghost after_line = { after_any };
 
-    // A line with a fault leaves nothing for the lines behind it.
+    // A line with a fault has no effect on the lines after it.
     fn take(&mut self, alloc: Global, line: Line<'_>) -> Result<(), NoMemory> {
         match self.made.take(alloc, line) {
             Ok(()) => Ok(()),
@@ -73,13 +73,14 @@ impl TakeLine for PlanFaults {
     }
 }
 
-/// Every fault of a dialplan's text, in the order of its lines, at most one for each line.
+/// All faults in the text of a dialplan, in the order of their lines, at most one for each line.
 ///
-/// A line with a fault is passed over: the lines behind it are read as if it were empty. So a `same` behind it goes on with the
-/// extension before it, and an `n` counts on from the line before it. None are given exactly if the text loads, and else the
-/// first is the one for which [`Dialplan::load`](crate::Dialplan::load) refuses the text: see [`show_faults_decide_loading`].
+/// A line with a fault is skipped: the lines after it are read as if it were empty. So a `same` after it continues the extension before it,
+/// and an `n` counts on from the line before it. The list is empty exactly if the text loads; otherwise its first fault is the one for
+/// which [`Dialplan::load`](crate::Dialplan::load) refuses the text: see [`show_faults_decide_loading`].
 ///
-/// A fault of the text itself is the error, as `LoadFault::Conf`, since it leaves open how the lines behind it are read.
+/// A fault of the text itself is the error, as `LoadFault::Conf`, because it leaves open how the lines after it are read. The error is
+/// `NoMemory` if memory runs out.
 pub fn plan_faults(alloc: Global, text: &[u8]) -> Result<Vec<LoadFault>, LoadFault>
     ensures { Answers (λ faults. faults.items) reason_of result (faults_of text.now) }
 {
@@ -89,8 +90,8 @@ pub fn plan_faults(alloc: Global, text: &[u8]) -> Result<Vec<LoadFault>, LoadFau
     Ok(found.into_faults())
 }
 
-/// A text with no fault loads. One with faults is refused for the first of them, and one with a fault of the text itself for
-/// that. It does nothing.
+/// States that a text without a fault loads, that a text with faults is refused for the first of them, and that a text with a fault of its
+/// own is refused for that fault. It does nothing.
 pub fn show_faults_decide_loading()
     ensures none { (text : List ℕ) → faults_of text ≡ Ok [] → is_ok (plan_and_notes text) ≡ true }
     ensures first { (text : List ℕ) (fault : LoadFault) (faults : List LoadFault) → faults_of text ≡ Ok (fault ∷ faults)
@@ -98,7 +99,8 @@ pub fn show_faults_decide_loading()
     ensures text { (text : List ℕ) (fault : LoadFault) → faults_of text ≡ Err fault → plan_and_notes text ≡ Err fault }
 {}
 
-/// The lines with no fault, read alone, have no fault either, and say what was read of them among the others. It does nothing.
+/// States that the lines without a fault have no fault either when they are read alone, and give what they gave among the others. It does
+/// nothing.
 pub fn show_faultless_lines_stand_alone()
     ensures { (lines : List LineOf) → items_after [] (faultless_after [] lines) ≡ Ok (kept_after [] lines) }
 {}

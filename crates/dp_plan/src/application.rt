@@ -10,14 +10,14 @@ use crate::fault::{ItemFault, PlanKind, Word, fault};
 use dp_conf::{ShallowText, cut_once, trim};
 use std::alloc::Global;
 
-/// An application as it is called: its name and its arguments.
+/// An application as written in a line: its name and its arguments.
 #[derive(Clone, Copy)]
 pub(crate) struct ApplicationCall<'a> {
     pub(crate) name: &'a [u8],
     pub(crate) arguments: &'a [u8],
 }
 
-/// The text without its last byte, where that is a `)`.
+/// The text without its last byte, if that is a `)`.
 pub(crate) fn before_closing(text: &[u8]) -> Option<&[u8]>
     ensures { MatchOption result (spec.without_last 41 text.now ≡ None)
         (λ front. spec.without_last 41 text.now ≡ Some front.now) }
@@ -29,7 +29,7 @@ pub(crate) fn before_closing(text: &[u8]) -> Option<&[u8]>
     Some(front)
 }
 
-/// What stands before the first `(` of an application, and what stands between that and a final `)`.
+/// The text before the first `(` of an application, and the text between that and a final `)`.
 #[inline(always)]
 fn application_parts(text: &[u8]) -> (&[u8], Option<&[u8]>)
     ensures { spec.application_parts text.now (cuts.cut_once 40 text.now)
@@ -41,7 +41,7 @@ fn application_parts(text: &[u8]) -> (&[u8], Option<&[u8]>)
     }
 }
 
-/// The application of a line, `name` or `name(arguments)`.
+/// The application of a line, written `name` or `name(arguments)`.
 #[tactic(auto, unfolding(crate::specs::EntryLine::application_of))]
 #[inline(always)]
 pub(crate) fn read_application(text: &[u8]) -> Result<ApplicationCall<'_>, PlanKind>
@@ -61,7 +61,7 @@ pub(crate) fn read_application(text: &[u8]) -> Result<ApplicationCall<'_>, PlanK
     }
 }
 
-/// A copy of a text that is expanded later, the arguments of an application or the value of a global variable.
+/// A copy of a text that is expanded later: the arguments of an application or the value of a global variable.
 #[inline(always)]
 pub(crate) fn read_shallow(
     alloc: Global,

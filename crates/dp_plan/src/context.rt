@@ -7,7 +7,7 @@ use dp_conf::{NoMemory, Text};
 use std::alloc::Global;
 use std::marker::Model;
 
-/// A context: its name, and its entries and includes in the order of the file. A contract sees it as these three.
+/// A context: its name, and its entries and includes in file order. A contract sees it as these three.
 #[derive(Debug)]
 pub struct Context {
     name: SharedText,
@@ -42,7 +42,7 @@ impl Model for Context {
 impl Context {
     ghost use Rattle.dp_plan.specs.Contexts.{AreNamed, with_entry, with_include};
 
-    /// A context with no entries and no includes.
+    /// A context without entries and includes.
     pub(crate) fn new(alloc: Global, name: SharedText) -> Self
         ensures { result ≡ record { name = name; entries = []; includes = [] } }
     {
@@ -53,46 +53,46 @@ impl Context {
         }
     }
 
-    /// The context's name.
+    /// The name of the context.
     pub fn name(&self) -> &Text
         ensures { result.now ≡ self.now.name }
     {
         self.name.text()
     }
 
-    /// The context's entries in the order of the file.
+    /// The entries of the context, in file order.
     pub fn entries(&self) -> &[Entry]
         ensures { result.now ≡ self.now.entries }
     {
         &self.entries
     }
 
-    /// The names of the contexts that the context includes, in the order of the file. There need be no such context,
-    /// and a name may stand twice.
+    /// The names of the contexts that the context includes, in file order. A name need not be that of a context, and
+    /// may occur twice.
     pub fn includes(&self) -> &[Text]
         ensures { result.now ≡ self.now.includes }
     {
         &self.includes
     }
 
-    /// The name of each entry is one that some text means.
+    /// The name of each entry is the meaning of some text.
     pub(crate) fn entries_are_named(&self)
         ensures { AreNamed self.now.entries }
     {
         let _entries = &self.entries;
     }
 
-    /// Adds an entry after the others.
+    /// Adds an entry at the end.
     pub(crate) fn push(&mut self, entry: Entry) -> Result<(), NoMemory>
         ensures { OnOk result (self.new ≡ with_entry entry self.old) }
     {
-        // What a name is made of is what some text means.
+        // The parts of a name are the meaning of some text.
         let _parts = entry.name.name().parts();
         self.entries.push(entry)?;
         Ok(())
     }
 
-    /// Adds an include after the others.
+    /// Adds an include at the end.
     pub(crate) fn push_include(&mut self, name: Text) -> Result<(), NoMemory>
         ensures { OnOk result (self.new ≡ with_include name self.old) }
     {

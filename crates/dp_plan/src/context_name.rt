@@ -1,4 +1,4 @@
-//! The name of the context in whose section lines stand.
+//! The name of the context to whose section lines belong.
 ghost use Rattle.std.specs.Prelude.{◌≡◌, IfOk, nat_eq};
 ghost use Rattle.std.specs.Hash as fed;
 ghost use Rattle.std.specs.Cmp.Lexicographic.{pointwise, nat_list_eq_equiv};
@@ -13,8 +13,8 @@ use std::alloc::Global;
 use std::hash::{DefaultHasher, Hash, Hasher};
 use std::marker::Model;
 
-/// The name of a context beside its hash, so that the extensions of a context are hashed and its name is not. Its copies take
-/// no memory. A contract sees it as its bytes.
+/// The name of a context with its hash, so that extensions are hashed without hashing the name of their context again. Copying it never
+/// allocates. A contract sees it as its bytes.
 #[derive(Drop)]
 pub(crate) struct ContextName {
     text: SharedText,
@@ -32,7 +32,7 @@ impl Model for ContextName {
     ghost invariant = { λ name. name.hash ≡ name_hash name.text };
 }
 
-/// The hash of a name, by SipHash: names that have one hash of all its bits are hard to find.
+/// The hash of a name, by SipHash: names with equal full hashes are hard to find.
 #[tactic(auto, unfolding(crate::specs::steps::ContextName::name_hash))]
 fn name_hash(name: &[u8]) -> u64
     ensures { result ≡ spec.name_hash name.now }
@@ -43,7 +43,7 @@ fn name_hash(name: &[u8]) -> u64
 }
 
 impl ContextName {
-    /// A name of these bytes, for its owners to come.
+    /// A shared name with these bytes.
     pub(crate) fn copy_of(alloc: Global, bytes: &[u8]) -> Result<Self, NoMemory>
         ensures { IfOk result (λ name. name ≡ bytes.now) }
     {

@@ -1,7 +1,6 @@
-//! A dialplan in the making.
-ghost use Rattle.std.specs.Prelude.{◌≡◌, ◌++◌, ◌<◌, [], ◌∷◌, OnOk, OnErr, IfOk, Some, None, false, length, fold, map};
+//! A dialplan under construction.
+ghost use Rattle.std.specs.Prelude.{◌≡◌, ◌++◌, ◌<◌, [], ◌∷◌, OnOk, OnErr, IfOk, Some, None, false, length, map};
 ghost use Rattle.std.specs.List.{All, flat_map};
-ghost use Rattle.std.specs.Option.{option_to_list};
 ghost use Rattle.dp_plan.specs.Contexts.{with_entry, with_include};
 ghost use Rattle.dp_plan.specs.steps.Draft as spec;
 ghost use Rattle.dp_plan.specs.steps.Open.{section_of, last_of, IsOpenSection};
@@ -20,7 +19,6 @@ use crate::label::{Label, label_of};
 use crate::note::{Note, NoteKind};
 use crate::numbers::{Numbers, short_number};
 use crate::plan::{Dialplan, GlobalVariable, LoadedPlan, PlanParts};
-use crate::priority::Priority;
 use crate::ranking::rank_contexts;
 use crate::remark::{Remark, settle};
 use crate::section::{OpenContext, OpenSection, Section};
@@ -31,7 +29,7 @@ use indexmap::IndexSet;
 use std::alloc::Global;
 use std::marker::Model;
 
-/// What the items so far make: the parts of a dialplan, the places and labels that are taken, and the notes.
+/// The result of the items so far: the parts of a dialplan, the places and labels that are taken, and the remarks.
 #[derive(Drop)]
 pub(crate) struct Draft {
     globals: Vec<GlobalVariable>,
@@ -42,6 +40,14 @@ pub(crate) struct Draft {
     taken: TakenPlaces,
     labels: IndexSet<Label>,
     remarks: Vec<Remark>,
+}
+
+/// The entry of a line, with the number of its extension.
+#[derive(Drop)]
+pub(crate) struct NumberedEntry {
+    pub(crate) line: usize,
+    pub(crate) number: u32,
+    pub(crate) entry: Entry,
 }
 
 impl Model for Draft {
@@ -66,7 +72,7 @@ impl Model for Draft {
         × (length draft.lines.items ≡ length draft.contexts.items) };
 }
 
-/// The place that an entry takes, by the number of its extension.
+/// The place that an entry takes, given the number of its extension.
 fn slot_of(number: u32, entry: &Entry) -> Slot
     ensures { result ≡ spec.slot_of number entry.now }
 {
@@ -76,7 +82,7 @@ fn slot_of(number: u32, entry: &Entry) -> Slot
     }
 }
 
-/// The context of this name, with nothing in it.
+/// An empty context with this name.
 fn empty_context(alloc: Global, name: &SharedText) -> Result<Context, NoMemory>
     ensures { IfOk result (λ context. context ≡ spec.empty_context name.now) }
 {
@@ -84,7 +90,7 @@ fn empty_context(alloc: Global, name: &SharedText) -> Result<Context, NoMemory>
     Ok(Context::new(alloc, name))
 }
 
-/// The dialplan of these parts, with the rankings of its contexts, whose entries' extensions have these numbers.
+/// The dialplan with these parts and the rankings of its contexts, given the numbers of the extensions of their entries.
 fn plan_of(alloc: Global, parts: PlanParts, numbers: &[Numbers]) -> Result<Dialplan, NoMemory>
     requires names { parts.names.keys ≡ map (λ context. context.name) parts.contexts.items }
     requires apart { All (λ context. AreApart context.entries) parts.contexts.items }
@@ -97,7 +103,7 @@ fn plan_of(alloc: Global, parts: PlanParts, numbers: &[Numbers]) -> Result<Dialp
 }
 
 impl Draft {
-    /// A draft of nothing.
+    /// An empty draft.
     pub(crate) fn new(alloc: Global) -> Self
         ensures { result ≡ spec.nothing }
     {
@@ -113,7 +119,7 @@ impl Draft {
         }
     }
 
-    /// Adds the context of this name, which is not there, and gives its place.
+    /// Adds the context with this name, which does not exist yet, and returns its place.
     fn add_context(&mut self, alloc: Global, name: &SharedText) -> Result<usize, NoMemory>
         requires { is_named self.old.names name.now ≡ false }
         ensures ok { OnOk result (self.new ≡ spec.with_context self.old name.now) }
@@ -132,7 +138,7 @@ impl Draft {
         Ok(place)
     }
 
-    /// Makes sure that the context of this name is there, and gives its place.
+    /// Adds the context with this name unless it exists, and returns its place.
     fn open(&mut self, alloc: Global, name: &SharedText) -> Result<usize, NoMemory>
         ensures ok { OnOk result (self.new ≡ spec.with_context self.old name.now) }
         ensures err { OnErr result (self.new ≡ self.old) }
@@ -144,7 +150,7 @@ impl Draft {
         }
     }
 
-    /// Notes something of a line.
+    /// Adds a note on a line.
     pub(crate) fn note(&mut self, line: usize, kind: NoteKind) -> Result<(), NoMemory>
         ensures noted { OnOk result (self.new ≡ spec.with_note self.old line kind) }
         ensures names { self.new.names ≡ self.old.names }
@@ -153,24 +159,7 @@ impl Draft {
         Ok(())
     }
 
-    /// Whether the place is taken.
-    fn is_slot_taken(&mut self, alloc: Global, slot: Slot) -> Result<bool, NoMemory>
-        ensures taken { IfOk result (λ taken. taken ≡ spec.is_slot_taken self.old slot) }
-        ensures same { self.new ≡ self.old }
-    {
-        self.taken.is_taken(alloc, slot)
-    }
-
-    /// Takes up the place, which is free.
-    fn take_slot(&mut self, slot: Slot) -> Result<(), NoMemory>
-        requires { spec.is_slot_taken self.old slot ≡ false }
-        ensures taken { OnOk result (self.new ≡ record self.old { taken = self.old.taken ++ slot ∷ [] }) }
-        ensures names { self.new.names ≡ self.old.names }
-    {
-        self.taken.take(slot)
-    }
-
-    /// Takes up the label, and says whether it was taken already.
+    /// Takes the label, and returns whether it was taken already.
     fn mark(&mut self, label: Label) -> Result<bool, NoMemory>
         ensures taken { IfOk result (λ taken. taken ≡ spec.is_marked self.old (Some label)) }
         ensures marked { OnOk result (self.new ≡ spec.with_label self.old (Some label)) }
@@ -180,7 +169,7 @@ impl Draft {
         Ok(!is_free)
     }
 
-    /// Takes up the label of an entry, where it has one, and says whether it was taken already.
+    /// Takes the label of an entry, if it has one, and returns whether it was taken already.
     #[tactic(auto, using(crate::proofs::ClaimLemmas::unlabelled))]
     fn take_label(&mut self, number: u32, entry: &Entry) -> Result<bool, NoMemory>
         ensures taken { IfOk result (λ taken. taken ≡ spec.is_marked self.old (spec.label_of number entry.now)) }
@@ -196,7 +185,7 @@ impl Draft {
         }
     }
 
-    /// Takes up what an entry takes, by the number of its extension, unless that is taken, which is noted.
+    /// Takes the place and the label of an entry, given the number of its extension, or returns the note if one of them is taken already.
     #[inline(always)]
     fn claim(
         &mut self,
@@ -211,13 +200,13 @@ impl Draft {
         ensures names { self.new.names ≡ self.old.names }
     {
         let slot = slot_of(number, entry);
-        if self.is_slot_taken(alloc, slot)? {
+        if self.taken.is_taken(alloc, slot)? {
             return Ok(Some(NoteKind::DoublePriority));
         }
         if self.take_label(number, entry)? {
             return Ok(Some(NoteKind::DoubleLabel));
         }
-        self.take_slot(slot)?;
+        self.taken.take(slot)?;
         Ok(None)
     }
 
@@ -235,7 +224,7 @@ impl Draft {
         Ok(())
     }
 
-    /// Adds the number of an extension to those of the context at the place.
+    /// Adds the number of an extension to the numbers of the context at the place.
     #[inline(always)]
     fn push_number(&mut self, place: usize, number: u32) -> Result<(), NoMemory>
         requires { place < length self.old.names }
@@ -249,7 +238,7 @@ impl Draft {
         Ok(())
     }
 
-    /// Adds the line of an entry to those of the context at the place.
+    /// Adds the line of an entry to the lines of the context at the place.
     #[inline(always)]
     fn push_line(&mut self, place: usize, line: usize) -> Result<(), NoMemory>
         requires { place < length self.old.names }
@@ -262,28 +251,6 @@ impl Draft {
         let lines = &mut self.lines[place];
         lines.push(line)?;
         Ok(())
-    }
-
-    /// Adds the entry of a line to the context at the place, by the number of its extension.
-    #[inline(always)]
-    fn push_numbered(
-        &mut self,
-        line: usize,
-        place: usize,
-        number: u32,
-        entry: Entry,
-    ) -> Result<(), NoMemory>
-        requires { place < length self.old.names }
-        ensures pushed { OnOk result (self.new ≡ record self.old {
-          contexts = changed_at (with_entry entry) place self.old.contexts;
-          numbers = changed_at (with_number number) place self.old.numbers;
-          lines = changed_at (with_number line) place self.old.lines;
-        }) }
-        ensures names { self.new.names ≡ self.old.names }
-    {
-        self.push_number(place, number)?;
-        self.push_line(place, line)?;
-        self.push_entry(place, entry)
     }
 
     /// Adds the include to the context at the place.
@@ -299,37 +266,33 @@ impl Draft {
         Ok(())
     }
 
-    /// Adds an entry to the context at the place, or notes that its place or its label is taken.
+    /// Adds an entry to the context at the place, or adds a note if its place or its label is taken.
     #[tactic(auto, using(crate::proofs::AdditionLemmas::noted_addition, crate::proofs::AdditionLemmas::kept_addition))]
     #[inline(always)]
     pub(crate) fn add_entry(
         &mut self,
         alloc: Global,
-        line: usize,
         place: usize,
-        number: u32,
-        entry: Entry,
+        added: NumberedEntry,
     ) -> Result<(), NoMemory>
         requires { place < length self.old.names }
-        ensures added { OnOk result (self.new ≡ spec.with_addition self.old line place number entry) }
+        ensures added { OnOk result (self.new ≡ spec.with_addition self.old added.line place added.number added.entry) }
         ensures names { self.new.names ≡ self.old.names }
     {
-        match self.claim(alloc, number, &entry)? {
-            Some(kind) => self.note(line, kind),
-            None => self.push_numbered(line, place, number, entry),
+        let NumberedEntry {
+            line,
+            number,
+            entry,
+        } = added;
+        if let Some(kind) = self.claim(alloc, number, &entry)? {
+            return self.note(line, kind);
         }
+        self.push_number(place, number)?;
+        self.push_line(place, line)?;
+        self.push_entry(place, entry)
     }
 
-    /// Keeps an include's line and name, for its note.
-    fn ask(&mut self, line: usize, name: Text) -> Result<(), NoMemory>
-        ensures asked { OnOk result (self.new ≡ record self.old { remarks = self.old.remarks ++ Remark.Asks line name ∷ [] }) }
-        ensures names { self.new.names ≡ self.old.names }
-    {
-        self.remarks.push(Remark::Asks { line, name })?;
-        Ok(())
-    }
-
-    /// Adds an include to the context at the place. Whether its name is one of a context shows in the end.
+    /// Adds an include to the context at the place. Only at the end is it known whether a context has its name.
     pub(crate) fn add_include(
         &mut self,
         line: usize,
@@ -342,7 +305,8 @@ impl Draft {
     {
         let copy = name.clone()?;
         self.push_include(place, copy)?;
-        self.ask(line, name)
+        self.remarks.push(Remark::Asks { line, name })?;
+        Ok(())
     }
 
     /// Adds a global variable.
@@ -372,7 +336,7 @@ impl Draft {
         }
     }
 
-    /// The notes that the remarks come to.
+    /// The notes that follow from the remarks.
     fn notes(&self, alloc: Global) -> Result<Vec<Note>, NoMemory>
         ensures { IfOk result (λ notes. notes.items ≡ flat_map (spec.remark_notes self.now.names) self.now.remarks) }
     {
@@ -380,8 +344,8 @@ impl Draft {
         Ok(notes)
     }
 
-    /// The parts of the draft's dialplan, the numbers of its entries' extensions, and its entries' lines. The places, the labels
-    /// and the remarks are dropped.
+    /// The parts of the draft's dialplan, the numbers of the extensions of its entries, and the lines of its entries. The places, the
+    /// labels and the remarks are dropped.
     fn into_parts(self) -> (PlanParts, Vec<Numbers>, EntryLines)
         ensures globals { result.0.globals.items ≡ self.globals }
         ensures names { result.0.names.keys ≡ self.names }
@@ -407,7 +371,7 @@ impl Draft {
         (parts, numbers, EntryLines::of_contexts(lines))
     }
 
-    /// The dialplan of the draft, its notes, and its entries' lines. The places and labels are dropped before the entries are ranked.
+    /// The dialplan of the draft, its notes, and the lines of its entries. The places and labels are dropped before the entries are ranked.
     pub(crate) fn into_plan(self, alloc: Global) -> Result<LoadedPlan, NoMemory>
         requires names { self.names ≡ map (λ context. context.name) self.contexts }
         requires apart { All (λ context. AreApart context.entries) self.contexts }

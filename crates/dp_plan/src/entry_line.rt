@@ -22,7 +22,7 @@ use crate::shared_text::SharedText;
 use dp_conf::{NoMemory, cut_once, trim};
 use std::alloc::Global;
 
-/// A copy of the text, where there is one.
+/// A copy of the text, if there is one.
 #[inline(always)]
 fn copy_label(alloc: Global, label: Option<&[u8]>) -> Result<Option<SharedText>, NoMemory>
     ensures { IfOk result (λ copy. copy ≡ option_map (λ label. label.now) label.entry) }
@@ -36,7 +36,7 @@ fn copy_label(alloc: Global, label: Option<&[u8]>) -> Result<Option<SharedText>,
     }
 }
 
-/// What stands after the name in the line of an entry.
+/// The parts of the line of an entry after the name.
 #[derive(Clone, Copy)]
 pub(crate) struct EntryParts<'a> {
     line: usize,
@@ -44,21 +44,22 @@ pub(crate) struct EntryParts<'a> {
     application: &'a [u8],
 }
 
-/// The extension that a line names: its name, and its number where that is known.
+/// The extension that a line names: its name, and its number if that is known.
 #[derive(Drop)]
 pub(crate) struct LineExtension {
     name: SharedName,
     number: Option<u32>,
 }
 
-/// The entry that a line writes, with the number of its extension where that is known.
+/// The entry that a line writes, with the number of its extension if that is known.
 #[derive(Drop)]
 pub(crate) struct LineEntry {
     pub(crate) entry: Entry,
     pub(crate) number: Option<u32>,
 }
 
-/// The number of the extension, which is looked up where the priority of the line asks for the last one and it is not known.
+/// The number of the extension. If it is not known, it is looked up only if the priority of the line needs the last priority of the
+/// extension.
 #[tactic(auto, using(crate::proofs::TableLemmas::priority_found))]
 #[inline(always)]
 fn number_before(
@@ -157,7 +158,7 @@ pub(crate) fn read_exten(
     Ok(read)
 }
 
-/// The extension of a line that repeats the one before it.
+/// The extension of a line that continues the one before it.
 fn extension_again(
     reader: &Reader,
     context: &OpenContext,
@@ -168,7 +169,7 @@ fn extension_again(
     ensures number { IfOk result (λ extension.
         IfSome extension.number (HasNumber reader.now (extension_of context.now.name extension.name))) }
 {
-    // The reader has the number.
+    // The reader contains the number.
     let _reader = reader;
     match &context.last {
         None => Err(fault(line, PlanKind::NoExten)),

@@ -6,10 +6,10 @@ use crate::entry::EntryId;
 use crate::numbers::Numbers;
 use std::marker::Model;
 
-/// By which line of the text each entry of a dialplan was loaded. A contract sees it as the numbers of the lines, from 1: for
-/// each context in the order of the dialplan, for each of its entries in the order of the file.
+/// The line of the text from which each entry of a dialplan was loaded. A contract sees it as the numbers of the lines, counted from 1: for
+/// each context in the order of the dialplan, for each of its entries in file order.
 ///
-/// They stand beside the dialplan and not in it, since two texts of one dialplan have other lines.
+/// They are kept separately from the dialplan, because two texts of the same dialplan may have different lines.
 #[derive(Debug, Drop)]
 pub struct EntryLines {
     contexts: Vec<Numbers>,
@@ -31,7 +31,7 @@ impl EntryLines {
         EntryLines { contexts }
     }
 
-    /// The line of the entry of these numbers, from 1, or None where there is no such entry.
+    /// The line of the entry with these numbers, counted from 1, or None if there is no such entry.
     pub fn line(&self, id: EntryId) -> Option<usize>
         ensures { result ≡ line_at self.now id }
     {

@@ -8,7 +8,7 @@ use crate::shared_name::{SharedName, SharedSpelling};
 use crate::shared_text::SharedText;
 use dp_conf::NoMemory;
 
-/// An extension of a context. Names of one meaning are one extension, since they have one canonical spelling.
+/// An extension of a context. Names with the same meaning are one extension, because they have one canonical spelling.
 #[derive(PartialEq, Eq, Hash, Drop)]
 pub(crate) struct Extension {
     context: ContextName,
@@ -16,7 +16,7 @@ pub(crate) struct Extension {
 }
 
 impl Extension {
-    /// The extension of the name in the context. It never allocates.
+    /// The extension with the name in the context. It never allocates.
     pub(crate) fn of(context: &ContextName, name: &SharedName) -> Result<Self, NoMemory>
         ensures { IfOk result (λ extension. extension ≡ extension_of context.now name.now) }
     {
@@ -26,8 +26,8 @@ impl Extension {
     }
 }
 
-/// Two names have one canonical spelling exactly where they mean the same: names of one meaning are one extension, and
-/// names of two meanings are two.
+/// States that two names have one canonical spelling exactly if they have the same meaning: names with one meaning are
+/// one extension, and names with two meanings are two. It does nothing.
 pub fn same_names_are_equal()
     ensures { (a b : Meaning) → IsName a → IsName b → IsTrue (same_name a b) ↔ (a ≡ b) }
 {}

@@ -1,4 +1,4 @@
-//! What a dialplan is refused for, with the numbers and the names that are printed.
+//! The faults for which a dialplan is refused, with their numbers and their printed names.
 ghost use Rattle.std.specs.Prelude.{◌≡◌, Some};
 ghost use Rattle.dp_conf.specs.declared.first_fault.TakeFault.TheVariants.{Line};
 ghost use Rattle.dp_plan.specs.Codes.{plan_code, plan_name, load_fault_text};
@@ -9,22 +9,22 @@ use std::alloc::AllocFailed;
 use std::error::Error;
 use std::fmt;
 
-/// What a line asks for that this program leaves out.
+/// A feature used by a line that this program does not support.
 #[derive(Clone, Copy, Debug, PartialEq, Eq)]
 pub enum Word {
     /// A key `switch`, `lswitch` or `eswitch`.
     Switch,
     /// A key `ignorepat`.
     IgnorePat,
-    /// A name with a `/`, after which a caller's number would stand.
+    /// A name with a `/`, after which the number of a caller would come.
     CallerId,
-    /// An include with a comma, after which times would stand.
+    /// An include with a comma, after which times would come.
     IncludeTimes,
     /// A name with a `${`.
     Variable,
     /// The priority `hint`.
     Hint,
-    /// An application with a comma before its `(`, or with a comma and no `(`.
+    /// An application with a comma before its `(`, or with a comma and without a `(`.
     OldForm,
     /// A priority `next`, `s` or `same`, or one with a `+`.
     PriorityWord,
@@ -33,23 +33,23 @@ pub enum Word {
 /// Why a line of a context is refused.
 #[derive(Clone, Copy, Debug, PartialEq, Eq)]
 pub enum PlanKind {
-    /// A priority that is neither a number from 1 on nor `n`.
+    /// A priority that is neither a number from 1 nor `n`.
     BadPriority,
-    /// A priority `n` with no earlier line of its extension.
+    /// A priority `n` without an earlier line of its extension.
     NoPrevious,
-    /// A label that is empty, digits alone, or with a parenthesis in it, or a `(` and no `)` as the last byte.
+    /// A label that is empty, only digits, or contains a parenthesis, or a `(` without a `)` as the last byte.
     BadLabel,
-    /// An application with an empty name, or with a `(` and no `)` as its last byte.
+    /// An application with an empty name, or with a `(` but without a `)` as its last byte.
     BadApplication,
-    /// The line asks for what this program leaves out.
+    /// The line uses a feature that is not supported.
     LeftOut(Word),
-    /// Arguments, or the value of a global variable, in which more than 32 groups stand inside each other.
+    /// Arguments, or the value of a global variable, whose groups are nested more than 32 deep.
     TooDeep,
-    /// A line `same` with no line `exten` since the header.
+    /// A line `same` without a line `exten` since the header.
     NoExten,
     /// A priority above 2,147,483,647.
     PriorityLimit,
-    /// A line `exten` with fewer than two commas, or a line `same` with none.
+    /// A line `exten` with fewer than two commas, or a line `same` without a comma.
     ShortLine,
 }
 
@@ -71,7 +71,7 @@ impl PlanKind {
         }
     }
 
-    /// The name of the fault, as it is printed beside its number.
+    /// The name of the fault, as it is printed next to its number.
     pub fn name(self) -> &'static str
         ensures { result.now ≡ plan_name self }
     {
@@ -89,10 +89,10 @@ impl PlanKind {
     }
 }
 
-/// Why a line of a context or of the global variables is refused, where its name counts too.
+/// Why a line of a context or of the global variables is refused, including for its name.
 #[derive(Clone, Copy)]
 pub(crate) enum ItemKind {
-    /// The name of a line is none.
+    /// The name of the line is not valid.
     BadName(NameFault),
     /// The rest of a line is refused.
     BadLine(PlanKind),
@@ -101,7 +101,7 @@ pub(crate) enum ItemKind {
 /// Why a line has no item.
 pub(crate) type ItemFault = TakeFault<ItemKind>;
 
-/// The fault of a line that is refused.
+/// The fault of a refused line.
 pub(crate) fn fault(line: usize, kind: PlanKind) -> ItemFault
     ensures { result ≡ Line (record { line = line; kind = ItemKind.BadLine kind }) }
 {
@@ -109,16 +109,16 @@ pub(crate) fn fault(line: usize, kind: PlanKind) -> ItemFault
     TakeFault::Line(FaultyLine { line, kind })
 }
 
-/// Why a dialplan did not load. Out of memory is always `NoMemory`, and never within `Conf`.
+/// Why a dialplan did not load. Out-of-memory is always `NoMemory`, and never within `Conf`.
 #[derive(Clone, Copy, Debug, PartialEq, Eq)]
 pub enum LoadFault {
     /// A line of the text is refused, whatever its section.
     Conf(ConfFault),
-    /// The name of a line is none; lines are counted from 1.
+    /// The name of the line is not valid; lines are counted from 1.
     Pattern { line: usize, fault: NameFault },
     /// A line of a context or of the global variables is refused; lines are counted from 1.
     Plan { line: usize, kind: PlanKind },
-    /// The allocator had no memory.
+    /// Memory ran out.
     NoMemory,
 }
 

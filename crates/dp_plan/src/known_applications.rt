@@ -1,4 +1,4 @@
-//! The names of applications that lines have written, each held once.
+//! The names of applications that occur in lines, each kept once.
 ghost use Rattle.std.specs.Prelude.{◌≡◌, [], IfOk, IfSome, OnOk};
 ghost use Rattle.dp_plan.specs.steps.KnownApplications.{is_known, with_known_name};
 
@@ -7,11 +7,11 @@ use dp_conf::NoMemory;
 use std::alloc::Global;
 use std::marker::Model;
 
-/// The most names that are held, so that a look among them stays short (a choice of this program).
+/// The greatest number of names that are kept, so that a search among them stays short (a choice of this program).
 const MOST_KNOWN: usize = 32;
 
-/// The first names of applications as they are written, at most 32. Lines that write one of them own its text together. A
-/// contract sees the names in the order in which they came.
+/// The first names of applications as written, at most 32. Lines that write one of them share its text. A contract sees the names in the
+/// order in which they came.
 #[derive(Drop)]
 pub(crate) struct KnownApplications {
     names: Vec<SharedText>,
@@ -28,7 +28,7 @@ impl Model for KnownApplications {
 }
 
 impl KnownApplications {
-    /// No name.
+    /// Without names.
     pub(crate) fn new(alloc: Global) -> Self
         ensures { result ≡ [] }
     {
@@ -37,21 +37,21 @@ impl KnownApplications {
         }
     }
 
-    /// The name that is written so, where it is held.
+    /// The name that is written this way, if it is kept.
     fn find(&self, name: &[u8]) -> Option<&SharedText>
         ensures { IfSome result (λ known. known.now ≡ name.now) }
     {
         self.names.iter().find(|known| known.bytes() == name)
     }
 
-    /// Whether a name is held that is written so.
+    /// Whether a name that is written this way is kept.
     fn is_known(&self, name: &SharedText) -> bool
         ensures { result ≡ is_known self.now name.now }
     {
         self.names.contains(name)
     }
 
-    /// Holds the name too, unless it is held or there are 32 already.
+    /// Keeps the name too, unless it is kept already or there are 32.
     fn keep(&mut self, name: &SharedText) -> Result<(), NoMemory>
         ensures { OnOk result (self.new ≡ with_known_name self.old name.now) }
     {
@@ -63,8 +63,7 @@ impl KnownApplications {
         Ok(())
     }
 
-    /// The name with its owners where it is held. Where it is not, it is a text of its own, which is held from then on if
-    /// there is room.
+    /// The shared name if it is kept. Otherwise a new text, which is kept from then on if there is room.
     pub(crate) fn share(&mut self, alloc: Global, name: &[u8]) -> Result<SharedText, NoMemory>
         ensures { IfOk result (λ shared. shared ≡ name.now) }
     {

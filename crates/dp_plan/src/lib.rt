@@ -1,4 +1,4 @@
-//! Loads a dialplan: its global variables, and its contexts with their entries.
+//! Loading a dialplan: its global variables, and its contexts with their entries.
 #![tactic(auto)]
 
 mod all_faults;

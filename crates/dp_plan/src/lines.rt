@@ -1,7 +1,6 @@
-//! The lines so far, and what one more of a context does.
+//! The result of the lines so far, and the effect of one more line of a context.
 ghost use Rattle.std.specs.Prelude.{◌≡◌, OnOk, IfSome};
 ghost use Rattle.dp_conf.specs.Answers.{Answers};
-ghost use Rattle.dp_plan.specs.EntryLine.{exten_entry, same_entry};
 ghost use Rattle.dp_plan.specs.Extensions.{extension_of};
 ghost use Rattle.dp_plan.specs.Item.{Adds};
 ghost use Rattle.dp_plan.specs.Items as items;
@@ -11,7 +10,7 @@ ghost use Rattle.dp_plan.specs.steps.Open.{IsOpen, history_at};
 ghost use Rattle.dp_plan.specs.steps.Table.{HasNumber};
 
 use crate::application::read_shallow;
-use crate::draft::Draft;
+use crate::draft::{Draft, NumberedEntry};
 use crate::entry_line::{LineEntry, read_exten, read_same};
 use crate::fault::{ItemFault, PlanKind, Word, fault};
 use crate::note::NoteKind;
@@ -21,14 +20,22 @@ use crate::section::{LastExtension, OpenContext, OpenSection};
 use dp_conf::{NoMemory, Text, same_word};
 use std::alloc::Global;
 
-/// What the lines so far leave for the next ones beside their section, and the dialplan in the making.
+/// What the lines so far leave for the next ones apart from their section, and the dialplan under construction.
 #[derive(Drop)]
 pub(crate) struct Lines {
     pub(crate) reader: Reader,
     pub(crate) draft: Draft,
 }
 
-/// Why a key of a context is refused, where it is one of those that this program leaves out.
+/// A key and its value, with the number of their line.
+#[derive(Clone, Copy)]
+pub(crate) struct Pair<'a> {
+    pub(crate) line: usize,
+    pub(crate) key: &'a [u8],
+    pub(crate) value: &'a [u8],
+}
+
+/// The reason why a key of a context is refused, if it is one that this program does not support.
 fn refused_key(key: &[u8]) -> Option<PlanKind>
     ensures { result ≡ items.refused_key key.now }
 {
@@ -42,24 +49,19 @@ fn refused_key(key: &[u8]) -> Option<PlanKind>
 }
 
 impl Lines {
-    /// Sets the global variable of a pair, which is none where its key is empty.
-    pub(crate) fn set_global(
-        &mut self,
-        alloc: Global,
-        line: usize,
-        key: &[u8],
-        value: &[u8],
-    ) -> Result<(), ItemFault>
+    /// Sets the global variable of a pair, unless its key is empty.
+    pub(crate) fn set_global(&mut self, alloc: Global, pair: Pair<'_>) -> Result<(), ItemFault>
         ensures read { Answers (λ done. spec.made_in OpenSection.Variables self.new) item_reason result
-            (spec.after_read (spec.made_in OpenSection.Variables self.old) (items.global_item line key.now value.now)) }
+            (spec.after_read (spec.made_in OpenSection.Variables self.old)
+            (items.global_item pair.entry.line pair.entry.key.now pair.entry.value.now)) }
         ensures kept { AtRefusal (spec.made_in OpenSection.Variables self.new ≡ spec.made_in OpenSection.Variables self.old) result }
     {
-        if key.is_empty() {
-            self.draft.note(line, NoteKind::UnknownKey)?;
+        if pair.key.is_empty() {
+            self.draft.note(pair.line, NoteKind::UnknownKey)?;
             return Ok(());
         }
-        let value = read_shallow(alloc, line, value)?;
-        let name = Text::copy_of(alloc, key)?;
+        let value = read_shallow(alloc, pair.line, pair.value)?;
+        let name = Text::copy_of(alloc, pair.key)?;
         self.draft.set_global(GlobalVariable { name, value })?;
         Ok(())
     }
@@ -87,52 +89,12 @@ impl Lines {
             .reader
             .write(&context.name, &entry.name, number, entry.priority)?;
         context.last = Some(LastExtension { name, number });
-        self.draft
-            .add_entry(alloc, line, context.place, number, entry)
-    }
-
-    /// Adds the entry of an `exten` line.
-    #[inline(always)]
-    fn take_exten(
-        &mut self,
-        alloc: Global,
-        line: usize,
-        context: &mut OpenContext,
-        value: &[u8],
-    ) -> Result<(), ItemFault>
-        requires { IsOpen self.old.draft.names self.old.reader context.old }
-        ensures read { Answers (λ done. spec.made_in (OpenSection.Entries context.new) self.new) item_reason result
-            (spec.after_read (spec.made_in (OpenSection.Entries context.old) self.old) (items.entry_item context.old.name line
-            (exten_entry (history_at context.old self.old.reader) line context.old.name value.now))) }
-        ensures kept { AtRefusal (spec.made_in (OpenSection.Entries context.new) self.new
-            ≡ spec.made_in (OpenSection.Entries context.old) self.old) result }
-        ensures opened { IsOpen self.new.draft.names self.new.reader context.new }
-    {
-        let read = read_exten(alloc, &mut self.reader, context, line, value)?;
-        self.add_entry(alloc, line, context, read)?;
-        Ok(())
-    }
-
-    /// Adds the entry of a `same` line.
-    #[inline(always)]
-    fn take_same(
-        &mut self,
-        alloc: Global,
-        line: usize,
-        context: &mut OpenContext,
-        value: &[u8],
-    ) -> Result<(), ItemFault>
-        requires { IsOpen self.old.draft.names self.old.reader context.old }
-        ensures read { Answers (λ done. spec.made_in (OpenSection.Entries context.new) self.new) item_reason result
-            (spec.after_read (spec.made_in (OpenSection.Entries context.old) self.old) (items.entry_item context.old.name line
-            (same_entry (history_at context.old self.old.reader) line context.old.name value.now))) }
-        ensures kept { AtRefusal (spec.made_in (OpenSection.Entries context.new) self.new
-            ≡ spec.made_in (OpenSection.Entries context.old) self.old) result }
-        ensures opened { IsOpen self.new.draft.names self.new.reader context.new }
-    {
-        let read = read_same(alloc, &mut self.reader, context, line, value)?;
-        self.add_entry(alloc, line, context, read)?;
-        Ok(())
+        let added = NumberedEntry {
+            line,
+            number,
+            entry,
+        };
+        self.draft.add_entry(alloc, context.place, added)
     }
 
     /// Adds the include of a line.
@@ -160,7 +122,7 @@ impl Lines {
         Ok(())
     }
 
-    /// Takes a line with a key that is none of a context's.
+    /// Takes a line with a key that contexts do not have.
     fn take_other(
         &mut self,
         line: usize,
@@ -190,24 +152,28 @@ impl Lines {
     pub(crate) fn take(
         &mut self,
         alloc: Global,
-        line: usize,
         context: &mut OpenContext,
-        key: &[u8],
-        value: &[u8],
+        pair: Pair<'_>,
     ) -> Result<(), ItemFault>
         requires { IsOpen self.old.draft.names self.old.reader context.old }
         ensures read { Answers (λ done. spec.made_in (OpenSection.Entries context.new) self.new) item_reason result
             (spec.after_read (spec.made_in (OpenSection.Entries context.old) self.old)
-            (items.context_item (history_at context.old self.old.reader) context.old.name line key.now value.now)) }
+            (items.context_item (history_at context.old self.old.reader) context.old.name
+            pair.entry.line pair.entry.key.now pair.entry.value.now)) }
         ensures kept { AtRefusal (spec.made_in (OpenSection.Entries context.new) self.new
             ≡ spec.made_in (OpenSection.Entries context.old) self.old) result }
         ensures opened { IsOpen self.new.draft.names self.new.reader context.new }
     {
+        let Pair { line, key, value } = pair;
         if same_word(key, b"exten") {
-            return self.take_exten(alloc, line, context, value);
+            let read = read_exten(alloc, &mut self.reader, context, line, value)?;
+            self.add_entry(alloc, line, context, read)?;
+            return Ok(());
         }
         if same_word(key, b"same") {
-            return self.take_same(alloc, line, context, value);
+            let read = read_same(alloc, &mut self.reader, context, line, value)?;
+            self.add_entry(alloc, line, context, read)?;
+            return Ok(());
         }
         if same_word(key, b"include") {
             return self.take_include(alloc, line, context, value);

@@ -1,4 +1,4 @@
-//! What the lines so far have made, and what they leave for the next one.
+//! The result of the lines so far, and what they leave for the next one.
 ghost use Rattle.std.specs.Prelude.{◌≡◌, OnOk};
 ghost use Rattle.dp_conf.specs.Answers.{Answers};
 ghost use Rattle.dp_conf.specs.Borrowed.{line_now};
@@ -10,14 +10,14 @@ ghost use Rattle.dp_plan.specs.steps.Reader.{history_in};
 
 use crate::draft::Draft;
 use crate::fault::ItemFault;
-use crate::lines::Lines;
+use crate::lines::{Lines, Pair};
 use crate::reader::Reader;
 use crate::section::{OpenSection, Section};
 use dp_conf::{Line, NoMemory};
 use std::alloc::Global;
 use std::marker::Model;
 
-/// What the lines so far have made, with the section that is open. Its context stands at its place in the draft.
+/// The result of the lines so far, with the open section. Its context is at its place in the draft.
 #[derive(Drop)]
 pub(crate) struct Made {
     section: OpenSection,
@@ -36,7 +36,7 @@ impl Model for Made {
 }
 
 impl Made {
-    /// Before the first line.
+    /// The value before the first line.
     pub(crate) fn new(alloc: Global) -> Self
         ensures { result ≡ spec.unmade }
     {
@@ -49,7 +49,7 @@ impl Made {
         }
     }
 
-    /// The dialplan in the making.
+    /// The dialplan under construction.
     pub(crate) fn into_draft(self) -> Draft
         ensures { result ≡ self.draft }
     {
@@ -57,7 +57,7 @@ impl Made {
         lines.draft
     }
 
-    /// Begins the section of this name.
+    /// Begins the section with this name.
     fn begin(&mut self, alloc: Global, name: &[u8]) -> Result<(), NoMemory>
         ensures { OnOk result (self.new ≡ spec.after_item self.old (Begins (items.section_named name.now))) }
     {
@@ -69,25 +69,20 @@ impl Made {
 
     /// Takes a pair of the section.
     #[inline(always)]
-    fn take_pair(
-        &mut self,
-        alloc: Global,
-        line: usize,
-        key: &[u8],
-        value: &[u8],
-    ) -> Result<(), ItemFault>
+    fn take_pair(&mut self, alloc: Global, pair: Pair<'_>) -> Result<(), ItemFault>
         ensures taken { Answers (λ done. self.new) item_reason result (spec.after_items self.old
-            (items.pair_item (history_in self.old.reading) self.old.reading.section line key.now value.now)) }
+            (items.pair_item (history_in self.old.reading) self.old.reading.section
+            pair.entry.line pair.entry.key.now pair.entry.value.now)) }
         ensures kept { AtRefusal (self.new ≡ self.old) result }
     {
         match &mut self.section {
             OpenSection::Settings => Ok(()),
-            OpenSection::Variables => self.lines.set_global(alloc, line, key, value),
-            OpenSection::Entries(context) => self.lines.take(alloc, line, context, key, value),
+            OpenSection::Variables => self.lines.set_global(alloc, pair),
+            OpenSection::Entries(context) => self.lines.take(alloc, context, pair),
         }
     }
 
-    /// Takes a line. One that is refused leaves everything as it was.
+    /// Takes a line. A refused line changes nothing.
     pub(crate) fn take(&mut self, alloc: Global, line: Line<'_>) -> Result<(), ItemFault>
         ensures taken { Answers (λ done. self.new) item_reason result (spec.after_line self.old (line_now line.entry)) }
         ensures kept { AtRefusal (self.new ≡ self.old) result }
@@ -97,7 +92,7 @@ impl Made {
                 self.begin(alloc, name)?;
                 Ok(())
             }
-            Line::Pair { line, key, value } => self.take_pair(alloc, line, key, value),
+            Line::Pair { line, key, value } => self.take_pair(alloc, Pair { line, key, value }),
         }
     }
 }

@@ -12,11 +12,11 @@ use dp_conf::{FaultyLine, TakeFault};
 use dp_pattern::{Name, PatternFault};
 use std::alloc::Global;
 
-/// Whether a `${` stands in the text.
+/// Whether the text contains a `${`.
 fn has_variable(text: &[u8]) -> bool
     ensures { result ≡ spec.has_variable text.now }
 {
-    // Few names have the sign, and the search for one byte is the faster.
+    // Few names contain a `$`, and the search for a single byte is faster.
     if !text.contains(&b'$') {
         return false;
     }
@@ -30,7 +30,7 @@ fn has_variable(text: &[u8]) -> bool
     false
 }
 
-/// The name that the text is.
+/// The name that the text means.
 fn name_at(alloc: Global, line: usize, text: &[u8]) -> Result<Name, ItemFault>
     ensures { Answers (λ name. name) item_reason result (name_at_line line (meaning_of text.now)) }
 {

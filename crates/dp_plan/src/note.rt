@@ -1,18 +1,17 @@
-//! What a dialplan's loading notes: lines that are dropped, and includes that find nothing.
+//! The notes on loading a dialplan: lines that are dropped, and includes of unknown contexts.
 ghost use Rattle.std.specs.Prelude.{◌≡◌};
 ghost use Rattle.dp_plan.specs.Codes.{note_name};
 
-/// What is noted of a line.
+/// The kind of a note on a line.
 #[derive(Clone, Copy, Debug, PartialEq, Eq)]
 pub enum NoteKind {
-    /// An earlier line that is kept has the extension and the priority: the line is dropped (this program's choice).
+    /// A kept earlier line has the extension and the priority: the line is dropped (this program's choice).
     DoublePriority,
-    /// An earlier line of the extension that is kept has the label: the line is dropped (this program's choice).
+    /// A kept earlier line of the extension has the label: the line is dropped (this program's choice).
     DoubleLabel,
-    /// No context has the name that is included: the include is kept and finds nothing (this program's choice).
+    /// No context has the included name: the include is kept and finds nothing (this program's choice).
     UnknownContext,
-    /// The key is none that a context has, or is empty among the global variables: the line is dropped (this
-    /// program's choice).
+    /// A context has no such key, or the key of a global variable is empty: the line is dropped (this program's choice).
     UnknownKey,
 }
 
@@ -30,7 +29,7 @@ impl NoteKind {
     }
 }
 
-/// A line, counted from 1, and what is noted of it.
+/// A line, counted from 1, and what the note says of it.
 #[derive(Clone, Copy, Debug, PartialEq, Eq)]
 pub struct Note {
     pub line: usize,

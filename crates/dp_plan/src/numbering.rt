@@ -10,7 +10,7 @@ use crate::fault::{PlanKind, Word};
 use crate::priority::Priority;
 use dp_conf::{cut_once, read_number, trim};
 
-/// How a priority is written.
+/// A priority as written.
 #[derive(Clone, Copy)]
 pub(crate) enum Written {
     /// A number.
@@ -21,14 +21,14 @@ pub(crate) enum Written {
     Next,
 }
 
-/// A priority as it is written, with the label after it, where it has one.
+/// A priority as written, with the label after it, if it has one.
 #[derive(Clone, Copy)]
 pub(crate) struct Numbering<'a> {
     pub(crate) written: Written,
     pub(crate) label: Option<&'a [u8]>,
 }
 
-/// Whether the priority is one of the words that are left out, or has the sign that is.
+/// Whether the priority is one of the words, or has the sign, that are not supported.
 fn is_priority_word(text: &[u8]) -> bool
     ensures { result ≡ spec.is_priority_word text.now }
 {
@@ -38,7 +38,7 @@ fn is_priority_word(text: &[u8]) -> bool
         || text.contains(&b'+')
 }
 
-/// How the number is written as a priority.
+/// The number as a written priority.
 #[inline(always)]
 fn written_number(number: u64) -> Result<Written, PlanKind>
     ensures { result ≡ spec.written_number (Some number) }
@@ -55,7 +55,7 @@ fn written_number(number: u64) -> Result<Written, PlanKind>
     }
 }
 
-/// A priority without its label that is no number.
+/// A priority that is not a number, without its label.
 fn read_word(text: &[u8]) -> Result<Written, PlanKind>
     requires { number_of text.now ≡ None }
     ensures { result ≡ spec.written_of text.now }
@@ -83,21 +83,21 @@ fn read_written(text: &[u8]) -> Result<Written, PlanKind>
     }
 }
 
-/// Whether each byte of the text is a digit.
+/// Whether the text has only digits.
 fn has_digits_alone(text: &[u8]) -> bool
     ensures { result ≡ spec.has_digits_alone text.now }
 {
     text.iter().all(u8::is_ascii_digit)
 }
 
-/// Whether a parenthesis stands in the text.
+/// Whether the text contains a parenthesis.
 fn has_parenthesis(text: &[u8]) -> bool
     ensures { result ≡ spec.has_parenthesis text.now }
 {
     text.iter().any(|byte| *byte == b'(' || *byte == b')')
 }
 
-/// The label of what stands after the first `(` of a priority.
+/// The label, given the text after the first `(` of a priority.
 fn read_label(after: &[u8]) -> Result<&[u8], PlanKind>
     ensures { Answers (λ label. label.now) (λ kind. Some kind) result (spec.label_within (spec.without_last 41 after.now)) }
 {
@@ -111,7 +111,7 @@ fn read_label(after: &[u8]) -> Result<&[u8], PlanKind>
     Ok(label)
 }
 
-/// A priority that is no number alone.
+/// A priority that is not just a number.
 #[tactic(auto, unfolding(crate::specs::EntryLine::written_priority))]
 fn read_labelled(text: &[u8]) -> Result<Numbering<'_>, PlanKind>
     requires { number_of text.now ≡ None }
@@ -136,7 +136,7 @@ fn read_labelled(text: &[u8]) -> Result<Numbering<'_>, PlanKind>
     }
 }
 
-/// A priority that is a number alone.
+/// A priority that is just a number.
 #[inline(always)]
 fn number_alone(number: u64) -> Result<Numbering<'static>, PlanKind>
     ensures { Answers spec.numbering_now (λ kind. Some kind) result
@@ -149,7 +149,7 @@ fn number_alone(number: u64) -> Result<Numbering<'static>, PlanKind>
     })
 }
 
-/// A priority as it is written. Most are numbers alone, which have no label and are none of the words.
+/// A priority as written. Most are just numbers, which have no label and are none of the words.
 #[tactic(auto, using(crate::proofs::NumberingLemmas::number_alone))]
 #[inline(always)]
 pub(crate) fn read_numbering(text: &[u8]) -> Result<Numbering<'_>, PlanKind>
@@ -161,7 +161,7 @@ pub(crate) fn read_numbering(text: &[u8]) -> Result<Numbering<'_>, PlanKind>
     }
 }
 
-/// The number of a priority, by the last priority of the extension.
+/// The number of a priority, given the last priority of the extension.
 #[inline(always)]
 pub(crate) fn number_after(last: Option<Priority>, written: Written) -> Result<Priority, PlanKind>
     ensures { result ≡ spec.number_after last written }

@@ -7,8 +7,7 @@ use smallvec::SmallVec;
 use std::alloc::Global;
 use std::marker::Model;
 
-/// A number for each entry, in the order of the file. A contract sees it as their list. The numbers of a small context take no
-/// memory of their own.
+/// A number for each entry, in file order. A contract sees it as their list. The numbers of a small context need no memory on the heap.
 #[derive(Debug, Drop)]
 pub(crate) struct Numbers {
     numbers: SmallVec<u32, 4>,
@@ -22,8 +21,8 @@ impl Model for Numbers {
     ghost view = { λ numbers. numbers.numbers.items };
 }
 
-/// A number in four bytes. A table of 2^32 extensions or more, or a line whose number is as great, is refused as want of
-/// memory, which is a choice of this program.
+/// A number in four bytes. A table of 2^32 extensions or more, or a line with a number of that size, is refused as out-of-memory, which is
+/// a choice of this program.
 pub(crate) fn short_number(number: usize) -> Result<u32, NoMemory>
     ensures { IfOk result (λ short. short ≡ number) }
 {
@@ -34,7 +33,7 @@ pub(crate) fn short_number(number: usize) -> Result<u32, NoMemory>
 }
 
 impl Numbers {
-    /// Those of no entries.
+    /// The numbers of no entries.
     pub(crate) fn new(alloc: Global) -> Self
         ensures { result ≡ [] }
     {
@@ -52,14 +51,14 @@ impl Numbers {
         Ok(())
     }
 
-    /// The number of the entry at the place, or None where there is none.
+    /// The number of the entry at the place, or None if there is no such entry.
     pub(crate) fn number_at(&self, place: usize) -> Option<u32>
         ensures { result ≡ slice_get self.now place }
     {
         self.numbers.as_slice().get(place).copied()
     }
 
-    /// Whether the entries of the two places have one number.
+    /// Whether the entries at the two places have the same number.
     pub(crate) fn are_one(&self, left: usize, right: usize) -> bool
         ensures { result ≡ spec.are_one self.now left right }
     {

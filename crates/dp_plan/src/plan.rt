@@ -30,8 +30,8 @@ pub struct GlobalVariable {
     pub value: ShallowText,
 }
 
-/// A loaded dialplan. A contract sees it as its global variables in the order of the file, and its contexts in the
-/// order of first appearance.
+/// A loaded dialplan. A contract sees it as its global variables in file order, and its contexts in the order of first
+/// appearance.
 #[derive(Debug)]
 pub struct Dialplan {
     globals: Vec<GlobalVariable>,
@@ -71,7 +71,7 @@ impl Model for Dialplan {
         × IsLoaded (record { globals = plan.globals.items; contexts = plan.contexts.items }) };
 }
 
-/// A dialplan as it was loaded, and what its text has beside it.
+/// A loaded dialplan, with its notes and the lines of its entries.
 #[derive(Debug, Drop)]
 pub struct LoadedPlan {
     pub plan: Dialplan,
@@ -81,7 +81,7 @@ pub struct LoadedPlan {
     pub lines: EntryLines,
 }
 
-/// The parts of a dialplan beside its rankings.
+/// The parts of a dialplan apart from its rankings.
 #[derive(Drop)]
 pub(crate) struct PlanParts {
     pub(crate) globals: Vec<GlobalVariable>,
@@ -94,8 +94,9 @@ impl Dialplan {
 
     /// Loads a dialplan, with notes on the lines that were dropped, in the order of the lines.
     ///
-    /// A fault of the text is answered first, as `LoadFault::Conf`; then the fault of the first faulty line of a
-    /// context or of the global variables, as `LoadFault::Plan`.
+    /// The error is, in this order: `LoadFault::Conf` if the text itself has a fault; else the fault of the first
+    /// faulty line of a context or of the global variables, as `LoadFault::Pattern` if it is in a name and as
+    /// `LoadFault::Plan` otherwise. It is `NoMemory` if memory runs out.
     pub fn load(alloc: Global, text: &[u8]) -> Result<(Self, Vec<Note>), LoadFault>
         ensures { Answers (λ read. (read.0, read.1.items)) reason_of result (plan_and_notes text.now) }
     {
@@ -108,7 +109,7 @@ impl Dialplan {
         Ok((plan, notes))
     }
 
-    /// Loads a dialplan as `load` does, with the line of each entry.
+    /// Loads a dialplan as `load` does, and also returns the line of each entry.
     pub fn load_with_lines(alloc: Global, text: &[u8]) -> Result<LoadedPlan, LoadFault>
         ensures plan { Answers (λ loaded. (loaded.plan, loaded.notes.items)) reason_of result (plan_and_notes text.now) }
         ensures lines { IfOk result (λ loaded. lines_loaded text.now ≡ Ok loaded.lines) }
@@ -119,7 +120,7 @@ impl Dialplan {
         Ok(loaded)
     }
 
-    /// The dialplan of these parts.
+    /// The dialplan with these parts.
     pub(crate) fn of_parts(parts: PlanParts, rankings: Vec<Ranking>) -> Self
         requires names { parts.names.keys ≡ map (λ context. context.name) parts.contexts.items }
         requires ranked { AreRanked parts.contexts.items rankings.items }
@@ -141,15 +142,15 @@ impl Dialplan {
         }
     }
 
-    /// That some text loads as the dialplan, as is so of every dialplan. It does nothing.
+    /// States that some text loads as the dialplan, which holds of every dialplan. It does nothing.
     pub fn show_loaded(&self)
         ensures { IsLoaded self.now }
     {
         let _contexts = &self.contexts;
     }
 
-    /// What is known of the entries of every dialplan: the name of each is one that some text means, and no two of a
-    /// context have the same name and priority. It does nothing.
+    /// States what is known of the entries of every dialplan: the name of each is the meaning of some text, and no two
+    /// entries of a context have the same name and priority. It does nothing.
     pub fn show_entries_known(&self)
         ensures named { All (λ context. AreNamed context.entries) self.now.contexts }
         ensures apart { All (λ context. AreApart context.entries) self.now.contexts }
@@ -164,14 +165,14 @@ impl Dialplan {
         &self.contexts
     }
 
-    /// The global variables in the order of the file. A name may stand twice.
+    /// The global variables, in file order. A name may occur twice.
     pub fn globals(&self) -> &[GlobalVariable]
         ensures { result.now ≡ self.now.globals }
     {
         &self.globals
     }
 
-    /// The entry of these numbers, or None where there is none.
+    /// The entry with these numbers, or None if there is none.
     pub fn entry(&self, id: EntryId) -> Option<&Entry>
         ensures { option_copied result ≡ entry_at self.now id }
     {
@@ -179,14 +180,14 @@ impl Dialplan {
         context.entries().get(id.entry)
     }
 
-    /// The number of the context of this name, or None where there is none.
+    /// The number of the context with this name, or None if there is none.
     pub fn number_of(&self, name: &Text) -> Option<usize>
         ensures { result ≡ number_of self.now name.now }
     {
         self.names.get_index_of(name)
     }
 
-    /// Whether the context of this name has this number. No table is asked.
+    /// Whether the context with this name has this number. It does not search a table.
     pub fn has_number(&self, name: &Text, number: usize) -> bool
         ensures { IsTrue result ↔ (number_of self.now name.now ≡ Some number) }
     {
@@ -196,8 +197,8 @@ impl Dialplan {
         }
     }
 
-    /// The names of the contexts that the context of this name includes, in the order of the file, with those that
-    /// name no context. An unknown context includes none.
+    /// The names of the contexts that the context with this name includes, in file order, including names without a
+    /// context. An unknown context includes none.
     pub fn includes(&self, context: &Text) -> &[Text]
         ensures { result.now ≡ includes_of self.now context.now }
     {
@@ -207,7 +208,7 @@ impl Dialplan {
         }
     }
 
-    /// The names of the contexts that the context of this number includes, none where there is no such context.
+    /// The names of the contexts that the context with this number includes; none if there is no such context.
     pub fn includes_at(&self, number: usize) -> &[Text]
         ensures { result.now ≡ includes_at self.now number }
     {
@@ -217,8 +218,8 @@ impl Dialplan {
         }
     }
 
-    /// The numbers of the entries of the context of this name by their names, the more specific first, and then by
-    /// their priorities. An unknown context has none.
+    /// The numbers of the entries of the context with this name, ordered by their names, the more specific first, and
+    /// then by their priorities. An unknown context has none.
     pub fn ranked(&self, context: &Text) -> &[EntryId]
         ensures { IsRankedOf self.now context.now result.now }
     {
@@ -228,7 +229,7 @@ impl Dialplan {
         }
     }
 
-    /// The numbers of the entries of the context of this number in that order, none where there is no such context.
+    /// The numbers of the entries of the context with this number in that order; none if there is no such context.
     pub fn ranked_at(&self, number: usize) -> &[EntryId]
         ensures { IsRankedAt self.now number result.now }
     {
@@ -239,8 +240,8 @@ impl Dialplan {
     }
 }
 
-/// What is known of the entries of every dialplan that a text loads as: the name of each is one that some text means,
-/// and no two of a context have the same name and priority.
+/// States what is known of the entries of every dialplan that a text loads as: the name of each is the meaning of some
+/// text, and no two entries of a context have the same name and priority. It does nothing.
 pub fn show_loaded_entries_known()
     ensures named { (text : List ℕ) (plan : PlanOf) (notes : List Note) → EachIndex text (λ k. slice_index text k < 256)
         → plan_and_notes text ≡ Ok (plan, notes) → All (λ context. AreNamed context.entries) plan.contexts }

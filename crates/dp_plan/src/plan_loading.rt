@@ -1,4 +1,4 @@
-//! The lines of a dialplan's text, taken one at a time.
+//! The lines of the text of a dialplan, taken one at a time.
 ghost use Rattle.std.specs.Prelude.{◌≡◌, Ok};
 ghost use Rattle.dp_conf.specs.Answers.{Answers};
 ghost use Rattle.dp_plan.specs.Faults.{reason_of};
@@ -11,8 +11,8 @@ use dp_conf::{FirstFault, Line, NoMemory, TakeLine, beside, take_lines};
 use std::alloc::Global;
 use std::marker::Model;
 
-/// What the lines so far have made, until one of them has a fault, which is kept aside. A contract sees it as what was
-/// made or the fault.
+/// The result of the lines so far, until one of them has a fault, which is kept. A contract sees it as the result or
+/// the fault.
 #[derive(Drop)]
 struct PlanLoading {
     made: Made,
@@ -30,7 +30,7 @@ impl Model for PlanLoading {
 }
 
 impl PlanLoading {
-    /// Before the first line.
+    /// The value before the first line.
     fn new(alloc: Global) -> Self
         ensures { result ≡ Ok spec.unmade }
     {
@@ -40,7 +40,7 @@ impl PlanLoading {
         }
     }
 
-    /// The draft of what the lines have made, or the fault that was kept aside.
+    /// The draft made by the lines, or the kept fault.
     fn into_draft(self) -> Result<Draft, LoadFault>
         ensures { Answers (λ draft. draft) reason_of result (spec.draft_made self) }
     {
@@ -55,7 +55,7 @@ impl TakeLine for PlanLoading {
 
     ghost after_line = { after_one };
 
-    // The lines after one with a fault are read as lines alone, for a fault of the text.
+    // The lines after one with a fault are read only for a fault of the text.
     fn take(&mut self, alloc: Global, line: Line<'_>) -> Result<(), NoMemory> {
         if self.fault.is_kept() {
             return Ok(());
@@ -65,7 +65,7 @@ impl TakeLine for PlanLoading {
     }
 }
 
-/// What the lines of a text make: a fault of the text comes before those of a context.
+/// The draft made by the lines of a text: a fault of the text comes before those of a context.
 pub(crate) fn read_draft(alloc: Global, text: &[u8]) -> Result<Draft, LoadFault>
     ensures { Answers (λ draft. draft) reason_of result (spec.drafted_of text.now) }
 {

@@ -29,7 +29,7 @@ impl Priority {
     ghost use Rattle.std.specs.Option.{SomeIff};
     ghost use Rattle.dp_plan.specs.Priority.{IsPriority};
 
-    /// The priority of this number, or None where it is none.
+    /// The priority with this number, or None if the number is not a priority.
     pub fn new(number: u32) -> Option<Self>
         ensures { SomeIff result (IsPriority number) number }
     {

@@ -1,4 +1,4 @@
-//! The order in which the entries of a context are asked.
+//! The order in which a look-up tries the entries of a context.
 ghost use Rattle.std.specs.Prelude.{◌≡◌, ◌≤◌, ◌^◌, length, map, IfOk, IsTrue};
 ghost use Rattle.std.specs.List.{All};
 ghost use Rattle.dp_pattern.specs.Order.{name_cmp};
@@ -17,7 +17,7 @@ use std::alloc::Global;
 use std::cmp::Ordering;
 use std::marker::Model;
 
-/// The numbers of a context's entries in the order in which a look-up asks them. A contract sees it as their list.
+/// The numbers of a context's entries in the order in which a look-up tries them. A contract sees it as their list.
 #[derive(Debug, Drop)]
 pub(crate) struct Ranking {
     ids: Vec<EntryId>,
@@ -35,7 +35,7 @@ impl Model for Ranking {
 impl Ranking {
     ghost use Rattle.std.specs.Prelude.{◌≡◌};
 
-    /// The numbers in their order.
+    /// The numbers in this order.
     pub(crate) fn ids(&self) -> &[EntryId]
         ensures { result.now ≡ self.now }
     {
@@ -43,13 +43,13 @@ impl Ranking {
     }
 }
 
-/// The order of two names, of which it may be known that they are one. Then they are not compared.
+/// The order of two names. If they are known to be the same they are not compared.
 fn compare_names(left: &SharedName, right: &SharedName, is_one: bool) -> Ordering
     requires { IsTrue is_one → IsTrue (same_name left.now right.now) }
     ensures { result ≡ name_cmp left.now right.now }
 {
     if is_one {
-        // What a name is made of is what some text means, and that has one spelling.
+        // The parts of a name are the meaning of some text, which has one spelling.
         let _left = left.name().parts();
         let _right = right.name().parts();
         return Ordering::Equal;
@@ -57,7 +57,7 @@ fn compare_names(left: &SharedName, right: &SharedName, is_one: bool) -> Orderin
     compare(left.name(), right.name())
 }
 
-/// The order of two entries, of which it may be known that they have one name: by their names, and then by their priorities.
+/// The order of two entries, by their names and then by their priorities. Their names may be known to be the same.
 fn compare_entries(left: &Entry, right: &Entry, is_one: bool) -> Ordering
     requires { IsTrue is_one → IsTrue (same_name left.now.name right.now.name) }
     ensures { result ≡ spec.entry_cmp left.now right.now }
@@ -67,7 +67,7 @@ fn compare_entries(left: &Entry, right: &Entry, is_one: bool) -> Ordering
     )
 }
 
-/// The order of two entries by their numbers, where entries of one extension are known by its number.
+/// The order of two entries, given by their numbers. Entries of one extension are recognized by its number.
 fn compare_ids(entries: &[Entry], extensions: &Numbers, left: EntryId, right: EntryId) -> Ordering
     requires { AreNumbered entries.now extensions.now }
     ensures { result ≡ spec.id_cmp entries.now left right }
@@ -81,7 +81,7 @@ fn compare_ids(entries: &[Entry], extensions: &Numbers, left: EntryId, right: En
     }
 }
 
-/// The numbers of the entries of a context, in the order of the file.
+/// The numbers of the entries of a context, in file order.
 fn number_entries(alloc: Global, context: usize, count: usize) -> Result<Vec<EntryId>, NoMemory>
     ensures { IfOk result (λ ids. ids.items ≡ spec.numbers_of context count) }
 {
@@ -90,7 +90,7 @@ fn number_entries(alloc: Global, context: usize, count: usize) -> Result<Vec<Ent
         .collect(alloc)
 }
 
-/// The ranking of the entries of a context, whose extensions have these numbers.
+/// The ranking of the entries of a context, given the numbers of their extensions.
 fn rank(
     alloc: Global,
     context: usize,
@@ -106,7 +106,7 @@ fn rank(
     Ok(Ranking { ids })
 }
 
-/// The ranking of a context, of whose entries each name is one that some text means.
+/// The ranking of a context in which the name of each entry is the meaning of some text.
 fn rank_context(
     alloc: Global,
     number: usize,
@@ -122,7 +122,7 @@ fn rank_context(
     rank(alloc, number, context.entries(), extensions)
 }
 
-/// The rankings of all contexts, by the numbers of the extensions of their entries.
+/// The rankings of all contexts, given the numbers of the extensions of their entries.
 pub(crate) fn rank_contexts(
     alloc: Global,
     contexts: &[Context],

@@ -19,8 +19,8 @@ use indexmap::IndexMap;
 use std::alloc::Global;
 use std::marker::Model;
 
-/// Each extension with its last priority, in the order of first appearance, in which they are numbered. Beside them stand the
-/// names of applications that the lines so far have written, of which a contract sees nothing.
+/// Each extension with its last priority, in the order of first appearance, in which they are numbered. It also has the names of
+/// applications in the lines so far, which a contract does not see.
 #[derive(Drop)]
 pub(crate) struct Reader {
     extensions: IndexMap<Extension, Priority>,
@@ -36,7 +36,7 @@ impl Model for Reader {
 }
 
 impl Reader {
-    /// Before the first line.
+    /// The value before the first line.
     pub(crate) fn new(alloc: Global) -> Self
         ensures { result ≡ [] }
     {
@@ -46,7 +46,7 @@ impl Reader {
         }
     }
 
-    /// The number of the extension of the name in the context, where it has one, by the table.
+    /// The number of the extension with the name in the context, if it has one, by a search of the table.
     pub(crate) fn find(
         &self,
         context: &ContextName,
@@ -65,7 +65,7 @@ impl Reader {
         }
     }
 
-    /// The number of the extension of the name, where that is the last one of the context. No table is asked.
+    /// The number of the extension with the name, if that is the last one of the context. It does not search the table.
     #[tactic(auto, using(crate::proofs::TableLemmas::number_same))]
     #[inline(always)]
     pub(crate) fn number_of(&self, context: &OpenContext, name: &SharedName) -> Option<u32>
@@ -78,7 +78,7 @@ impl Reader {
         }
     }
 
-    /// The last priority of the extension of the number, also where its line is dropped.
+    /// The last priority of the extension with the number, even if its line is dropped.
     pub(crate) fn priority(&self, number: Option<u32>) -> Option<Priority>
         ensures { result ≡ priority_at self.now number }
     {
@@ -87,7 +87,7 @@ impl Reader {
         Some(*priority)
     }
 
-    /// The name of an application, which is held for the lines to come, or is held where a line before has written it so.
+    /// The name of an application, which is shared with the lines that write it the same way.
     pub(crate) fn application(&mut self, alloc: Global, name: &[u8]) -> Result<SharedText, NoMemory>
         ensures ok { IfOk result (λ application. application ≡ name.now) }
         ensures same { self.new ≡ self.old }
@@ -95,7 +95,7 @@ impl Reader {
         self.applications.share(alloc, name)
     }
 
-    /// Gives the extension of the number another priority.
+    /// Sets the last priority of the extension with the number.
     #[inline(always)]
     fn rewrite(&mut self, number: u32, priority: Priority)
         requires { number < length self.old }
@@ -106,7 +106,8 @@ impl Reader {
         }
     }
 
-    /// Gives the extension of the name in the context another priority, by the table, and gives its number.
+    /// Sets the last priority of the extension with the name in the context, by a search of the table, and returns the number of the
+    /// extension.
     #[inline(always)]
     fn insert(
         &mut self,
@@ -122,7 +123,7 @@ impl Reader {
         short_number(number)
     }
 
-    /// Gives the extension of the name in the context another priority, and gives its number, which may be known.
+    /// Sets the last priority of the extension with the name in the context, and returns the number of the extension, which may be known.
     #[tactic(auto, using(crate::proofs::TableLemmas::number_within, crate::proofs::TableLemmas::written_at))]
     #[inline(always)]
     pub(crate) fn write(

@@ -1,4 +1,4 @@
-//! What may be noted of a line, where the names of all contexts decide it in the end.
+//! The remarks on lines, of which some become notes only if no context has a name.
 ghost use Rattle.std.specs.Prelude.{◌≡◌, ◌++◌, OnOk, IfOk};
 ghost use Rattle.std.specs.List.{flat_map};
 ghost use Rattle.std.specs.Option.{option_to_list};
@@ -11,12 +11,12 @@ use dp_conf::{NoMemory, Text};
 use indexmap::IndexSet;
 use std::alloc::Global;
 
-/// A note, or an include whose line is noted where no context has the name.
+/// A note, or an include whose line gets a note if no context has the name.
 #[derive(Drop)]
 pub(crate) enum Remark {
     /// The note.
     Noted(Note),
-    /// The line, and the name that it includes.
+    /// The line, and the included name.
     Asks { line: usize, name: Text },
 }
 
@@ -27,7 +27,7 @@ fn is_named(names: &IndexSet<SharedText>, name: &Text) -> bool
     names.contains(name)
 }
 
-/// The note of a remark, where it comes to one.
+/// The note of a remark, if it becomes one.
 fn note_of(names: &IndexSet<SharedText>, remark: &Remark) -> Option<Note>
     ensures { option_to_list result ≡ spec.remark_notes names.now.keys remark.now }
 {
@@ -41,7 +41,7 @@ fn note_of(names: &IndexSet<SharedText>, remark: &Remark) -> Option<Note>
     }
 }
 
-/// Adds the note, where there is one.
+/// Adds the note, if there is one.
 fn push_note(notes: &mut Vec<Note>, note: Option<Note>) -> Result<(), NoMemory>
     ensures { OnOk result (notes.new.items ≡ notes.old.items ++ option_to_list note) }
 {
@@ -51,7 +51,7 @@ fn push_note(notes: &mut Vec<Note>, note: Option<Note>) -> Result<(), NoMemory>
     Ok(())
 }
 
-/// The notes of the remarks, by the names of all contexts.
+/// The notes of the remarks, given the names of all contexts.
 pub(crate) fn settle(
     alloc: Global,
     names: &IndexSet<SharedText>,

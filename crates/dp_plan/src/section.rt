@@ -7,19 +7,19 @@ use crate::shared_name::SharedName;
 use dp_conf::{NoMemory, same_word};
 use std::alloc::Global;
 
-/// What the lines of a section are read as.
+/// The kind of a section, which says how its lines are read.
 #[derive(Drop)]
 pub(crate) enum Section {
     /// Settings, which are read and ignored.
     General,
     /// Global variables.
     Globals,
-    /// The context of this name.
+    /// The context with this name.
     Context(ContextName),
 }
 
 impl Section {
-    /// The section of a header, by its name: `general` and `globals` in any case are none of the contexts.
+    /// The section of a header, given its name: `general` and `globals` in any case are not contexts.
     pub(crate) fn of_name(alloc: Global, name: &[u8]) -> Result<Self, NoMemory>
         ensures { IfOk result (λ section. section ≡ section_named name.now) }
     {
@@ -34,14 +34,14 @@ impl Section {
     }
 }
 
-/// The extension of the last entry's line: its name, and its number among all extensions.
+/// The extension of the last line with an entry: its name, and its number among all extensions.
 #[derive(Drop)]
 pub(crate) struct LastExtension {
     pub(crate) name: SharedName,
     pub(crate) number: u32,
 }
 
-/// A context whose section is open: its name, its place among those of the draft, and the last extension since its header.
+/// A context whose section is open: its name, its place in the draft, and the last extension since its header.
 #[derive(Drop)]
 pub(crate) struct OpenContext {
     pub(crate) name: ContextName,

@@ -1,4 +1,4 @@
-//! The name of an extension, held once by all entries of it.
+//! The name of an extension, shared by all its entries.
 ghost use Rattle.std.specs.Prelude.{◌≡◌, IfOk, nat_eq};
 ghost use Rattle.std.specs.Hash as fed;
 ghost use Rattle.std.specs.Cmp.Lexicographic.{pointwise, nat_list_eq_equiv};
@@ -16,15 +16,15 @@ use std::hash::{Hash, Hasher};
 use std::marker::Model;
 use std::sync::Arc;
 
-/// A name, with the spelling of a pattern. A plain name is its own spelling, and nothing stands beside it.
+/// A name, with the spelling of a pattern. A plain name is its own spelling, so that it needs no other.
 #[derive(Debug, Drop)]
 pub(crate) struct Spelled {
     name: Name,
     written: Vec<u8>,
 }
 
-/// The name of an extension with its canonical spelling. It has several owners, and its copies take no memory. A
-/// contract sees it as what the name means.
+/// The name of an extension with its canonical spelling. It may have several owners, and copying it never allocates. A
+/// contract sees it as the meaning of the name.
 #[derive(Debug)]
 pub struct SharedName {
     spelled: Arc<Spelled>,
@@ -52,7 +52,7 @@ impl Model for SharedName {
         ≡ spelling (arc_value shared.spelled).name };
 }
 
-/// What stands beside a name: the spelling of a pattern.
+/// The text that is kept next to a name: the spelling of a pattern.
 #[tactic(auto, unfolding(dp_pattern::specs::Spelling::spelling))]
 fn written_beside(alloc: Global, name: &Name) -> Result<Vec<u8>, NoMemory>
     ensures { IfOk result (λ written. spelled_by name.now written.items ≡ spelling name.now) }
@@ -64,9 +64,9 @@ fn written_beside(alloc: Global, name: &Name) -> Result<Vec<u8>, NoMemory>
 }
 
 impl SharedName {
-    /// The name, for its owners to come.
+    /// The name, to be shared.
     ///
-    /// The error comes only where a growth was refused.
+    /// It fails only if memory runs out.
     pub fn new(alloc: Global, name: Name) -> Result<Self, NoMemory>
         ensures { IfOk result (λ shared. shared ≡ name) }
     {
@@ -82,7 +82,7 @@ impl SharedName {
         &self.spelled.name
     }
 
-    /// The canonical spelling of the name, which was made once. It never allocates.
+    /// The canonical spelling of the name, which is made once. It never allocates.
     pub fn spelling(&self) -> &[u8]
         ensures { result.now ≡ spelling self.now }
     {

@@ -1,4 +1,4 @@
-//! A text that is held once by all that name it.
+//! A text that is kept once and shared.
 ghost use Rattle.std.specs.Prelude.{◌≡◌, IfOk, nat_eq, Some};
 ghost use Rattle.std.specs.Hash as fed;
 ghost use Rattle.std.specs.Cmp.Lexicographic.{pointwise, nat_list_eq_equiv};
@@ -15,8 +15,8 @@ use std::hash::{Hash, Hasher};
 use std::marker::Model;
 use std::sync::Arc;
 
-/// A text with several owners, whose copies take no memory. A contract sees it as its bytes, and two are equal where
-/// these are.
+/// A text that may have several owners. Copying it never allocates. A contract sees it as its bytes, and two texts are
+/// equal if their bytes are equal.
 pub struct SharedText {
     text: Arc<Text>,
 }
@@ -38,9 +38,9 @@ impl Model for SharedText {
 }
 
 impl SharedText {
-    /// The text, for its owners to come.
+    /// The text, to be shared.
     ///
-    /// The error comes only where a growth was refused.
+    /// It fails only if memory runs out.
     pub fn new(alloc: Global, text: Text) -> Result<Self, NoMemory>
         ensures { IfOk result (λ shared. shared ≡ text) }
     {
@@ -48,7 +48,7 @@ impl SharedText {
         Ok(SharedText { text })
     }
 
-    /// A text of the same bytes, for its owners to come.
+    /// A text with the same bytes, to be shared.
     pub(crate) fn copy_of(alloc: Global, bytes: &[u8]) -> Result<Self, NoMemory>
         ensures { IfOk result (λ shared. shared ≡ bytes.now) }
     {

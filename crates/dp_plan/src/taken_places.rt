@@ -8,23 +8,23 @@ use indexmap::IndexSet;
 use std::alloc::Global;
 use std::marker::Model;
 
-/// A place in a dialplan that at most one entry has: the number of an extension, and a priority.
+/// A place in a dialplan, which at most one entry has: the number of an extension, and a priority.
 #[derive(Clone, Copy, PartialEq, Eq, Hash)]
 pub(crate) struct Slot {
     pub(crate) extension: u32,
     pub(crate) priority: u32,
 }
 
-/// How the places are kept: in a list, and in a table from the first one on that is asked and is not above all of its
-/// extension.
+/// The form in which the places are kept: in a list, and in a table as soon as a place is requested that is not above
+/// all others of its extension.
 #[derive(Drop)]
 pub(crate) enum Kept {
     Listed(Vec<Slot>),
     Looked(IndexSet<Slot>),
 }
 
-/// The places that are taken, in their order, and the greatest priority of each extension's places by its number. A
-/// place above that is free, and no table is asked for it.
+/// The taken places, in order, and for each number of an extension the greatest priority of its places. A place above
+/// that is free, and no table is needed to know it.
 #[derive(Drop)]
 pub(crate) struct TakenPlaces {
     kept: Kept,
@@ -45,7 +45,7 @@ impl Model for TakenPlaces {
         AreBounded places.greatest.items (slots_in places.kept) × IsDistinct same_slot (slots_in places.kept) };
 }
 
-/// The greatest priority that an extension has, and 0 where it has none.
+/// The greatest priority of an extension, or 0 if it has none.
 fn greatest_of(greatest: &[u32], extension: u32) -> u32
     ensures { result ≡ get_or greatest.now extension 0 }
 {
@@ -55,13 +55,13 @@ fn greatest_of(greatest: &[u32], extension: u32) -> u32
     }
 }
 
-/// Makes sure that there are so many numbers. The new ones are 0.
+/// Extends the list to at least this many numbers. The new ones are 0.
 fn fill(greatest: &mut Vec<u32>, count: usize) -> Result<(), NoMemory>
     ensures filled { OnOk result (count ≤ length greatest.new.items) }
     ensures same { (extension : ℕ) → get_or greatest.new.items extension 0 ≡ get_or greatest.old.items extension 0 }
 {
     let there = greatest.len();
-    // A new extension is mostly the next one.
+    // A new extension is usually the next one.
     if count == there + 1 {
         greatest.push(0)?;
     } else if count > there {
@@ -70,7 +70,7 @@ fn fill(greatest: &mut Vec<u32>, count: usize) -> Result<(), NoMemory>
     Ok(())
 }
 
-/// Raises the greatest priority of the place's extension to that of the place.
+/// Raises the greatest priority of the extension to that of the place.
 fn raise(greatest: &mut Vec<u32>, slot: Slot) -> Result<(), NoMemory>
     ensures reached { OnOk result (slot.priority ≤ get_or greatest.new.items slot.extension 0) }
     ensures kept { (extension : ℕ) → get_or greatest.old.items extension 0 ≤ get_or greatest.new.items extension 0 }
@@ -95,7 +95,7 @@ fn table_of(alloc: Global, slots: &[Slot]) -> Result<IndexSet<Slot>, NoMemory>
     Ok(table)
 }
 
-/// Keeps a place that is free.
+/// Keeps a free place.
 fn keep(kept: &mut Kept, slot: Slot) -> Result<(), NoMemory>
     requires { list_any (spec.same_slot slot) (spec.slots_in kept.old) ≡ false }
     ensures ok { OnOk result (spec.slots_in kept.new ≡ spec.slots_in kept.old ++ slot ∷ []) }
@@ -113,7 +113,7 @@ fn keep(kept: &mut Kept, slot: Slot) -> Result<(), NoMemory>
 }
 
 impl TakenPlaces {
-    /// No place is taken.
+    /// Without places.
     pub(crate) fn new(alloc: Global) -> Self
         ensures { result ≡ [] }
     {
@@ -123,7 +123,7 @@ impl TakenPlaces {
         }
     }
 
-    /// Whether the place lies above all of its extension.
+    /// Whether the place is above all others of its extension.
     #[tactic(auto, using(crate::proofs::PlaceLemmas::free_above))]
     fn is_above(&self, slot: Slot) -> bool
         ensures { IsTrue result → list_any (spec.same_slot slot) self.now ≡ false }
@@ -131,7 +131,7 @@ impl TakenPlaces {
         slot.priority > greatest_of(&self.greatest, slot.extension)
     }
 
-    /// Whether the place is in the table, which is made where there is none.
+    /// Whether the place is in the table. The table is made if there is none.
     fn look_up(&mut self, alloc: Global, slot: Slot) -> Result<bool, NoMemory>
         ensures taken { IfOk result (λ taken. taken ≡ list_any (spec.same_slot slot) self.old) }
         ensures same { self.new ≡ self.old }
@@ -158,7 +158,7 @@ impl TakenPlaces {
         self.look_up(alloc, slot)
     }
 
-    /// Takes a place that is free.
+    /// Takes a free place.
     #[tactic(auto, using(crate::proofs::PlaceLemmas::bounded_raised, crate::proofs::PlaceLemmas::bounded_more, crate::proofs::PlaceLemmas::distinct_more))]
     pub(crate) fn take(&mut self, slot: Slot) -> Result<(), NoMemory>
         requires { list_any (spec.same_slot slot) self.old ≡ false }

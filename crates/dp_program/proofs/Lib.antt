@@ -1,4 +1,5 @@
 mod ChecksLemmas
+mod DialplanLemmas
 mod EntriesLemmas
 mod HintsLemmas
 mod NearestLemmas

@@ -15,14 +15,16 @@ use Rattle.dp_files.specs.FolderFiles.{nothing_known}
 use Rattle.dp_files.specs.declared.reading.ReadingFault.{ReadingFault}
 use Rattle.dp_notices.specs.PlanFiles.{PlanFilesOf, plan_of as read_plan_of}
 use Rattle.dp_program.specs.Including.{WritesCheck, checked, place_of_plan}
+use Rattle.dp_notices.specs.declared.printing.Shown.TheVariants.{Faults, Unfollowed}
 use Rattle.dp_program.specs.Checks.{both_report}
+use Rattle.dp_program.specs.Dialplans.{PlanTextOf, with_text}
 use Rattle.dp_program.specs.Faulted.{StandsIn, in_none, nowhere, place_by, place_in_file, place_in_files, place_in_two, place_of, place_of_report, place_of_run, place_of_two, place_unread, without_place, unread_fault, unread_path, unread_place}
 use Rattle.dp_program.specs.Files.{Source, Reads}
 use Rattle.dp_program.specs.Hints.{Tells, audit_hint_of, match_hint_of, status_in}
 use Rattle.dp_program.specs.Reaches.{Reaches, place_of_files}
-use Rattle.dp_program.specs.Requests.{RequestOf, LookupOf, QuestionOf, joined, check, check_files, check_queues, check_both, listing, auditing, auditing_by, matching, explaining, run, run_wide, debug, reaching}
+use Rattle.dp_program.specs.Requests.{RequestOf, LookupOf, QuestionOf, joined, check, check_files, check_queues, check_both, listing, listing_files, auditing, auditing_by, matching, matching_files, explaining, run, run_wide, debug, reaching}
 use Rattle.dp_program.specs.Entries.{explanation_of}
-use Rattle.dp_program.specs.Serves.{AuditsFile, AuditsFileBy, ChecksBoth, DebugsAsked, DebugsFiles, DebugsFilesVerbosely, DebugsVerbosely, LooksUp, ReportsOn, Runs, RunsAsked, RunsFiles, RunsFilesVerbosely, RunsFilesWide, RunsVerbosely, RunsWide, Serves, SharesSome, debug_of_texts, in_force_at_first, look_up, run_of_texts, wide_run_of_texts, RunsFilesWideVerbosely, RunsTextsWideVerbosely, RunsWideAsked, RunsWideVerbosely}
+use Rattle.dp_program.specs.Serves.{AuditsAsked, AuditsFile, AuditsFileBy, AuditsText, ChecksBoth, DebugsAsked, DebugsFiles, DebugsFilesVerbosely, DebugsVerbosely, ListsText, LooksUp, LooksUpText, PlacesOf, ReportsOn, Runs, RunsBeside, RunsPlan, RunsPlans, RunsSecond, RunsAsked, RunsFiles, RunsFilesVerbosely, RunsFilesWide, RunsVerbosely, RunsWide, Serves, SharesSome, debug_of_texts, files_read, in_force_at, in_force_at_first, look_up, places_read, run_of_texts, wide_run_of_texts, RunsFilesWideVerbosely, RunsTextsWideVerbosely, RunsWideAsked, RunsWideVerbosely}
 use Rattle.dp_program.specs.Texts.{OfRun, ReadsTexts, all_texts, some_text, sources_of}
 use Rattle.dp_program.specs.declared.faulted.Faulted.{Faulted}
 use Rattle.dp_program.specs.declared.faulted.Unread.{Unread}
@@ -31,6 +33,7 @@ use Rattle.dp_plan.specs.Plan.{PlanOf}
 use Rattle.dp_wide_runs.specs.Kinds.{ChoiceOf}
 use Rattle.dp_wide_runs.specs.Runs.{WideRun}
 use Rattle.dp_wide_runs.specs.WideAudits.{WritesChoice, plan_of}
+use Rattle.dp_program.proofs.DialplanLemmas.{dialplan_lacks}
 use Rattle.dp_program.proofs.ReadsLemmas.{IsUnread, by_reason, Reads-any, Reads-weaker, ReadsSome-any, ReadsTexts-any, ReadsTexts-weaker}
 
 -- where memory is refused before anything was written
@@ -80,10 +83,10 @@ wide_verbose_lacks : (in_force : InForce) (old : Option (List ℕ)) (given : Res
 wide_verbose_lacks in_force old (Ok ran) = (record { count = 0; within = omega arith; written = Appends-nil old }, tt, tt)
 wide_verbose_lacks in_force old (Err fault) = (Appends-nil old, tt, tt)
 
-runs_wide_verbosely_lacks : (paths : OfRun (List ℕ)) (old : Option (List ℕ)) (texts : Result (OfRun (List ℕ)) PbxFault)
-    → RunsTextsWideVerbosely paths old old texts (Err NoMemory)
-runs_wide_verbosely_lacks paths old (Ok texts) = wide_verbose_lacks (in_force_at_first paths texts) old (wide_run_of_texts texts)
-runs_wide_verbosely_lacks paths old (Err fault) = Appends-nil old
+runs_wide_verbosely_lacks : (places : PlacesOf) (old : Option (List ℕ)) (texts : Result (OfRun (List ℕ)) PbxFault)
+    → RunsTextsWideVerbosely places old old texts (Err NoMemory)
+runs_wide_verbosely_lacks places old (Ok texts) = wide_verbose_lacks (in_force_at places texts) old (wide_run_of_texts texts)
+runs_wide_verbosely_lacks places old (Err fault) = Appends-nil old
 
 shares_lacks : (count : ℕ) (old : Option (List ℕ)) (given : Result Run PbxFault) → SharesSome count old old given (Err NoMemory)
 shares_lacks count old (Ok ran) = inl (Appends-nil old, refl)
@@ -138,11 +141,11 @@ debugs_verbosely_refused : (paths : OfRun (List ℕ)) (held : List ℕ) (old : O
 debugs_verbosely_refused paths held old =
     by_reason (λ fault texts. DebugsVerbosely paths held old old texts (Err fault)) (λ code line. (Appends-nil old, refl)) (λ texts. debugs_verbosely_lacks paths held old texts)
 
-runs_wide_verbosely_refused : (paths : OfRun (List ℕ)) (old : Option (List ℕ)) (fault : PbxFault) (texts : Result (OfRun (List ℕ)) PbxFault)
-    → Refuses (reason_of fault) texts → RunsTextsWideVerbosely paths old old texts (Err fault)
-runs_wide_verbosely_refused paths old =
-    by_reason (λ fault texts. RunsTextsWideVerbosely paths old old texts (Err fault)) (λ code line. (Appends-nil old, refl))
-    (λ texts. runs_wide_verbosely_lacks paths old texts)
+runs_wide_verbosely_refused : (places : PlacesOf) (old : Option (List ℕ)) (fault : PbxFault) (texts : Result (OfRun (List ℕ)) PbxFault)
+    → Refuses (reason_of fault) texts → RunsTextsWideVerbosely places old old texts (Err fault)
+runs_wide_verbosely_refused places old =
+    by_reason (λ fault texts. RunsTextsWideVerbosely places old old texts (Err fault)) (λ code line. (Appends-nil old, refl))
+    (λ texts. runs_wide_verbosely_lacks places old texts)
 
 shares_refused : {X : Type 0} (count : ℕ) (old : Option (List ℕ)) (next : X → Result Run PbxFault) (fault : PbxFault) (text : Result X PbxFault)
     → Refuses (reason_of fault) text → SharesSome count old old (text >>= next) (Err fault)
@@ -380,13 +383,13 @@ run_verbose_refused paths sources old unread reads =
       unread_stands unread unread.fault ∙ (is.1 ∙ refused_place_by paths (unread_path paths read) unread.fault (all_texts read) is.0),
     )) reads
 
-pub run_wide_verbose_refused : (paths : OfRun (List ℕ)) (sources : OfRun Source) (old : Option (List ℕ)) (unread : Unread)
-    → ReadsTexts sources (IsUnread paths unread.path.now unread.fault) → RunsFilesWideVerbosely paths sources old old (Err (unread_fault unread))
-run_wide_verbose_refused paths sources old unread reads =
+pub run_wide_verbose_refused : (paths : OfRun (List ℕ)) (places : PlacesOf) (sources : OfRun Source) (old : Option (List ℕ)) (unread : Unread)
+    → ReadsTexts sources (IsUnread paths unread.path.now unread.fault) → RunsFilesWideVerbosely paths places sources old old (Err (unread_fault unread))
+run_wide_verbose_refused paths places sources old unread reads =
     ReadsTexts-weaker sources (IsUnread paths unread.path.now unread.fault)
-    (λ read. RunsTextsWideVerbosely paths old old (all_texts read) (Err unread.fault) × (place_of (place_unread unread unread.fault) ≡ place_of_run paths read unread.fault))
+    (λ read. RunsTextsWideVerbosely places old old (all_texts read) (Err unread.fault) × (place_of (place_unread unread unread.fault) ≡ place_of_run paths read unread.fault))
     (λ read is. (
-      runs_wide_verbosely_refused paths old unread.fault (all_texts read) is.0,
+      runs_wide_verbosely_refused places old unread.fault (all_texts read) is.0,
       unread_stands unread unread.fault ∙ (is.1 ∙ refused_place_by paths (unread_path paths read) unread.fault (all_texts read) is.0),
     )) reads
 
@@ -440,15 +443,15 @@ run_verbose_read paths sources old new texts result answered reads same runs sta
     (λ read is. subst (λ (joined : Result (OfRun (List ℕ)) PbxFault). RunsVerbosely paths old new joined (without_place answered) × StandsIn (place_by paths (unread_path paths read) joined) answered) (sym is.0)
     (subst (λ result. WritesVerbose explanation_of (in_force_at_first paths texts) old new (run_of_texts texts) result) (sym same) runs, stands)) reads
 
-pub run_wide_verbose_read : (paths : OfRun (List ℕ)) (sources : OfRun Source) (old new : Option (List ℕ)) (texts : OfRun (List ℕ))
+pub run_wide_verbose_read : (paths : OfRun (List ℕ)) (places : PlacesOf) (sources : OfRun Source) (old new : Option (List ℕ)) (texts : OfRun (List ℕ))
     (result : Result ℕ PbxFault) (answered : Result ℕ Faulted) → ReadsTexts sources (λ read. (all_texts read ≡ Ok texts) × Unit {0}) → without_place answered ≡ result
-    → RunsWideVerbosely (in_force_at_first paths texts) old new (wide_run_of_texts texts) result → StandsIn (place_in_files paths texts) answered
-    → RunsFilesWideVerbosely paths sources old new answered
-run_wide_verbose_read paths sources old new texts result answered reads same runs stands =
+    → RunsWideVerbosely (in_force_at places texts) old new (wide_run_of_texts texts) result → StandsIn (place_in_files paths texts) answered
+    → RunsFilesWideVerbosely paths places sources old new answered
+run_wide_verbose_read paths places sources old new texts result answered reads same runs stands =
     ReadsTexts-weaker sources (λ read. (all_texts read ≡ Ok texts) × Unit {0})
-    (λ read. RunsTextsWideVerbosely paths old new (all_texts read) (without_place answered) × StandsIn (place_of_run paths read) answered)
-    (λ read is. subst (λ (joined : Result (OfRun (List ℕ)) PbxFault). RunsTextsWideVerbosely paths old new joined (without_place answered) × StandsIn (place_by paths (unread_path paths read) joined) answered) (sym is.0)
-    (subst (λ result. RunsWideVerbosely (in_force_at_first paths texts) old new (wide_run_of_texts texts) result) (sym same) runs, stands)) reads
+    (λ read. RunsTextsWideVerbosely places old new (all_texts read) (without_place answered) × StandsIn (place_of_run paths read) answered)
+    (λ read is. subst (λ (joined : Result (OfRun (List ℕ)) PbxFault). RunsTextsWideVerbosely places old new joined (without_place answered) × StandsIn (place_by paths (unread_path paths read) joined) answered) (sym is.0)
+    (subst (λ result. RunsWideVerbosely (in_force_at places texts) old new (wide_run_of_texts texts) result) (sym same) runs, stands)) reads
 
 pub debug_verbose_read : (paths : OfRun (List ℕ)) (sources : OfRun Source) (held : List ℕ) (old new : Option (List ℕ)) (texts : OfRun (List ℕ))
     (result : Result ℕ PbxFault) (answered : Result ℕ Faulted) → ReadsTexts sources (λ read. (all_texts read ≡ Ok texts) × Unit {0}) → without_place answered ≡ result
@@ -471,12 +474,55 @@ run_wide_lacks paths sources old =
     ReadsTexts-any sources (λ read. RunsWide old old (all_texts read >>= wide_run_of_texts) (Err NoMemory) × (in_none ≡ place_of_run paths read NoMemory))
     (λ read. (wide_lacks old (all_texts read >>= wide_run_of_texts), lacks_place_by paths (unread_path paths read) (all_texts read)))
 
-run_wide_asked_lacks : (paths : OfRun (List ℕ)) (sources : OfRun Source) (is_verbose : Bool) (old : Option (List ℕ))
-    → RunsWideAsked paths sources is_verbose old old (Err (nowhere NoMemory))
-run_wide_asked_lacks paths sources true old =
-    ReadsTexts-any sources (λ read. RunsTextsWideVerbosely paths old old (all_texts read) (Err NoMemory) × (in_none ≡ place_of_run paths read NoMemory))
-    (λ read. (runs_wide_verbosely_lacks paths old (all_texts read), lacks_place_by paths (unread_path paths read) (all_texts read)))
-run_wide_asked_lacks paths sources false old = run_wide_lacks paths sources old
+run_wide_asked_lacks : (paths : OfRun (List ℕ)) (places : PlacesOf) (sources : OfRun Source) (is_verbose : Bool) (old : Option (List ℕ))
+    → RunsWideAsked paths places sources is_verbose old old (Err (nowhere NoMemory))
+run_wide_asked_lacks paths places sources true old =
+    ReadsTexts-any sources (λ read. RunsTextsWideVerbosely places old old (all_texts read) (Err NoMemory) × (in_none ≡ place_of_run paths read NoMemory))
+    (λ read. (runs_wide_verbosely_lacks places old (all_texts read), lacks_place_by paths (unread_path paths read) (all_texts read)))
+run_wide_asked_lacks paths places sources false old = run_wide_lacks paths sources old
+
+-- with dialplans that are read with the files that they include
+pub plans_lack : (paths : OfRun (List ℕ)) (files : List ℕ → Source) (is_verbose : Bool) (old : Option (List ℕ)) (plan : PlanTextOf) (second : Option (List ℕ × PlanTextOf))
+    → RunsPlans paths files is_verbose old old plan second (Err (nowhere NoMemory))
+plans_lack paths files is_verbose old plan second =
+    (run_wide_asked_lacks paths (places_read plan second) (sources_of (files_read paths files plan second) paths) is_verbose old, tt)
+
+pub second_lacks : (paths : OfRun (List ℕ)) (files : List ℕ → Source) (is_verbose : Bool) (old : Option (List ℕ)) (plan : PlanTextOf) (path : List ℕ)
+    → RunsSecond paths files is_verbose old old plan path (Err (nowhere NoMemory))
+second_lacks paths files is_verbose old plan path =
+    dialplan_lacks (λ second answered. RunsPlans paths files is_verbose old old plan (Some (path, second)) answered) path old
+    (λ second. plans_lack paths files is_verbose old plan (Some (path, second))) Unfollowed files
+
+beside_lacks : (paths : OfRun (List ℕ)) (files : List ℕ → Source) (is_verbose : Bool) (old : Option (List ℕ)) (plan : PlanTextOf) (second : Option (List ℕ))
+    → RunsBeside paths files is_verbose old old plan second (Err (nowhere NoMemory))
+beside_lacks paths files is_verbose old plan None = plans_lack paths files is_verbose old plan None
+beside_lacks paths files is_verbose old plan (Some path) = second_lacks paths files is_verbose old plan path
+
+pub plan_lacks : (paths : OfRun (List ℕ)) (files : List ℕ → Source) (is_verbose : Bool) (old : Option (List ℕ)) (plan : PlanTextOf)
+    → RunsPlan paths files is_verbose old old plan (Err (nowhere NoMemory))
+plan_lacks paths files is_verbose old plan = beside_lacks paths files is_verbose old plan paths.second_plan
+
+-- a report on the text of a dialplan may find no memory
+pub listing_lacks : (path : List ℕ) (files : List ℕ → Source) (old : Option (List ℕ)) (plan : PlanTextOf) → ListsText path files old old plan (Err (nowhere NoMemory))
+listing_lacks path files old plan =
+    (Reads-any (with_text files path plan.text path) _ (λ text. (reports_lacks old _, lacks_report_place path text)), tt)
+
+pub matching_lacks : (lookup : LookupOf) (files : List ℕ → Source) (all explains : Bool) (old : Option (List ℕ)) (plan : PlanTextOf)
+    → LooksUpText lookup files all explains old old plan (Err (nowhere NoMemory))
+matching_lacks lookup files all explains old plan =
+    Reads-any (with_text files lookup.file plan.text lookup.file) _ (λ text. (reports_lacks old _, lacks_report_place lookup.file text, tt))
+
+audit_lacks : (choice : ChoiceOf) (path : List ℕ) (file : Source) (old : Option (List ℕ)) → AuditsFileBy choice path file old old (Err (nowhere NoMemory))
+audit_lacks choice path file old = Reads-any file _ (λ text. (choices_lacks choice old _, lacks_report_place path text, tt))
+
+pub auditing_lacks : (choice : ChoiceOf) (path : List ℕ) (files : List ℕ → Source) (old : Option (List ℕ)) (plan : PlanTextOf)
+    → AuditsText choice path files old old plan (Err (nowhere NoMemory))
+auditing_lacks choice path files old plan = audit_lacks choice path (with_text files path plan.text path) old
+
+audit_asked_lacks : (is_wide : Bool) (choice : ChoiceOf) (path : List ℕ) (files : List ℕ → Source) (old : Option (List ℕ))
+    → AuditsAsked is_wide choice path files old old (Err (nowhere NoMemory))
+audit_asked_lacks true choice path files old = dialplan_lacks (AuditsText choice path files old old) path old (auditing_lacks choice path files old) Faults files
+audit_asked_lacks false choice path files old = audit_lacks choice path (files path) old
 
 run_asked_lacks : (paths : OfRun (List ℕ)) (sources : OfRun Source) (threads : Option ℕ) (is_verbose : Bool) (old : Option (List ℕ))
     → RunsAsked paths sources threads is_verbose old old (Err (nowhere NoMemory))
@@ -510,13 +556,17 @@ Serves-lacks files input (check_queues queues) explains old = (Reads-any (files 
 Serves-lacks files input (check_both file queues) explains old =
     (Reads-any (files file) _ (λ plan. Reads-any (files queues) _ (λ held. (reports_lacks old _, lacks_two_place file queues plan held))), tt)
 Serves-lacks files input (listing file) explains old = (Reads-any (files file) _ (λ text. (reports_lacks old _, lacks_report_place file text)), tt)
+Serves-lacks files input (listing_files file) explains old =
+    dialplan_lacks (ListsText file files old old) file old (listing_lacks file files old) Faults files
 Serves-lacks files input (auditing file) explains old = Reads-any (files file) _ (λ text. (audits_lacks old _, lacks_report_place file text, tt))
-Serves-lacks files input (auditing_by file choice) explains old =
-    Reads-any (files file) _ (λ text. (choices_lacks choice old _, lacks_report_place file text, tt))
+Serves-lacks files input (auditing_by file choice) explains old = audit_asked_lacks choice.is_wide choice file files old
 Serves-lacks files input (matching lookup all) explains old = Reads-any (files lookup.file) _ (λ text. (reports_lacks old _, lacks_report_place lookup.file text, tt))
+Serves-lacks files input (matching_files lookup all) explains old =
+    dialplan_lacks (LooksUpText lookup files all explains old old) lookup.file old (matching_lacks lookup files all explains old) Unfollowed files
 Serves-lacks files input (explaining fault) explains old = ((Appends-nil old, refl), tt)
 Serves-lacks files input (run paths threads is_verbose) explains old = (run_asked_lacks paths (sources_of files paths) threads is_verbose old, tt)
-Serves-lacks files input (run_wide paths is_verbose) explains old = (run_wide_asked_lacks paths (sources_of files paths) is_verbose old, tt)
+Serves-lacks files input (run_wide paths is_verbose) explains old =
+    dialplan_lacks (RunsPlan paths files is_verbose old old) paths.plan old (plan_lacks paths files is_verbose old) Unfollowed files
 Serves-lacks files input (debug paths held is_verbose) explains old = (debug_asked_lacks paths (sources_of files paths) held is_verbose old, tt)
 Serves-lacks files input (reaching question) explains old =
     Reads-any (files question.file) _ (λ plan. ReadsSome-any (option_map files question.queues) _ (λ queues. (

@@ -1,4 +1,5 @@
 pub mod Checks
+pub mod Dialplans
 pub mod Entries
 pub mod Faulted
 pub mod Files
@@ -10,3 +11,4 @@ pub mod Requests
 pub mod Serves
 pub mod Status
 pub mod Texts
+pub mod WideRuns

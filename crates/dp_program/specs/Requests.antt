@@ -7,7 +7,7 @@ use Rattle.dp_wide_runs.specs.Kinds.{ChoiceOf, choice_of}
 use Rattle.dp_program.specs.declared.request.Lookup.{Lookup}
 use Rattle.dp_program.specs.declared.request.ReachQuestion.{ReachQuestion}
 use Rattle.dp_program.specs.declared.request.Request.{Request}
-use Rattle.dp_program.specs.declared.request.Request.TheVariants.{Joined, Check, CheckIncluding, CheckQueues, CheckBoth, Listing, Audit, AuditBy, Match, Explain, Run, RunWide, Debug, Reach}
+use Rattle.dp_program.specs.declared.request.Request.TheVariants.{Joined, Check, CheckIncluding, CheckQueues, CheckBoth, Listing, ListIncluding, Audit, AuditBy, Match, MatchIncluding, Explain, Run, RunWide, Debug, Reach}
 
 -- what is looked up in the dialplan of a file, with its texts
 pub record LookupOf : Type 0 where
@@ -49,9 +49,11 @@ pub data RequestOf : Type 0 where
   check_queues : List ℕ → RequestOf
   check_both : List ℕ → List ℕ → RequestOf
   listing : List ℕ → RequestOf
+  listing_files : List ℕ → RequestOf
   auditing : List ℕ → RequestOf
   auditing_by : List ℕ → ChoiceOf → RequestOf
   matching : LookupOf → Bool → RequestOf
+  matching_files : LookupOf → Bool → RequestOf
   explaining : ℕ → RequestOf
   run : OfRun (List ℕ) → Option ℕ → Bool → RequestOf
   run_wide : OfRun (List ℕ) → Bool → RequestOf
@@ -66,9 +68,11 @@ request_asked (CheckIncluding file) = check_files file.now
 request_asked (CheckQueues queues) = check_queues queues.now
 request_asked (CheckBoth files) = check_both files.plan.now files.queues.now
 request_asked (Listing file) = listing file.now
+request_asked (ListIncluding file) = listing_files file.now
 request_asked (Audit file) = auditing file.now
 request_asked (AuditBy file choice) = auditing_by file.now (choice_of choice)
 request_asked (Match lookup all) = matching (lookup_of lookup) all
+request_asked (MatchIncluding lookup all) = matching_files (lookup_of lookup) all
 request_asked (Explain fault) = explaining fault
 request_asked (Run files threads is_verbose) = run (paths_of files) threads is_verbose
 request_asked (RunWide files is_verbose) = run_wide (paths_of files) is_verbose

@@ -1,24 +1,28 @@
 -- What a request writes and answers, by what is known of the files and of the input that it reads.
 use Rattle.std.specs.Prelude.{ℕ, Bool, true, false, List, max, Option, Some, None, Result, Ok, Err, IfOk}
+use Rattle.std.specs.Option.{option_map}
 use Rattle.dp_board.specs.Log.{Log}
 use Rattle.dp_conf.specs.Answers.{◌>>=◌}
 use Rattle.dp_commands.specs.Audit.{WritesAudit, audit_of}
 use Rattle.dp_commands.specs.Candidates.{match_all_of}
 use Rattle.dp_commands.specs.Debug.{DebugRun, WritesDebug, debug_of}
 use Rattle.dp_commands.specs.Joined.{joined_run}
+use Rattle.dp_commands.specs.LinePlaces.{Places}
 use Rattle.dp_commands.specs.Report.{Reports, list_of, match_of}
 use Rattle.dp_commands.specs.Run.{Run, Writes, run_of}
 use Rattle.dp_commands.specs.Threads.{Shares}
-use Rattle.dp_commands.specs.Verbose.{InForce, WritesVerbose, WritesVerboseDebug, first_in_force}
+use Rattle.dp_commands.specs.Verbose.{InForce, WritesVerbose, WritesVerboseDebug, first_in_force, first_in_force_at}
 use Rattle.dp_commands.specs.declared.fault.PbxFault.{PbxFault}
+use Rattle.dp_notices.specs.declared.printing.Shown.TheVariants.{Faults, Unfollowed}
 use Rattle.dp_program.specs.Checks.{both_report, check_by, queues_report}
+use Rattle.dp_program.specs.Dialplans.{PlanTextOf, ReadsDialplan, places_in, with_text}
 use Rattle.dp_program.specs.Entries.{entry_of, explanation_of}
 use Rattle.dp_program.specs.Faulted.{StandsIn, in_none, place_of_report, place_of_run, place_of_two, without_place}
 use Rattle.dp_program.specs.Files.{Source, Reads, has_read_failed}
 use Rattle.dp_program.specs.Hints.{Tells, TellsNothing, audit_hint_of, match_hint_of, status_in}
 use Rattle.dp_program.specs.Including.{ChecksIncluding}
 use Rattle.dp_program.specs.Reaches.{ReachesFiles}
-use Rattle.dp_program.specs.Requests.{RequestOf, LookupOf, joined, check, check_files, check_queues, check_both, listing, auditing, auditing_by, matching, explaining, run, run_wide, debug, reaching}
+use Rattle.dp_program.specs.Requests.{RequestOf, LookupOf, joined, check, check_files, check_queues, check_both, listing, listing_files, auditing, auditing_by, matching, matching_files, explaining, run, run_wide, debug, reaching}
 use Rattle.dp_program.specs.Texts.{OfRun, ReadsTexts, all_texts, sources_of}
 use Rattle.dp_program.specs.declared.faulted.Faulted.{Faulted}
 use Rattle.dp_program.specs.declared.hints.Served.{Served}
@@ -147,20 +151,29 @@ abbrev pub RunsWideVerbosely : InForce → Option (List ℕ) → Option (List �
 RunsWideVerbosely in_force old new given result =
     WritesWideVerbose explanation_of in_force old new given result × IfOk result (HasPlainStatus given) × IfOk result (IsPlain given)
 
--- the same, by the texts or the fault with which they were not read
-abbrev pub RunsTextsWideVerbosely : OfRun (List ℕ) → Option (List ℕ) → Option (List ℕ) → Result (OfRun (List ℕ)) PbxFault → Result ℕ PbxFault → Type 0
-RunsTextsWideVerbosely paths old new (Ok texts) result = RunsWideVerbosely (in_force_at_first paths texts) old new (wide_run_of_texts texts) result
-RunsTextsWideVerbosely paths old new (Err fault) result = WritesWide old new (Err fault) result
+-- where the lines of a run's dialplans come from
+pub record PlacesOf : Type 0 where
+  pub plan : Places
+  pub second_plan : Option Places
+
+-- the dialplan in force before the first event of such a run, by its texts
+abbrev pub in_force_at : PlacesOf → OfRun (List ℕ) → InForce
+in_force_at places texts = first_in_force_at places.plan places.second_plan texts.plan
+
+-- what such a run writes and answers, by the texts or the fault with which they were not read
+abbrev pub RunsTextsWideVerbosely : PlacesOf → Option (List ℕ) → Option (List ℕ) → Result (OfRun (List ℕ)) PbxFault → Result ℕ PbxFault → Type 0
+RunsTextsWideVerbosely places old new (Ok texts) result = RunsWideVerbosely (in_force_at places texts) old new (wide_run_of_texts texts) result
+RunsTextsWideVerbosely places old new (Err fault) result = WritesWide old new (Err fault) result
 
 -- what such a run over the files of paths writes and answers, and where its fault stands
-abbrev pub RunsFilesWideVerbosely : OfRun (List ℕ) → OfRun Source → Option (List ℕ) → Option (List ℕ) → Result ℕ Faulted → Type 0
-RunsFilesWideVerbosely paths sources old new answered =
-    ReadsTexts sources (λ read. RunsTextsWideVerbosely paths old new (all_texts read) (without_place answered) × StandsIn (place_of_run paths read) answered)
+abbrev pub RunsFilesWideVerbosely : OfRun (List ℕ) → PlacesOf → OfRun Source → Option (List ℕ) → Option (List ℕ) → Result ℕ Faulted → Type 0
+RunsFilesWideVerbosely paths places sources old new answered =
+    ReadsTexts sources (λ read. RunsTextsWideVerbosely places old new (all_texts read) (without_place answered) × StandsIn (place_of_run paths read) answered)
 
 -- what a run over the wide table writes and answers, by whether it is verbose
-abbrev pub RunsWideAsked : OfRun (List ℕ) → OfRun Source → Bool → Option (List ℕ) → Option (List ℕ) → Result ℕ Faulted → Type 0
-RunsWideAsked paths sources true old new answered = RunsFilesWideVerbosely paths sources old new answered
-RunsWideAsked paths sources false old new answered = RunsFilesWide paths sources old new answered
+abbrev pub RunsWideAsked : OfRun (List ℕ) → PlacesOf → OfRun Source → Bool → Option (List ℕ) → Option (List ℕ) → Result ℕ Faulted → Type 0
+RunsWideAsked paths places sources true old new answered = RunsFilesWideVerbosely paths places sources old new answered
+RunsWideAsked paths places sources false old new answered = RunsFilesWide paths sources old new answered
 
 -- what a run writes and answers, in threads where their number is given, and else by whether it is verbose
 abbrev pub RunsAsked : OfRun (List ℕ) → OfRun Source → Option ℕ → Bool → Option (List ℕ) → Option (List ℕ) → Result ℕ Faulted → Type 0
@@ -181,6 +194,70 @@ WritesEntry fault old new answered = Reports old new (Ok (entry_of fault)) (with
 abbrev pub Quietly : (Result ℕ Faulted → Type 0) → Result Served Faulted → Type 0
 Quietly serves answered = serves (status_in answered) × TellsNothing answered
 
+-- what a listing of the dialplan of a path writes and answers, given the text of the dialplan
+abbrev pub ListsText : List ℕ → (List ℕ → Source) → Option (List ℕ) → Option (List ℕ) → PlanTextOf → Result Served Faulted → Type 0
+ListsText path files old new plan answered = Quietly (ReportsOn path (with_text files path plan.text path) list_of old new) answered
+
+-- the same of the dialplan of a path and of the files that it includes
+abbrev pub ListsIncluding : List ℕ → (List ℕ → Source) → Option (List ℕ) → Option (List ℕ) → Result Served Faulted → Type 0
+ListsIncluding path files old new answered = ReadsDialplan Faults files path (ListsText path files old new) old new answered
+
+-- what a look-up writes and answers, given the text of the dialplan
+abbrev pub LooksUpText : LookupOf → (List ℕ → Source) → Bool → Bool → Option (List ℕ) → Option (List ℕ) → PlanTextOf → Result Served Faulted → Type 0
+LooksUpText lookup files all explains old new plan answered =
+    LooksUp lookup (with_text files lookup.file plan.text lookup.file) all explains old new answered
+
+-- the same in the dialplan of a path and of the files that it includes
+abbrev pub LooksUpIncluding : LookupOf → (List ℕ → Source) → Bool → Bool → Option (List ℕ) → Option (List ℕ) → Result Served Faulted → Type 0
+LooksUpIncluding lookup files all explains old new answered =
+    ReadsDialplan Unfollowed files lookup.file (LooksUpText lookup files all explains old new) old new answered
+
+-- what an audit writes and answers, given the text of the dialplan
+abbrev pub AuditsText : ChoiceOf → List ℕ → (List ℕ → Source) → Option (List ℕ) → Option (List ℕ) → PlanTextOf → Result Served Faulted → Type 0
+AuditsText choice path files old new plan answered = AuditsFileBy choice path (with_text files path plan.text path) old new answered
+
+-- the same of the dialplan of a path and of the files that it includes
+abbrev pub AuditsIncluding : ChoiceOf → List ℕ → (List ℕ → Source) → Option (List ℕ) → Option (List ℕ) → Result Served Faulted → Type 0
+AuditsIncluding choice path files old new answered = ReadsDialplan Faults files path (AuditsText choice path files old new) old new answered
+
+-- an audit over the wide table reads the files that its dialplan includes, and another does not
+abbrev pub AuditsAsked : Bool → ChoiceOf → List ℕ → (List ℕ → Source) → Option (List ℕ) → Option (List ℕ) → Result Served Faulted → Type 0
+AuditsAsked true choice path files old new answered = AuditsIncluding choice path files old new answered
+AuditsAsked false choice path files old new answered = AuditsFileBy choice path (files path) old new answered
+
+-- where the lines of a run's dialplans come from
+abbrev pub places_read : PlanTextOf → Option (List ℕ × PlanTextOf) → PlacesOf
+places_read plan second = record { plan = places_in plan; second_plan = option_map (λ second. places_in second.1) second }
+
+-- the files of a run, in which its dialplans have the texts that were made of them
+abbrev pub files_read : OfRun (List ℕ) → (List ℕ → Source) → PlanTextOf → Option (List ℕ × PlanTextOf) → List ℕ → Source
+files_read paths files plan None = with_text files paths.plan plan.text
+files_read paths files plan (Some second) = with_text (with_text files paths.plan plan.text) second.0 second.1.text
+
+-- what a run over the wide table writes and answers, given the texts of its dialplans
+abbrev pub RunsPlans : OfRun (List ℕ) → (List ℕ → Source) → Bool → Option (List ℕ) → Option (List ℕ) → PlanTextOf → Option (List ℕ × PlanTextOf) → Result Served Faulted → Type 0
+RunsPlans paths files is_verbose old new plan second answered =
+    Quietly (RunsWideAsked paths (places_read plan second) (sources_of (files_read paths files plan second) paths) is_verbose old new) answered
+
+-- the same, given the text of the first one and the path of the second, which is read after it
+abbrev pub RunsSecond : OfRun (List ℕ) → (List ℕ → Source) → Bool → Option (List ℕ) → Option (List ℕ) → PlanTextOf → List ℕ → Result Served Faulted → Type 0
+RunsSecond paths files is_verbose old new plan path answered =
+    ReadsDialplan Unfollowed files path (λ second answered. RunsPlans paths files is_verbose old new plan (Some (path, second)) answered) old new answered
+
+-- the same by the path of the second one, if there is one
+abbrev pub RunsBeside : OfRun (List ℕ) → (List ℕ → Source) → Bool → Option (List ℕ) → Option (List ℕ) → PlanTextOf → Option (List ℕ) → Result Served Faulted → Type 0
+RunsBeside paths files is_verbose old new plan None answered = RunsPlans paths files is_verbose old new plan None answered
+RunsBeside paths files is_verbose old new plan (Some path) answered = RunsSecond paths files is_verbose old new plan path answered
+
+-- the same, given the text of the first one
+abbrev pub RunsPlan : OfRun (List ℕ) → (List ℕ → Source) → Bool → Option (List ℕ) → Option (List ℕ) → PlanTextOf → Result Served Faulted → Type 0
+RunsPlan paths files is_verbose old new plan answered = RunsBeside paths files is_verbose old new plan paths.second_plan answered
+
+-- the same of the dialplan of a path and of the files that it includes
+abbrev pub RunsIncluding : OfRun (List ℕ) → (List ℕ → Source) → Bool → Option (List ℕ) → Option (List ℕ) → Result Served Faulted → Type 0
+RunsIncluding paths files is_verbose old new answered =
+    ReadsDialplan Unfollowed files paths.plan (RunsPlan paths files is_verbose old new) old new answered
+
 -- what a request writes and answers, by the files of its paths and the input, and by whether it explains what it prints
 abbrev pub Serves : (List ℕ → Source) → Source → RequestOf → Bool → Option (List ℕ) → Option (List ℕ) → Result Served Faulted → Type 0
 Serves files input joined explains old new answered = Quietly (RunsJoined input old new) answered
@@ -189,14 +266,15 @@ Serves files input (check_files file) explains old new answered = Quietly (Check
 Serves files input (check_queues queues) explains old new answered = Quietly (ReportsOn queues (files queues) queues_report old new) answered
 Serves files input (check_both file queues) explains old new answered = Quietly (ChecksBoth files file queues explains old new) answered
 Serves files input (listing file) explains old new answered = Quietly (ReportsOn file (files file) list_of old new) answered
+Serves files input (listing_files file) explains old new answered = ListsIncluding file files old new answered
 Serves files input (auditing file) explains old new answered = AuditsFile file (files file) old new answered
-Serves files input (auditing_by file choice) explains old new answered = AuditsFileBy choice file (files file) old new answered
+Serves files input (auditing_by file choice) explains old new answered = AuditsAsked choice.is_wide choice file files old new answered
 Serves files input (matching lookup all) explains old new answered = LooksUp lookup (files lookup.file) all explains old new answered
+Serves files input (matching_files lookup all) explains old new answered = LooksUpIncluding lookup files all explains old new answered
 Serves files input (explaining fault) explains old new answered = Quietly (WritesEntry fault old new) answered
 Serves files input (run paths threads is_verbose) explains old new answered =
     Quietly (RunsAsked paths (sources_of files paths) threads is_verbose old new) answered
-Serves files input (run_wide paths is_verbose) explains old new answered =
-    Quietly (RunsWideAsked paths (sources_of files paths) is_verbose old new) answered
+Serves files input (run_wide paths is_verbose) explains old new answered = RunsIncluding paths files is_verbose old new answered
 Serves files input (debug paths held is_verbose) explains old new answered =
     Quietly (DebugsAsked paths (sources_of files paths) held is_verbose old new) answered
 Serves files input (reaching question) explains old new answered = ReachesFiles files question explains old new answered
@@ -209,9 +287,11 @@ fails_on_input (check_files file) result = false
 fails_on_input (check_queues queues) result = false
 fails_on_input (check_both file queues) result = false
 fails_on_input (listing file) result = false
+fails_on_input (listing_files file) result = false
 fails_on_input (auditing file) result = false
 fails_on_input (auditing_by file choice) result = false
 fails_on_input (matching lookup all) result = false
+fails_on_input (matching_files lookup all) result = false
 fails_on_input (explaining fault) result = false
 fails_on_input (run paths threads is_verbose) result = false
 fails_on_input (run_wide paths is_verbose) result = false

@@ -18,7 +18,7 @@ use dp_notices::{PlanFiles, check_plan, read_folder_plan};
 use std::alloc::Global;
 
 /// Why nothing was read, as a fault of the program.
-fn reading_fault(fault: ReadingFault) -> PbxFault
+pub(crate) fn reading_fault(fault: ReadingFault) -> PbxFault
     ensures { result ≡ spec.reading_fault fault }
 {
     match fault {

@@ -2,12 +2,15 @@
 #![tactic(auto)]
 
 mod checks;
+mod dialplans;
 mod entries;
 mod fault;
 mod faulted;
 mod files;
 mod hints;
 mod including;
+mod including_reports;
+mod made_files;
 mod nearest;
 mod program;
 mod reaches;

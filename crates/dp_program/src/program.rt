@@ -11,13 +11,16 @@ use crate::faulted::Faulted;
 use crate::files::ReadFiles;
 use crate::hints::{Served, without_hint};
 use crate::including::serve_check_including;
+use crate::including_reports::{
+    serve_audit_including, serve_list_including, serve_match_including,
+};
 use crate::reaches::serve_reach;
 use crate::reports::{Manner, serve_audit, serve_explain, serve_list, serve_match};
 use crate::request::Request;
-use crate::runs::{serve_debug, serve_joined, serve_run};
+use crate::runs::{PlainRun, serve_debug, serve_joined, serve_run};
 use crate::verbose_runs::{serve_debug_verbose, serve_run_verbose};
 use crate::wide_audits::serve_audit_by;
-use crate::wide_runs::{serve_run_wide, serve_run_wide_verbose};
+use crate::wide_runs::{WideRun, serve_run_including};
 use dp_conf::{ReadTold, WriteTold};
 use std::alloc::Global;
 use std::sync::Wait;
@@ -62,7 +65,11 @@ pub fn serve<'a, F: ReadFiles, I: ReadTold, W: WriteTold, R: Threads + Wait + Sy
             )
         }
         Request::Listing { file } => without_hint(alloc, serve_list(files, alloc, file, output)),
+        Request::ListIncluding { file } => serve_list_including(files, alloc, file, output),
         Request::Audit { file } => serve_audit(files, alloc, file, output),
+        Request::AuditBy { file, choice } if choice.is_wide => {
+            serve_audit_including(files, alloc, file, *choice, output)
+        }
         Request::AuditBy { file, choice } => serve_audit_by(files, alloc, file, *choice, output),
         Request::Match { lookup, all } => {
             let manner = Manner {
@@ -70,6 +77,13 @@ pub fn serve<'a, F: ReadFiles, I: ReadTold, W: WriteTold, R: Threads + Wait + Sy
                 explains,
             };
             serve_match(files, alloc, lookup, manner, output)
+        }
+        Request::MatchIncluding { lookup, all } => {
+            let manner = Manner {
+                all: *all,
+                explains,
+            };
+            serve_match_including(files, alloc, lookup, manner, output)
         }
         Request::Explain { fault } => without_hint(alloc, serve_explain(*fault, output)),
         Request::Run {
@@ -81,25 +95,34 @@ pub fn serve<'a, F: ReadFiles, I: ReadTold, W: WriteTold, R: Threads + Wait + Sy
             files: run,
             threads: None,
             is_verbose: false,
-        } => without_hint(alloc, serve_run(rt, files, alloc, run, None, output)),
+        } => {
+            let run = PlainRun {
+                files: run,
+                threads: None,
+            };
+            without_hint(alloc, serve_run(rt, files, alloc, run, output))
+        }
         Request::Run {
             files: run,
             threads: Some(threads),
             is_verbose: _,
         } => {
-            without_hint(
-                alloc,
-                serve_run(rt, files, alloc, run, Some(*threads), output),
-            )
+            let run = PlainRun {
+                files: run,
+                threads: Some(*threads),
+            };
+            without_hint(alloc, serve_run(rt, files, alloc, run, output))
         }
         Request::RunWide {
             files: run,
-            is_verbose: true,
-        } => without_hint(alloc, serve_run_wide_verbose(files, alloc, run, output)),
-        Request::RunWide {
-            files: run,
-            is_verbose: false,
-        } => without_hint(alloc, serve_run_wide(files, alloc, run, output)),
+            is_verbose,
+        } => {
+            let asked = WideRun {
+                files: run,
+                is_verbose: *is_verbose,
+            };
+            serve_run_including(files, alloc, asked, output)
+        }
         Request::Debug {
             files: run,
             held,

@@ -99,12 +99,16 @@ pub enum Request<'a> {
     Listing {
         file: &'a str,
     },
+    /// `list --asterisk FILE`: to list a dialplan that is read from a file and from those that it includes.
+    ListIncluding {
+        file: &'a str,
+    },
     /// `audit FILE`: to tell what the writer of a dialplan may not have meant.
     Audit {
         file: &'a str,
     },
     /// `audit [--asterisk] [--only KINDS] [--ignore KINDS] FILE` with at least one of these options: to tell the findings of some kinds, or
-    /// those over the wide table.
+    /// those over the wide table. Over the wide table the dialplan is read from a file and from those that it includes.
     AuditBy {
         file: &'a str,
         choice: AuditChoice<'a>,
@@ -112,6 +116,12 @@ pub enum Request<'a> {
     /// `match [--all] FILE CONTEXT TEXT [PRIORITY]`: to find the entry that answers, and to say of all extensions that match what
     /// becomes of them, where that is asked for.
     Match {
+        lookup: Lookup<'a>,
+        all: bool,
+    },
+    /// `match --asterisk [--all] FILE CONTEXT TEXT [PRIORITY]`: to find the same in a dialplan that is read from a file and from those that
+    /// it includes. Where the dialplan has something that this program cannot follow, nothing is looked up.
+    MatchIncluding {
         lookup: Lookup<'a>,
         all: bool,
     },
@@ -128,7 +138,8 @@ pub enum Request<'a> {
         is_verbose: bool,
     },
     /// `run --asterisk [--queues QUEUES] [--reload DIALPLAN] [--verbose] FILE SCRIPT`: to run a script on a dialplan likewise, over the
-    /// applications and functions of the wide table. The script may tell facts, and the run stops before what is unknown.
+    /// applications and functions of the wide table. Each dialplan is read from a file and from those that it includes. The script may
+    /// tell facts, and the run stops before what is unknown. Where a dialplan has something that this program cannot follow, nothing runs.
     RunWide {
         files: RunFiles<'a>,
         is_verbose: bool,

@@ -113,24 +113,30 @@ fn run_texts<W: WriteTold, R: Threads + Wait + Sync>(
     }
 }
 
+/// A run by its files, in threads if their number is given.
+#[derive(Clone, Copy)]
+pub(crate) struct PlainRun<'r, 'a> {
+    pub(crate) files: &'r RunFiles<'a>,
+    pub(crate) threads: Option<u32>,
+}
+
 /// Runs the script of one file on the dialplan of another, with the queues and the second dialplan of further files if they are named, in
 /// threads if their number is given.
 pub(crate) fn serve_run<'a, F: ReadFiles, W: WriteTold, R: Threads + Wait + Sync>(
     rt: &R,
     files: &F,
     alloc: Global,
-    run: &RunFiles<'a>,
-    threads: Option<u32>,
+    run: PlainRun<'_, 'a>,
     output: &mut W,
 ) -> Result<u8, Faulted<'a>>
-    ensures serves { spec.RunsFiles (paths_of run.now)
-        (sources_of (F.source_at files.now) (paths_of run.now)) threads (W.contents output.old)
+    ensures serves { spec.RunsFiles (paths_of run.entry.files.now)
+        (sources_of (F.source_at files.now) (paths_of run.entry.files.now)) run.entry.threads (W.contents output.old)
         (W.contents output.new) result }
     ensures told { W.has_failed output.new ≡ (W.has_failed output.old || is_write_failed (without_place result)) }
 {
-    let texts = read_texts(files, alloc, run)?;
-    let answered = run_texts(rt, alloc, &texts, threads, output);
-    placed_in_run(run, &texts, answered)
+    let texts = read_texts(files, alloc, run.files)?;
+    let answered = run_texts(rt, alloc, &texts, run.threads, output);
+    placed_in_run(run.files, &texts, answered)
 }
 
 /// Debugs the script of a run on its dialplan, with the break that a text names.

@@ -1,17 +1,22 @@
 //! The requests that run a script over the wide table.
-ghost use Rattle.std.specs.Prelude.{◌≡◌, ◌||◌};
+ghost use Rattle.std.specs.Prelude.{◌≡◌, ◌||◌, None, Some};
 ghost use Rattle.dp_commands.specs.Faults.{is_write_failed};
+ghost use Rattle.dp_program.specs.Dialplans.{text_now};
 ghost use Rattle.dp_program.specs.Faulted.{without_place};
 ghost use Rattle.dp_program.specs.Serves as spec;
 ghost use Rattle.dp_program.specs.Texts.{paths_of, sources_of, texts_of};
+ghost use Rattle.dp_program.specs.WideRuns.{places_of};
 
+use crate::dialplans::{PlanText, ReadDialplan, faulty, read_dialplan};
 use crate::entries::ManualEntries;
 use crate::faulted::{Faulted, placed_in_run};
 use crate::files::ReadFiles;
+use crate::hints::{Served, without_hint};
 use crate::request::RunFiles;
 use crate::texts::{Texts, read_texts};
-use dp_commands::PbxFault;
+use dp_commands::{PbxFault, PlanPlaces};
 use dp_conf::WriteTold;
+use dp_notices::Shown;
 use dp_wide_runs::{run_wide, run_wide_verbose};
 use std::alloc::Global;
 
@@ -26,7 +31,7 @@ fn run_texts<W: WriteTold>(alloc: Global, texts: &Texts, output: &mut W) -> Resu
 
 /// Runs the script of one file on the dialplan of another over the wide table, with the queues and the second dialplan of further files if
 /// they are named. The script may state facts, and the run stops before anything unknown.
-pub(crate) fn serve_run_wide<'a, F: ReadFiles, W: WriteTold>(
+fn serve_run_wide<'a, F: ReadFiles, W: WriteTold>(
     files: &F,
     alloc: Global,
     run: &RunFiles<'a>,
@@ -44,30 +49,202 @@ pub(crate) fn serve_run_wide<'a, F: ReadFiles, W: WriteTold>(
 /// Runs the script of a run verbosely on its dialplan over the wide table.
 fn run_texts_verbosely<W: WriteTold>(
     alloc: Global,
-    run: &RunFiles<'_>,
+    places: PlanPlaces<'_>,
     texts: &Texts,
     output: &mut W,
 ) -> Result<u8, PbxFault>
-    ensures runs { spec.RunsWideVerbosely (spec.in_force_at_first (paths_of run.now) (texts_of texts.now))
+    ensures runs { spec.RunsWideVerbosely (spec.in_force_at (places_of places.entry) (texts_of texts.now))
         (W.contents output.old) (W.contents output.new) (spec.wide_run_of_texts (texts_of texts.now)) result }
     ensures told { W.has_failed output.new ≡ (W.has_failed output.old || is_write_failed result) }
 {
-    run_wide_verbose::<ManualEntries, W>(alloc, texts.lend(), run.plan_names(), output)
+    run_wide_verbose::<ManualEntries, W>(alloc, texts.lend(), places, output)
 }
 
 /// Runs the script of one file verbosely on the dialplan of another over the wide table, with the queues and the second dialplan of further
 /// files if they are named. The script may state facts, and the run stops before anything unknown.
-pub(crate) fn serve_run_wide_verbose<'a, F: ReadFiles, W: WriteTold>(
+fn serve_run_wide_verbose<'a, F: ReadFiles, W: WriteTold>(
     files: &F,
     alloc: Global,
     run: &RunFiles<'a>,
+    places: PlanPlaces<'_>,
     output: &mut W,
 ) -> Result<u8, Faulted<'a>>
-    ensures serves { spec.RunsFilesWideVerbosely (paths_of run.now) (sources_of (F.source_at files.now) (paths_of run.now))
-        (W.contents output.old) (W.contents output.new) result }
+    ensures serves { spec.RunsFilesWideVerbosely (paths_of run.now) (places_of places.entry)
+        (sources_of (F.source_at files.now) (paths_of run.now)) (W.contents output.old) (W.contents output.new) result }
     ensures told { W.has_failed output.new ≡ (W.has_failed output.old || is_write_failed (without_place result)) }
 {
     let texts = read_texts(files, alloc, run)?;
-    let answered = run_texts_verbosely(alloc, run, &texts, output);
+    let answered = run_texts_verbosely(alloc, places, &texts, output);
     placed_in_run(run, &texts, answered)
+}
+
+/// A run over the wide table: its files, and whether it is verbose.
+#[derive(Clone, Copy)]
+pub(crate) struct WideRun<'r, 'a> {
+    pub(crate) files: &'r RunFiles<'a>,
+    pub(crate) is_verbose: bool,
+}
+
+/// Runs the script of a run over files in which its dialplans have the texts that were made of them.
+fn run_made<'a, F: ReadFiles, W: WriteTold>(
+    files: &F,
+    alloc: Global,
+    asked: WideRun<'_, 'a>,
+    places: PlanPlaces<'_>,
+    output: &mut W,
+) -> Result<Served, Faulted<'a>>
+    ensures serves { spec.Quietly (spec.RunsWideAsked (paths_of asked.entry.files.now) (places_of places.entry)
+        (sources_of (F.source_at files.now) (paths_of asked.entry.files.now)) asked.entry.is_verbose
+        (W.contents output.old) (W.contents output.new)) result }
+    ensures told { W.has_failed output.new ≡ (W.has_failed output.old || is_write_failed (without_place result)) }
+{
+    match asked {
+        WideRun {
+            files: run,
+            is_verbose: true,
+        } => without_hint(
+            alloc,
+            serve_run_wide_verbose(files, alloc, run, places, output),
+        ),
+        WideRun {
+            files: run,
+            is_verbose: false,
+        } => without_hint(alloc, serve_run_wide(files, alloc, run, output)),
+    }
+}
+
+/// Runs the script of a run without a second dialplan, given the text of its dialplan.
+fn run_alone<'a, F: ReadFiles, W: WriteTold>(
+    files: &F,
+    alloc: Global,
+    asked: WideRun<'_, 'a>,
+    plan: &PlanText,
+    output: &mut W,
+) -> Result<Served, Faulted<'a>>
+    ensures serves { spec.RunsPlans (paths_of asked.entry.files.now) (F.source_at files.now) asked.entry.is_verbose
+        (W.contents output.old) (W.contents output.new) (text_now plan.now) None result }
+    ensures told { W.has_failed output.new ≡ (W.has_failed output.old || is_write_failed (without_place result)) }
+{
+    let made = plan.made_files(files, asked.files.plan);
+    let places = places_alone(plan);
+    run_made(&made, alloc, asked, places, output)
+}
+
+/// The texts of the dialplans of a run, and the path of the second one.
+#[derive(Clone, Copy)]
+struct PlanTexts<'r, 'a> {
+    plan: &'r PlanText,
+    path: &'a str,
+    second_plan: &'r PlanText,
+}
+
+/// Where the lines of a run's dialplan come from, if there is no second one.
+fn places_alone(plan: &PlanText) -> PlanPlaces<'_>
+    ensures { places_of result ≡ spec.places_read (text_now plan.now) None }
+{
+    let plan = plan.places();
+    let second_plan = None;
+    PlanPlaces { plan, second_plan }
+}
+
+/// Where the lines of a run's dialplans come from.
+fn places_of_both<'r>(plans: PlanTexts<'r, '_>) -> PlanPlaces<'r>
+    ensures { places_of result ≡ spec.places_read (text_now plans.entry.plan.now)
+        (Some (plans.entry.path.now, text_now plans.entry.second_plan.now)) }
+{
+    let plan = plans.plan.places();
+    let second_plan = Some(plans.second_plan.places());
+    PlanPlaces { plan, second_plan }
+}
+
+/// Runs the script of a run, given the texts of its two dialplans.
+fn run_both<'a, F: ReadFiles, W: WriteTold>(
+    files: &F,
+    alloc: Global,
+    asked: WideRun<'_, 'a>,
+    plans: PlanTexts<'_, '_>,
+    output: &mut W,
+) -> Result<Served, Faulted<'a>>
+    ensures serves { spec.RunsPlans (paths_of asked.entry.files.now) (F.source_at files.now) asked.entry.is_verbose
+        (W.contents output.old) (W.contents output.new) (text_now plans.entry.plan.now)
+        (Some (plans.entry.path.now, text_now plans.entry.second_plan.now)) result }
+    ensures told { W.has_failed output.new ≡ (W.has_failed output.old || is_write_failed (without_place result)) }
+{
+    let made = plans.plan.made_files(files, asked.files.plan);
+    let both = plans.second_plan.made_files(&made, plans.path);
+    let places = places_of_both(plans);
+    run_made(&both, alloc, asked, places, output)
+}
+
+/// The text of a run's dialplan, and the path of its second one.
+#[derive(Clone, Copy)]
+struct FirstPlan<'r, 'a> {
+    plan: &'r PlanText,
+    path: &'a str,
+}
+
+/// Reads the second dialplan of a run and runs its script, given the text of its dialplan.
+fn run_after<'a, F: ReadFiles, W: WriteTold>(
+    files: &F,
+    alloc: Global,
+    asked: WideRun<'_, 'a>,
+    first: FirstPlan<'_, 'a>,
+    output: &mut W,
+) -> Result<Served, Faulted<'a>>
+    ensures serves { spec.RunsSecond (paths_of asked.entry.files.now) (F.source_at files.now) asked.entry.is_verbose
+        (W.contents output.old) (W.contents output.new) (text_now first.entry.plan.now) first.entry.path.now result }
+    ensures told { W.has_failed output.new ≡ (W.has_failed output.old || is_write_failed (without_place result)) }
+{
+    match read_dialplan(files, alloc, first.path, Shown::Unfollowed) {
+        Ok(ReadDialplan::Loads(second)) => {
+            let plans = PlanTexts {
+                plan: first.plan,
+                path: first.path,
+                second_plan: &second,
+            };
+            run_both(files, alloc, asked, plans, output)
+        }
+        Ok(ReadDialplan::Faulty(told)) => Ok(faulty(told)),
+        Err(unread) => Err(Faulted::from(unread)),
+    }
+}
+
+/// Runs the script of a run, given the text of its dialplan: its second dialplan is read, if there is one.
+fn run_beside<'a, F: ReadFiles, W: WriteTold>(
+    files: &F,
+    alloc: Global,
+    asked: WideRun<'_, 'a>,
+    plan: &PlanText,
+    output: &mut W,
+) -> Result<Served, Faulted<'a>>
+    ensures serves { spec.RunsPlan (paths_of asked.entry.files.now) (F.source_at files.now) asked.entry.is_verbose
+        (W.contents output.old) (W.contents output.new) (text_now plan.now) result }
+    ensures told { W.has_failed output.new ≡ (W.has_failed output.old || is_write_failed (without_place result)) }
+{
+    match asked.files.second_plan {
+        None => run_alone(files, alloc, asked, plan, output),
+        Some(path) => {
+            let first = FirstPlan { plan, path };
+            run_after(files, alloc, asked, first, output)
+        }
+    }
+}
+
+/// Runs the script of one file on the dialplan of another and of the files that it includes, over the wide table, with the queues and the
+/// second dialplan of further files if they are named. The script may state facts, and the run stops before anything unknown.
+pub(crate) fn serve_run_including<'a, F: ReadFiles, W: WriteTold>(
+    files: &F,
+    alloc: Global,
+    asked: WideRun<'_, 'a>,
+    output: &mut W,
+) -> Result<Served, Faulted<'a>>
+    ensures serves { spec.RunsIncluding (paths_of asked.entry.files.now) (F.source_at files.now) asked.entry.is_verbose
+        (W.contents output.old) (W.contents output.new) result }
+    ensures told { W.has_failed output.new ≡ (W.has_failed output.old || is_write_failed (without_place result)) }
+{
+    match read_dialplan(files, alloc, asked.files.plan, Shown::Unfollowed) {
+        Ok(ReadDialplan::Loads(plan)) => run_beside(files, alloc, asked, &plan, output),
+        Ok(ReadDialplan::Faulty(told)) => Ok(faulty(told)),
+        Err(unread) => Err(Faulted::from(unread)),
+    }
 }

@@ -88,6 +88,10 @@ inner→exten => 100,hint,Line/1¶exten => 100,1,Hangup(¶
 folded→[main]¶#include *.part¶#include *.none¶
 second.part→exten => 2,0,NoOp()¶
 first.part→exten => 1,0,NoOp()¶
+through→[general]¶autofallthrough=no¶[main]¶exten => s,1,NoOp()¶
+pieces→[main]¶#include \"inner.piece\"¶exten => s,1,Goto(100,1)¶
+inner.piece→;-- a note¶ over lines --;¶exten => 100,1,NoOp(hello)¶ same => n,Hangup()¶
+pieces.script→start main s¶step 1 3¶
 dashed→[-in-]¶exten => 1,1,NoOp¶
 ";
 

@@ -1,4 +1,4 @@
--- The agents after a change of states.
+-- The agents after their states change.
 use Rattle.std.proofs.Common.{◌≡◌, ℕ, zero, suc, ◌+◌, ◌<◌, ◌==◌, Bool, true, false, not, ◌||◌, if◌then◌else◌, List, [], ◌∷◌, Option, refl, sym, length, ap, ◌∙◌, arith}
 use Rattle.std.specs.Option.{option_map, unwrap_or}
 use Rattle.dp_queue.specs.Agents.{state_at, rings_for, is_idle, is_rung, with_state, with_state_at, idle_if_ringing, freed_state, all_freed}
@@ -8,7 +8,7 @@ use Rattle.dp_queue.specs.declared.agent.AgentState.{AgentState}
 use Rattle.dp_queue.specs.declared.agent.AgentState.TheVariants.{Idle, Talking}
 use Rattle.dp_queue.proofs.ChangeLemmas.{slice_get-changed_other}
 
--- the agent of the number is in the new state
+-- the agent with the number is in the new state
 pub state_at-same : (n : ℕ) (s : AgentState) (agents : List Agent) → n < length agents → state_at (with_state_at n s agents) n ≡ s
 state_at-same n s [] within = absurd (omega (arith, within))
 state_at-same zero s (a ∷ as') within = refl
@@ -19,26 +19,26 @@ pub state_at-other : (n : ℕ) (s : AgentState) (agents : List Agent) (k : ℕ) 
     → state_at (with_state_at n s agents) k ≡ state_at agents k
 state_at-other n s agents k other = ap (λ (o : Option Agent). unwrap_or (option_map (λ agent. agent.state) o) Idle) (slice_get-changed_other (with_state s) n k agents other)
 
--- each agent's state after the end of a channel's waiting
+-- each agent's state after a channel no longer waits
 pub state_at-idle_if_ringing : (c : ℕ) (agents : List Agent) (k : ℕ) → state_at (all_freed c agents) k ≡ freed_state c (state_at agents k)
 state_at-idle_if_ringing c [] k = refl
 state_at-idle_if_ringing c (a ∷ as') zero = refl
 state_at-idle_if_ringing c (a ∷ as') (suc k) = state_at-idle_if_ringing c as' k
 
--- a number that is not known is idle
+-- an unknown agent is idle
 pub state_at-within : (agents : List Agent) (k : ℕ) → is_idle (state_at agents k) ≡ false → k < length agents
 state_at-within [] k busy = absurd (cc)
 state_at-within (a ∷ as') zero busy = omega arith
 state_at-within (a ∷ as') (suc k) busy = let rest : k < length as' = state_at-within as' k busy in omega arith
 
--- a change that rings for the channel as before leaves as many to ring for it
+-- a change that does not affect ringing for the channel keeps the number of agents that ring for it
 pub rung-same : (n : ℕ) (s : AgentState) (agents : List Agent) (c : ℕ) → rings_for c s ≡ rings_for c (state_at agents n)
     → rung_count (with_state_at n s agents) c ≡ rung_count agents c
 rung-same n s [] c same = refl
 rung-same zero s (a ∷ as') c same = ap (λ (b : Bool). (if b then 1 else 0) + rung_count as' c) same
 rung-same (suc n) s (a ∷ as') c same = ap (λ (k : ℕ). (if rings_for c a.state then 1 else 0) + k) (rung-same n s as' c same)
 
--- an agent that comes to ring for it is one more
+-- an agent that begins to ring for it adds one
 pub rung-more : (n : ℕ) (s : AgentState) (agents : List Agent) (c : ℕ) → n < length agents → rings_for c s ≡ true
     → rings_for c (state_at agents n) ≡ false → rung_count (with_state_at n s agents) c ≡ suc (rung_count agents c)
 rung-more n s [] c within rings silent = absurd (omega (arith, within))
@@ -48,7 +48,7 @@ rung-more zero s (a ∷ as') c within rings silent =
     omega (arith, one, none)
 rung-more (suc n) s (a ∷ as') c within rings silent = omega (arith, rung-more n s as' c (omega (arith, within)) rings silent)
 
--- one that no longer rings for it is one less
+-- an agent that stops ringing for it subtracts one
 pub rung-less : (n : ℕ) (s : AgentState) (agents : List Agent) (c : ℕ) → rings_for c s ≡ false → rings_for c (state_at agents n) ≡ true
     → rung_count agents c ≡ suc (rung_count (with_state_at n s agents) c)
 rung-less n s [] c silent rings = absurd (cc)
@@ -65,14 +65,14 @@ all_freed-idle c n [] rings = refl
 all_freed-idle c zero (a ∷ as') rings = ap (λ (b : Bool). with_state (if b then Idle else a.state) a ∷ all_freed c as') (sym rings)
 all_freed-idle c (suc n) (a ∷ as') rings = ap (λ (t : List Agent). idle_if_ringing c a ∷ t) (all_freed-idle c n as' rings)
 
--- one that talks stays where the others become idle
+-- a talking agent keeps its state when the others become idle
 pub all_freed-talking : (c n k d : ℕ) (agents : List Agent)
     → all_freed c (with_state_at n (Talking k d) agents) ≡ with_state_at n (Talking k d) (all_freed c agents)
 all_freed-talking c n k d [] = refl
 all_freed-talking c zero k d (a ∷ as') = refl
 all_freed-talking c (suc n) k d (a ∷ as') = ap (λ (t : List Agent). idle_if_ringing c a ∷ t) (all_freed-talking c n k d as')
 
--- where none rings for the channel, none becomes idle
+-- if none rings for the channel, none becomes idle
 pub all_freed-unrung : (c : ℕ) (agents : List Agent) → rung_count agents c ≡ 0 → all_freed c agents ≡ agents
 all_freed-unrung c [] none = refl
 all_freed-unrung c (a ∷ as') none = by (rings_for c a.state) refl none (all_freed-unrung c as')
@@ -82,7 +82,7 @@ all_freed-unrung c (a ∷ as') none = by (rings_for c a.state) refl none (all_fr
     by true rings none rest = absurd (omega (arith, none))
     by false silent none rest = (λ i. with_state (if silent i then Idle else a.state) a ∷ rest (omega (arith, none)) i)
 
--- some agent rings for the channel exactly where one is counted
+-- some agent rings for the channel exactly if the number is not zero
 pub rung-none : (agents : List Agent) (c : ℕ) → (rung_count agents c == 0) ≡ not (is_rung agents c)
 rung-none [] c = refl
 rung-none (a ∷ as') c = by (rings_for c a.state) (rung-none as' c)

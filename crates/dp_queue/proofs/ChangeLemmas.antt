@@ -15,14 +15,14 @@ module _ {X : Type 0} where
   length-changed_at change zero (x ∷ xs) = refl
   length-changed_at change (suc place) (x ∷ xs) = ap suc (length-changed_at change place xs)
 
-  -- what stands at the place after a change
+  -- the element at the place after a change
   pub slice_get-changed_same : (change : X → X) (place : ℕ) (xs : List X)
       → slice_get (changed_at change place xs) place ≡ option_map change (slice_get xs place)
   slice_get-changed_same change place [] = refl
   slice_get-changed_same change zero (x ∷ xs) = refl
   slice_get-changed_same change (suc place) (x ∷ xs) = slice_get-changed_same change place xs
 
-  -- what stands at another place
+  -- the element at another place
   pub slice_get-changed_other : (change : X → X) (place k : ℕ) (xs : List X) → (k ≡ place → ⊥)
       → slice_get (changed_at change place xs) k ≡ slice_get xs k
   slice_get-changed_other change place k [] other = refl
@@ -32,14 +32,14 @@ module _ {X : Type 0} where
   slice_get-changed_other change (suc place) (suc k) (x ∷ xs) other =
       slice_get-changed_other change place k xs (λ same. other (ap suc same))
 
-  -- two changes that do the same at the place
+  -- two changes that agree on the element at the place
   pub changed_at-same : (f g : X → X) (place : ℕ) (xs : List X) (x : X) → slice_get xs place ≡ Some x → f x ≡ g x → changed_at f place xs ≡ changed_at g place xs
   changed_at-same f g place [] x here same = refl
   changed_at-same f g zero (y ∷ xs) x here same =
       let is : y ≡ x = same_Some y x here in ap (λ (t : X). t ∷ xs) (ap f is ∙ same ∙ sym (ap g is))
   changed_at-same f g (suc place) (y ∷ xs) x here same = ap (λ (t : List X). y ∷ t) (changed_at-same f g place xs x here same)
 
-  -- what holds of each element holds of each after a change of one that keeps it
+  -- what holds of each element still holds after a change of one that keeps it
   pub all-changed_at : (P : X → Type 0) (change : X → X) (place : ℕ) (xs : List X)
       → ((x : X) → slice_get xs place ≡ Some x → P x → P (change x)) → All P xs → All P (changed_at change place xs)
   all-changed_at P change place [] keeps each = each
@@ -54,7 +54,7 @@ module _ {X : Type 0} where
   all-at P (y ∷ ys) zero x here each = subst P (same_Some y x here) (All-head P y ys each)
   all-at P (y ∷ ys) (suc place) x here each = all-at P ys place x here (All-tail P y ys each)
 
-  -- the element at its first place is the one that is left out
+  -- the element at the first place is the one that is left out
   pub remove-first : (p : X → Bool) (xs : List X) → position_or_len p xs < length xs → remove xs (position_or_len p xs) ≡ without p xs
   remove-first p [] within = absurd (omega (arith, within))
   remove-first p (x ∷ xs) within = by (p x) (remove-first p xs) within
@@ -68,7 +68,7 @@ module _ {X : Type 0} where
           let one : 1 + position_or_len p xs ≡ suc (position_or_len p xs) = omega arith in
           ap (λ n. take n (x ∷ xs) ++ drop (suc n) (x ∷ xs)) one ∙ ap (λ (t : List X). x ∷ t) (rest (omega (arith, within)))
 
-  -- with no such element nothing is left out
+  -- without such an element nothing is left out
   pub without-none : (p : X → Bool) (xs : List X) → length xs ≤ position_or_len p xs → without p xs ≡ xs
   without-none p [] past = refl
   without-none p (x ∷ xs) past = by (p x) (without-none p xs) past
@@ -78,13 +78,13 @@ module _ {X : Type 0} where
       by true rest past = absurd (omega (arith, past))
       by false rest past = ap (λ (t : List X). x ∷ t) (rest (omega (arith, past)))
 
-  -- the same by the place that was found
+  -- the same, given the place that was found
   pub remove-at_position : (p : X → Bool) (xs : List X) (place : ℕ) → Some place ≡ position p xs → remove xs place ≡ without p xs
   remove-at_position p xs place found =
       let parts : (nat_lt (position_or_len p xs) (length xs) ≡ true) × (position_or_len p xs ≡ place) = cond_some (nat_lt (position_or_len p xs) (length xs)) (position_or_len p xs) place (sym found) in
       ap (remove xs) (sym parts.1) ∙ remove-first p xs (ltb-true _ _ parts.0)
 
-  -- and where none was found
+  -- the same if none was found
   pub without-no_position : (p : X → Bool) (xs : List X) → None ≡ position p xs → without p xs ≡ xs
   without-no_position p xs absent =
       without-none p xs (ltb-false (position_or_len p xs) (length xs) (cond_none _ _ (sym absent)))
@@ -93,12 +93,12 @@ module _ {X : Type 0} where
       cond_none true n e = absurd (cc)
       cond_none false n e = refl
 
--- a fact of what is there, where something is
+-- a fact about a value, if there is one
 pub OnSome-some : {T P : Type 0} (o : Option T) → IsSome o → OnSome o P → P
 OnSome-some None some p = absurd (cc)
 OnSome-some (Some x) some p = p
 
--- what follows from a fact of the one outcome
+-- a consequence of a fact about one outcome
 pub on_ok : {T E P Q : Type 0} (r : Result T E) → (P → Q) → OnOk r P → OnOk r Q
 on_ok (Ok x) f p = f p
 on_ok (Err e) f p = tt

@@ -1,4 +1,4 @@
--- The agent that talks with a channel is found by the channel's seat.
+-- The agent that talks with a channel is found from the channel's seat.
 use Rattle.std.proofs.Common.{◌≡◌, ℕ, zero, suc, ◌==◌, Bool, true, false, List, [], ◌∷◌, Option, Some, None, refl, ap, ◌∙◌, arith, if◌then◌else◌}
 use Rattle.std.specs.List.{position}
 use Rattle.std.specs.Option.{option_map}
@@ -10,12 +10,12 @@ use Rattle.dp_queue.proofs.GoodLemmas.{by_test}
 use Rattle.dp_queue.proofs.PlacesLemmas.{position-cons}
 use borrow.Author.Tests.{eqb-true}
 
--- no channel talks that did not, and the seats are as before
+-- no new channel talks, and the seats are as before
 pub found-same : (seats new : SeatsOf) (as' bs : List Agent) → ((d : ℕ) → talk_at new d ≡ talk_at seats d)
     → ((a d : ℕ) → talks_with d (state_at bs a) ≡ true → talks_with d (state_at as' a) ≡ true) → AreFound seats as' → AreFound new bs
 found-same seats new as' bs kept before found a d talks = kept d ∙ found a d (before a d talks)
 
--- the same but for one channel
+-- the same except for one channel
 pub found-replaced : (seats new : SeatsOf) (as' bs : List Agent) (c : ℕ) (o : Option ℕ) → ReplacesTalk c o seats new
     → ((a : ℕ) → talks_with c (state_at bs a) ≡ true → o ≡ Some a)
     → ((a d : ℕ) → (c == d) ≡ false → talks_with d (state_at bs a) ≡ true → talks_with d (state_at as' a) ≡ true) → AreFound seats as' → AreFound new bs
@@ -24,7 +24,7 @@ found-replaced seats new as' bs c o put here before found a d talks = by_test (c
     ∙ here a (ap (λ x. talks_with x (state_at bs a)) (eqb-true c d same) ∙ talks))
     (λ (other : (c == d) ≡ false). put d ∙ ap (λ (b : Bool). if b then o else talk_at seats d) other ∙ found a d (before a d other talks))
 
--- an agent that comes into a state in which it does not talk with a channel
+-- an agent enters a state in which it does not talk with a channel
 pub talks-before : (n : ℕ) (s : AgentState) (agents : List Agent) (d b : ℕ) → talks_with d s ≡ false
     → talks_with d (state_at (with_state_at n s agents) b) ≡ true → talks_with d (state_at agents b) ≡ true
 talks-before n s [] d b silent talks = talks
@@ -33,7 +33,7 @@ talks-before zero s (a ∷ as') d (suc b) silent talks = talks
 talks-before (suc n) s (a ∷ as') d zero silent talks = talks
 talks-before (suc n) s (a ∷ as') d (suc b) silent talks = talks-before n s as' d b silent talks
 
--- the one agent that talks with a channel is the first
+-- the only agent that talks with a channel is the first
 pub position-talks : (agents : List Agent) (c a : ℕ) → talks_with c (state_at agents a) ≡ true
     → ((b : ℕ) → talks_with c (state_at agents b) ≡ true → b ≡ a) → position (λ agent. talks_with c agent.state) agents ≡ Some a
 position-talks [] c a talks only = absurd (cc)
@@ -49,7 +49,7 @@ position-talks (x ∷ xs) c (suc a) talks only =
     by true first rest = absurd (omega (arith, first refl))
     by false first rest = ap (option_map suc) rest
 
--- and none is where none talks with it
+-- and there is none if no agent talks with it
 pub position-silent : (agents : List Agent) (c : ℕ) → ((b : ℕ) → talks_with c (state_at agents b) ≡ true → ⊥)
     → position (λ agent. talks_with c agent.state) agents ≡ None
 position-silent [] c silent = refl

@@ -16,12 +16,12 @@ use Rattle.dp_queue.proofs.MemberLemmas.{keeps-same, members-changed, members-id
 use Rattle.dp_queue.proofs.WaitingLemmas.{waits_in-joined, times-joined, times-none, waits_in-left, times-left, waits_in-same, times-same, lines}
 use borrow.Author.Tests.{eqb-true, eq-eqb}
 
--- cases of a test, with what it says
+-- the cases of a test, each with its outcome
 pub by_test : {P : Type 0} (b : Bool) → (b ≡ true → P) → (b ≡ false → P) → P
 by_test true first second = first refl
 by_test false first second = second refl
 
--- numbers that differ, the other way round
+-- different numbers, in the other order
 pub other_way : (a b : ℕ) → (a == b) ≡ false → (b == a) ≡ false
 other_way a b other = by_test (b == a)
     (λ (same : (b == a) ≡ true). let is : b ≡ a = eqb-true b a same in
@@ -35,7 +35,7 @@ other_way a b other = by_test (b == a)
     true_is_false : true ≡ false → ⊥
     true_is_false e = cc
 
--- an agent that is right talks with no channel that waits
+-- an agent that is right does not talk with a waiting channel
 pub right-untalked : (qs : List QueueOf) (c k : ℕ) (s : AgentState) → waits_in qs c ≡ Some k → IsRight qs s → talks_with c s ≡ false
 right-untalked qs c k Idle waits right = refl
 right-untalked qs c k (Ringing j d) waits right = refl
@@ -43,7 +43,7 @@ right-untalked qs c k (Talking j d) waits right = by_test (d == c)
     (λ (same : (d == c) ≡ true). absurd (none-some k (sym right.0 ∙ ap (waits_in qs) (eqb-true d c same) ∙ waits)))
     (λ (e : (d == c) ≡ false). e)
 
--- and rings for none that waits nowhere
+-- and does not ring for one that waits nowhere
 pub right-unrung : (qs : List QueueOf) (c : ℕ) (s : AgentState) → waits_in qs c ≡ None → IsRight qs s → rings_for c s ≡ false
 right-unrung qs c Idle waits right = refl
 right-unrung qs c (Ringing j d) waits right = by_test (d == c)
@@ -51,7 +51,7 @@ right-unrung qs c (Ringing j d) waits right = by_test (d == c)
     (λ (e : (d == c) ≡ false). e)
 right-unrung qs c (Talking j d) waits right = refl
 
--- an agent that has nothing to do with the one channel that changed its place is as right as before
+-- an agent that is not concerned with the one channel that changed its place stays right
 pub right-but : (qs ps : List QueueOf) (c : ℕ) (o : Option ℕ) (s : AgentState) → length ps ≡ length qs
     → ((d : ℕ) → waits_in ps d ≡ (if c == d then o else waits_in qs d)) → rings_for c s ≡ false → talks_with c s ≡ false
     → IsRight qs s → IsRight ps s
@@ -61,14 +61,14 @@ right-but qs ps c o (Ringing k d) same waits unrung untalked right =
 right-but qs ps c o (Talking k d) same waits unrung untalked right =
     (waits d ∙ ap (λ (b : Bool). if b then o else waits_in qs d) (other_way d c untalked) ∙ right.0, omega (arith, same, right.1))
 
--- an agent is as right as before where the channels wait as before
+-- an agent stays right if the channels wait as before
 pub right-same : (qs ps : List QueueOf) (s : AgentState) → length ps ≡ length qs → ((d : ℕ) → waits_in ps d ≡ waits_in qs d)
     → IsRight qs s → IsRight ps s
 right-same qs ps Idle same waits right = tt
 right-same qs ps (Ringing k d) same waits right = waits d ∙ right
 right-same qs ps (Talking k d) same waits right = (waits d ∙ right.0, omega (arith, same, right.1))
 
--- a freed agent is right, does not ring for the channel and talks as before
+-- an agent that was made idle is right, does not ring for the channel and talks as before
 pub right-freed : (qs : List QueueOf) (c : ℕ) (s : AgentState) → IsRight qs s → IsRight qs (freed_state c s)
 right-freed qs c Idle right = tt
 right-freed qs c (Ringing k d) right = by (d == c)
@@ -94,7 +94,7 @@ talks_with-freed c d (Ringing k e) = by (e == c)
     by false = refl
 talks_with-freed c d (Talking k e) = refl
 
--- for another channel a freed agent rings as before
+-- for another channel it rings as before
 pub rings_for-freed_other : (c d : ℕ) (s : AgentState) → (c == d) ≡ false → rings_for d (freed_state c s) ≡ rings_for d s
 rings_for-freed_other c d Idle other = refl
 rings_for-freed_other c d (Ringing k e) other = by_test (e == c)
@@ -106,14 +106,14 @@ pub rung-freed : (c d : ℕ) (as' : List Agent) → (c == d) ≡ false → rung_
 rung-freed c d [] other = refl
 rung-freed c d (a ∷ as') other = (λ i. (if rings_for-freed_other c d a.state other i then 1 else 0) + rung-freed c d as' other i)
 
--- where no agent of a number rings for the channel, none is counted
+-- if no agent rings for the channel the number is zero
 pub rung-nobody : (as' : List Agent) (c : ℕ) → ((a : ℕ) → rings_for c (state_at as' a) ≡ false) → rung_count as' c ≡ 0
 rung-nobody [] c none = refl
 rung-nobody (a ∷ as') c none =
     let here : ◌≡◌ {A = ℕ} (if rings_for c a.state then 1 else 0) 0 = ap (λ (b : Bool). if b then 1 else 0) (none 0) in
     omega (arith, here, rung-nobody as' c (λ b. none (suc b)))
 
--- where none talks with it, no agent of a number does
+-- if none talks with it, no agent with a number does
 pub is_talking-none : (as' : List Agent) (c : ℕ) → is_talking as' c ≡ false → (a : ℕ) → talks_with c (state_at as' a) ≡ false
 is_talking-none [] c none a = refl
 is_talking-none (x ∷ as') c none zero = by (talks_with c x.state) none
@@ -152,7 +152,7 @@ module _ (qs : List QueueOf) (as' : List Agent) (good : AreLinked qs as') where
           times-joined qs c k d within ∙ ap (λ (b : Bool). times_waiting qs d + (if b then 1 else 0)) other in
           omega (arith, good.waits_once d, more)
 
-  -- a channel leaves the queue in which it waits
+  -- a channel leaves the queue where it waits
   pub linked-left : (c k : ℕ) → waits_in qs c ≡ Some k → AreLinked (changed_at (without_caller c) k qs) (all_freed c as')
   linked-left c k waits = record {
     waits_once = λ d. omega (arith, times-left qs c k d, good.waits_once d);
@@ -171,7 +171,7 @@ module _ (qs : List QueueOf) (as' : List Agent) (good : AreLinked qs as') where
       as_before : (d a : ℕ) → talks_with d (state_at (all_freed c as') a) ≡ true → talks_with d (state_at as' a) ≡ true
       as_before d a talks = sym (talks_with-freed c d (state_at as' a)) ∙ ap (talks_with d) (sym (state_at-idle_if_ringing c as' a)) ∙ talks
 
-  -- an agent comes into a state that is right
+  -- an agent enters a state that is right
   pub linked-set : (a : ℕ) (s : AgentState) → a < length as' → IsRight qs s
       → ((c : ℕ) → talks_with c s ≡ true → (b : ℕ) → talks_with c (state_at as' b) ≡ false) → AreLinked qs (with_state_at a s as')
   linked-set a s within right alone = record {
@@ -219,7 +219,7 @@ module _ (qs : List QueueOf) (as' : List Agent) (good : AreLinked qs as') where
     members = members;
   }
 
-  -- the waiting lists are as before, and the agents do what they did
+  -- the waiting lists are as before, and each agent is in its old state
   pub linked-mapped : (ps : List QueueOf) (bs : List Agent) → length ps ≡ length qs → lines ps ≡ lines qs
       → ((a : ℕ) → state_at bs a ≡ state_at as' a) → AreMembers ps bs → AreLinked ps bs
   linked-mapped ps bs same_length kept same members = record {
@@ -231,15 +231,15 @@ module _ (qs : List QueueOf) (as' : List Agent) (good : AreLinked qs as') where
     talks_once = λ a b c first second. good.talks_once a b c (ap (talks_with c) (sym (same a)) ∙ first) (ap (talks_with c) (sym (same b)) ∙ second);
   }
 
--- an agent that is busy is known
+-- a busy agent is known
 pub busy-within : (as' : List Agent) (a : ℕ) (s : AgentState) → state_at as' a ≡ s → is_idle s ≡ false → a < length as'
 busy-within as' a s is busy = state_at-within as' a (ap is_idle is ∙ busy)
 
--- the channel of an agent that rings waits
+-- the channel for which an agent rings waits
 pub ringing-waits : (qs : List QueueOf) (as' : List Agent) (a k c : ℕ) → AreLinked qs as' → state_at as' a ≡ Ringing k c → waits_in qs c ≡ Some k
 ringing-waits qs as' a k c good is = let P : AgentState → Type 0 = λ s. IsRight qs s in let right : IsRight qs (Ringing k c) = subst P is (good.rings_right a) in right
 
--- that of one that talks does not
+-- the channel with which an agent talks does not
 pub talking-right : (qs : List QueueOf) (as' : List Agent) (a k c : ℕ) → AreLinked qs as' → state_at as' a ≡ Talking k c
     → (waits_in qs c ≡ None) × (k < length qs)
 talking-right qs as' a k c good is = let P : AgentState → Type 0 = λ s. IsRight qs s in let right : IsRight qs (Talking k c) = subst P is (good.rings_right a) in right

@@ -1,4 +1,4 @@
--- The members of a queue by their agents: what stands at a place, and changes of one member.
+-- The members of a queue, given their agents: the member at a place, and changes of one member.
 use Rattle.std.proofs.Common.{◌≡◌, ◌≢◌, ℕ, zero, suc, ◌<◌, ◌==◌, ◌||◌, Bool, true, false, List, [], ◌∷◌, ◌++◌, map, Option, Some, None, refl, sym, length, get_or, ap, ◌∙◌, arith, if◌then◌else◌, slice_get, subst, nat_eq}
 use Rattle.std.proofs.lemmas.List.{get_or-map, length-map}
 use Rattle.std.proofs.lemmas.List.Elements.{All-head, All-tail}
@@ -19,7 +19,7 @@ use Rattle.dp_queue.proofs.MemberLemmas.{agents-apart, pairs-head, pairs-tail, p
 use Rattle.dp_queue.proofs.PlacesLemmas.{position-cons}
 use borrow.Author.Tests.{eqb-true}
 
--- agents that differ from one are not it
+-- different agents are not this one
 others-fail : (a : ℕ) (m : Member) (ms : List Member) → m.agent ≡ a → StandOnce (m ∷ ms) → list_any (is_agent a) ms ≡ false
 others-fail a m ms is once = none ms (pairs-head (λ (x : Member) (y : Member). x.agent ≢ y.agent) m ms once)
   where
@@ -31,7 +31,7 @@ others-fail a m ms is once = none ms (pairs-head (λ (x : Member) (y : Member). 
         by true same = absurd (All-head (λ (y : Member). m.agent ≢ y.agent) x xs apart (is ∙ sym (eqb-true x.agent a same)))
         by false other = refl
 
--- no member that passes stands nowhere
+-- a list without a passing member has no place
 pub position-any : (p : Member → Bool) (ms : List Member) → list_any p ms ≡ false → position p ms ≡ None
 position-any p [] none = refl
 position-any p (m ∷ ms) none = position-cons p m ms ∙ by (p m) none (position-any p ms)
@@ -40,7 +40,7 @@ position-any p (m ∷ ms) none = position-cons p m ms ∙ by (p m) none (positio
     by true none rest = absurd (cc)
     by false none rest = ap (option_map suc) (rest none)
 
--- the parts of what is said of a first member and of the others
+-- the cases of a first member and of the others
 later_place : (b : Bool) (o : Option ℕ) (k : ℕ) → (if b then Some 0 else option_map suc o) ≡ Some (suc k) → (b ≡ false) × (o ≡ Some k)
 later_place true o k e = absurd (omega (arith, same_Some 0 (suc k) e))
 later_place false None k e = absurd (cc)
@@ -51,7 +51,7 @@ first_place true o e = refl
 first_place false None e = absurd (cc)
 first_place false (Some j) e = absurd (omega (arith, same_Some (suc j) 0 e))
 
--- the member at its place is found there
+-- the member at its place is found
 pub find-position : (p : Member → Bool) (ms : List Member) (k : ℕ) → position p ms ≡ Some k → slice_get ms k ≡ find p ms
 find-position p [] k found = refl
 find-position p (m ∷ ms) zero found =
@@ -69,7 +69,7 @@ find-any p (m ∷ ms) none = by (p m) none (find-any p ms)
     by true none rest = absurd (cc)
     by false none rest = rest none
 
--- a place at which the agent stands is its place
+-- a place with the agent is its place
 pub position-at : (a : ℕ) (ms : List Member) (k : ℕ) → StandOnce ms → is_agent_at a ms k ≡ true → Some k ≡ position (is_agent a) ms
 position-at a [] k once here = absurd (cc)
 position-at a (m ∷ ms) zero once here = sym (position-cons (is_agent a) m ms ∙ ap (λ (b : Bool). if b then Some 0 else option_map suc (position (is_agent a) ms)) here)
@@ -82,7 +82,7 @@ position-at a (m ∷ ms) (suc k) once here =
         absurd (none-some k (sym none ∙ sym rest))
     by false other rest = ap (option_map suc) rest
 
--- a change of the one member that is the agent
+-- a change of the only member that is the agent
 module _ (f : Member → Member) (a : ℕ) (others : (m : Member) → is_agent a m ≡ false → f m ≡ m) where
   pub map-none : (ms : List Member) → list_any (is_agent a) ms ≡ false → ms ≡ map f ms
   map-none [] none = refl
@@ -103,7 +103,7 @@ module _ (f : Member → Member) (a : ℕ) (others : (m : Member) → is_agent a
       let rest : changed_at f k ms ≡ map f ms = map-only ms k (pairs-tail (λ (x : Member) (y : Member). x.agent ≢ y.agent) m ms once) parts.1 in
       (λ i. sym (others m parts.0) i ∷ rest i)
 
--- members whose records change and whose agents stay
+-- members whose records change and whose agents do not
 pub held-mapped : (f : Member → Member) → ((m : Member) → (f m).agent ≡ m.agent) → (hints : HintsOf) (ms ns : List Member) → ns ≡ map f ms
     → AreHeld hints ms → AreHeld hints ns
 held-mapped f same hints ms ns is held = subst (AreHeld hints) (sym is) (once ms held.0, λ a. held.1 a ∙ sym (any a ms))
@@ -120,7 +120,7 @@ held-mapped f same hints ms ns is held = subst (AreHeld hints) (sym is) (once ms
     any a [] = refl
     any a (m ∷ ms) = (λ i. same m i == a || any a ms i)
 
--- one more member, whose agent is none
+-- one more member, whose agent is not yet one
 pub held-push : (hints new : HintsOf) (ms ns : List Member) (m : Member) (place : ℕ) → list_any (is_agent m.agent) ms ≡ false → ns ≡ ms ++ m ∷ []
     → ((a : ℕ) → get nat_eq new a ≡ (if nat_eq m.agent a then Some place else get nat_eq hints a)) → AreHeld hints ms → AreHeld new ns
 held-push hints new ms ns m place absent is put held = subst (AreHeld new) (sym is) (
@@ -138,7 +138,7 @@ held-push hints new ms ns m place absent is put held = subst (AreHeld new) (sym 
     by a true = sym (or (list_any (is_agent a) ms) true)
     by a false = held.1 a ∙ sym (or (list_any (is_agent a) ms) false)
 
--- without a member its agent is none, and the others are what they were
+-- after a member is removed its agent is not a member, and the others are unchanged
 any-without : (a c : ℕ) (ms : List Member) → StandOnce ms → list_any (is_agent c) (without (is_agent a) ms) ≡ (if a == c then false else list_any (is_agent c) ms)
 any-without a c [] once = by (a == c)
   where
@@ -169,7 +169,7 @@ held-without hints new ms ns a is put held = subst (AreHeld new) (sym is) (
     by c true = refl
     by c false = held.1 c
 
--- where none stands, none is
+-- without a place there is no such member
 pub any-nowhere : (p : Member → Bool) (ms : List Member) → None ≡ position p ms → list_any p ms ≡ false
 any-nowhere p [] absent = refl
 any-nowhere p (m ∷ ms) absent = by (p m) (position p ms) (sym (position-cons p m ms) ∙ sym absent) (any-nowhere p ms)
@@ -179,7 +179,7 @@ any-nowhere p (m ∷ ms) absent = by (p m) (position p ms) (sym (position-cons p
     by false None e rest = rest refl
     by false (Some k) e rest = absurd (cc)
 
--- a pause and the end of a call touch the one member alone
+-- a pause and the end of a call change only the one member
 pub paused-others : (a : ℕ) (is_paused : Bool) (m : Member) → is_agent a m ≡ false → paused_member a is_paused m ≡ m
 paused-others a is_paused m other = ap (λ (b : Bool). record m { is_paused = if b then is_paused else m.is_paused }) other
 

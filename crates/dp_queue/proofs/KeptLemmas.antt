@@ -1,4 +1,4 @@
--- Waiting lists, agents and seats stay those of one another, after each change.
+-- Waiting lists, agents and seats stay consistent after each change.
 use Rattle.std.proofs.Common.{◌≡◌, ℕ, zero, suc, ◌+◌, ◌<◌, ◌==◌, Bool, true, false, List, [], ◌∷◌, ◌++◌, Option, Some, None, refl, sym, length, ap, ◌∙◌, arith, if◌then◌else◌, subst, nat_lt, IsSome}
 use Rattle.std.proofs.lemmas.List.{length-map}
 use Rattle.std.proofs.lemmas.Option.{same_Some, none-some}
@@ -22,7 +22,7 @@ use Rattle.dp_queue.proofs.MemberLemmas.{members-set, members-added}
 use Rattle.dp_queue.proofs.WaitingLemmas.{waits_in-joined, waits_in-left, waits_in-within, waits_in-same, lines, lines-changed_at}
 use borrow.Author.Tests.{eqb-true, eq-eqb}
 
--- the seat of one channel is put in its place, and those of the others stay right
+-- the seat of one channel is replaced, and those of the others stay right
 pub seated-replaced : (seats new : SeatsOf) (qs ps : List QueueOf) (as' bs : List Agent) (c : ℕ) (s : Option WaitingSeat)
     → AreSeated seats qs as' → ReplacesSeat c s seats new → s ≡ option_map (seat_in bs c) (waits_in ps c)
     → ((d : ℕ) → (c == d) ≡ false → waits_in ps d ≡ waits_in qs d)
@@ -44,18 +44,18 @@ pub seated-same : (seats new : SeatsOf) (qs ps : List QueueOf) (as' bs : List Ag
 seated-same seats new qs ps as' bs seated kept waits rung d =
     kept d ∙ seated d ∙ (λ i. option_map (λ k. record { queue = k; rung = sym (rung d) i }) (sym (waits d) i))
 
--- the waiting lists and the agents are linked, and the seats are theirs
+-- the waiting lists and the agents are linked, and the seats belong to them
 abbrev pub AreKept : SeatsOf → List QueueOf → List Agent → Type 0
 AreKept seats qs as' = AreLinked qs as' × AreSeated seats qs as' × AreFound seats as'
 
--- the same of equal lists
+-- the same for equal lists
 pub kept-at : (seats : SeatsOf) (qs ps : List QueueOf) (as' bs : List Agent) → ps ≡ qs → bs ≡ as' → AreKept seats qs as' → AreKept seats ps bs
 kept-at seats qs ps as' bs same_queues same_agents kept =
     let P : List QueueOf → Type 0 = λ x. AreKept seats x bs in
     let Q : List Agent → Type 0 = λ x. AreKept seats qs x in
     subst P (sym same_queues) (subst Q (sym same_agents) kept)
 
--- a channel that has a seat waits in its queue
+-- a channel with a seat waits in its queue
 pub seated-waits : (seats : SeatsOf) (qs : List QueueOf) (as' : List Agent) (c : ℕ) (s : WaitingSeat) → AreSeated seats qs as'
     → seat_at seats c ≡ Some s → waits_in qs c ≡ Some s.queue
 seated-waits seats qs as' c s seated here = by (waits_in qs c) (sym (seated c) ∙ here)
@@ -64,7 +64,7 @@ seated-waits seats qs as' c s seated here = by (waits_in qs c) (sym (seated c) �
     by None e = absurd (none-some s e)
     by (Some k) e = ap (λ (t : WaitingSeat). Some t.queue) (same_Some (seat_in as' c k) s e)
 
--- the seat says how many agents ring for it
+-- the seat has the number of agents that ring for it
 pub seated-rung : (seats : SeatsOf) (qs : List QueueOf) (as' : List Agent) (c : ℕ) (s : WaitingSeat) → AreSeated seats qs as'
     → seat_at seats c ≡ Some s → s.rung ≡ rung_count as' c
 seated-rung seats qs as' c s seated here = by (waits_in qs c) (sym (seated c) ∙ here)
@@ -73,7 +73,7 @@ seated-rung seats qs as' c s seated here = by (waits_in qs c) (sym (seated c) �
     by None e = absurd (none-some s e)
     by (Some k) e = ap (λ (t : WaitingSeat). t.rung) (sym (same_Some (seat_in as' c k) s e))
 
--- one that waits has a seat
+-- a waiting channel has a seat
 pub seated-some : (seats : SeatsOf) (qs : List QueueOf) (as' : List Agent) (c k : ℕ) → AreSeated seats qs as'
     → waits_in qs c ≡ Some k → IsSome (seat_at seats c)
 seated-some seats qs as' c k seated waits =
@@ -114,12 +114,12 @@ module _ (seats new : SeatsOf) (qs ps : List QueueOf) (as' : List Agent) (kept :
       here = (λ i. Some (record { queue = k; rung = sym unrung i }))
           ∙ ap (option_map (seat_in as' c)) (sym (waits_in-joined qs c k c within nowhere ∙ same_waits (c == c) (Some k) (waits_in qs c) (self_eq c)))
 
-  -- what each agent did before a channel left
+  -- the state of each agent before a channel left
   talks-left : (c d : ℕ) (bs : List Agent) (a : ℕ) → bs ≡ all_freed c as' → talks_with d (state_at bs a) ≡ true → talks_with d (state_at as' a) ≡ true
   talks-left c d bs a freed talks =
       sym (talks_with-freed c d (state_at as' a)) ∙ ap (talks_with d) (sym (state_at-idle_if_ringing c as' a)) ∙ ap (λ x. talks_with d (state_at x a)) (sym freed) ∙ talks
 
-  -- no agent talks with a channel that waits
+  -- no agent talks with a waiting channel
   untalked : (c k a : ℕ) → waits_in qs c ≡ Some k → talks_with c (state_at as' a) ≡ true → ⊥
   untalked c k a waits talks = let none : talks_with c (state_at as' a) ≡ false = right-untalked qs c k (state_at as' a) waits (kept.0.rings_right a) in cc
 
@@ -150,7 +150,7 @@ module _ (seats new : SeatsOf) (qs ps : List QueueOf) (as' : List Agent) (kept :
         (λ a d other talks. talks-left c d bs a freed talks) kept.2,
   )
 
-  -- the waiting lists stay
+  -- the waiting lists do not change
   pub kept-same : length ps ≡ length qs → lines ps ≡ lines qs → AreMembers ps as' → AreKept seats ps as'
   kept-same same kept_lines members = (
     linked-same qs as' kept.0 ps same kept_lines members,
@@ -158,13 +158,13 @@ module _ (seats new : SeatsOf) (qs ps : List QueueOf) (as' : List Agent) (kept :
     kept.2,
   )
 
--- its seat says how many agents ring for it
+-- the seat has the number of agents that ring for the channel
 pub ringing-rung : (seats : SeatsOf) (qs : List QueueOf) (as' : List Agent) (a k c : ℕ) → AreKept seats qs as' → state_at as' a ≡ Ringing k c
     → rung_at seats c ≡ rung_count as' c
 ringing-rung seats qs as' a k c kept is =
     ap (λ (o : Option WaitingSeat). unwrap_or (option_map (λ seat. seat.rung) o) 0) (kept.1 c ∙ ap (option_map (seat_in as' c)) (ringing-waits qs as' a k c kept.0 is))
 
--- where it rings no longer, they are one less
+-- if an agent stops ringing, the number is one less
 pub ringing-less : (seats : SeatsOf) (qs : List QueueOf) (as' : List Agent) (a k c rung : ℕ) (s : AgentState) → AreKept seats qs as'
     → state_at as' a ≡ Ringing k c → rung ≡ rung_at seats c → rings_for c s ≡ false → rung ≡ suc (rung_count (with_state_at a s as') c)
 ringing-less seats qs as' a k c rung s kept is counted silent =
@@ -262,7 +262,7 @@ kept-ended seats new qs ps as' bs a c k kept is idle same kept_lines members put
         let silent : talks_with c (state_at (with_state_at a Idle as') b) ≡ false =
         ap (λ n. talks_with c (state_at (with_state_at a Idle as') n)) one ∙ ap (talks_with c) (state_at-same a Idle as' within) in cc
 
--- a new agent is idle, as one that is not known
+-- a new agent is idle, just like an unknown one
 state_at-new : (name : List ℕ) (xs : List Agent) (a : ℕ) → state_at (xs ++ record { name = name; state = Idle } ∷ []) a ≡ state_at xs a
 state_at-new name [] zero = refl
 state_at-new name [] (suc a) = refl
@@ -273,7 +273,7 @@ rung-new : (name : List ℕ) (xs : List Agent) (d : ℕ) → rung_count (xs ++ r
 rung-new name [] d = refl
 rung-new name (x ∷ xs) d = ap (λ (n : ℕ). (if rings_for d x.state then 1 else 0) + n) (rung-new name xs d)
 
--- what agents do stays where one comes to be known
+-- the states of agents do not change when an agent becomes known
 state_at-known : (name : List ℕ) (xs : List Agent) (a : ℕ) → state_at (with_agent xs name) a ≡ state_at xs a
 state_at-known name xs a = by (nat_lt (agent_number xs name) (length xs))
   where
@@ -288,7 +288,7 @@ rung-known name xs d = by (nat_lt (agent_number xs name) (length xs))
     by true = refl
     by false = rung-new name xs d
 
--- an agent that is no member of a queue becomes its last one
+-- an agent that is not a member of a queue becomes its last one
 pub kept-added : (seats : SeatsOf) (qs ps : List QueueOf) (as' bs : List Agent) (number : ℕ) (name : List ℕ) (penalty : ℕ)
     (is_dynamic : Bool) → AreKept seats qs as' → is_member_at qs number (agent_number as' name) ≡ false
     → ps ≡ changed_at (with_member (new_member (agent_number as' name) penalty is_dynamic)) number qs → bs ≡ with_agent as' name

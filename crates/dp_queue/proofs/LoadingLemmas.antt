@@ -1,4 +1,4 @@
--- What the lines of a text make, one after another, is what the text makes.
+-- The result of the lines of a text, one after another, is that of the text.
 use Rattle.std.proofs.Common.{◌≡◌, ℕ, List, [], ◌∷◌, fold, Result, Ok, Err, refl, ap, ◌∙◌, sym}
 use Rattle.dp_conf.specs.Answers.{Refuses, ◌>>=◌}
 use Rattle.dp_conf.specs.Lines.{LineOf, LineFault, lines_of, line_fault}
@@ -17,14 +17,14 @@ use Rattle.dp_queue.proofs.RestLemmas.{made-at_rest}
 abbrev State : Type 0
 State = Result FileOf QueueFault
 
--- a fault that is kept aside stays
+-- a kept fault stays
 after_each : (state : State) (lines : List LineOf) → fold after_one state lines ≡ (state >>= λ file. after_lines file lines)
 after_each (Ok file) [] = refl
 after_each (Err fault) [] = refl
 after_each (Ok file) (line ∷ lines) = after_each (after_line file line) lines
 after_each (Err fault) (line ∷ lines) = after_each (Err fault) lines
 
--- where all lines were taken, the text makes what they made
+-- if all lines were taken the text has their result
 pub file_of-taken : (text : List ℕ) (before state : State) → before ≡ Ok unread → all_taken after_one before (lines_of text) ≡ Ok state → file_of text ≡ state
 unfolding file_of
 file_of-taken text before state new e = by (lines_of text) (sym (ap (λ (s : State). all_taken after_one s (lines_of text)) new) ∙ e)
@@ -35,7 +35,7 @@ file_of-taken text before state new e = by (lines_of text) (sym (ap (λ (s : Sta
         sym (after_each (Ok unread) lines) ∙ same
     by (Err fault) e = absurd cc
 
--- where a line of the text is refused, so is the text
+-- if a line of the text is refused, so is the text
 pub Refuses-text : (text : List ℕ) (before : State) (conf : ConfFault) → Refuses (line_fault conf) (all_taken after_one before (lines_of text)) → Refuses (reason_of (fault_of_conf conf)) (file_of text)
 unfolding file_of
 Refuses-text text before (At line kind) refused =
@@ -43,7 +43,7 @@ Refuses-text text before (At line kind) refused =
     (all_taken-refused after_one before (lines_of text) (record { line = line; kind = kind }) refused)
 Refuses-text text before conf_no_memory refused = tt
 
--- what a text makes is at rest
+-- the result of a text is at rest
 pub file_of-at_rest : (text : List ℕ) (file : FileOf) → file_of text ≡ Ok file → IsAtRest file.made
 unfolding file_of
 file_of-at_rest text file e = by (lines_of text) e
@@ -52,11 +52,11 @@ file_of-at_rest text file e = by (lines_of text) e
     by (Ok lines) e = made-at_rest lines file e
     by (Err fault) e = absurd cc
 
--- the queues of what was made
+-- the queues in a result
 abbrev pub made_of : State → Result QueuesOf QueueFault
 made_of state = state >>= λ file. Ok file.made
 
--- the queues of a text are those that it makes
+-- the queues of a text are those in its result
 pub queues_in-file_of : (text : List ℕ) → made_of (file_of text) ≡ queues_in text
 unfolding file_of queues_in
 queues_in-file_of text = by (lines_of text)

@@ -1,4 +1,4 @@
--- The members of queues stay agents, each at most once in a queue, and no two agents come to have one name.
+-- The members of queues stay agents, each at most once in a queue, and no two agents get the same name.
 use Rattle.std.proofs.Common.{◌≡◌, ◌≢◌, ℕ, zero, suc, ◌+◌, ◌<◌, ◌≤◌, nat_lt, Bool, true, false, not, ◌&&◌, ◌||◌, List, [], ◌∷◌, ◌++◌, map, Some, None, refl, sym, length, get_or, ap, ◌∙◌, arith, if◌then◌else◌, subst, slice_get}
 use Rattle.std.proofs.lemmas.List.{get_or-map, length-map, length_push}
 use Rattle.std.proofs.lemmas.List.Elements.{All-nil, All-cons, All-head, All-tail, All-push, All-map, All-weaker}
@@ -22,24 +22,24 @@ use Rattle.dp_queue.specs.declared.member.Member.{Member}
 use Rattle.dp_queue.proofs.ChangeLemmas.{all-changed_at, length-changed_at}
 use borrow.Author.Tests.{eq-eqb, ltb-true, ltb-false}
 
--- what a change keeps of the members of a queue
+-- what a change keeps for the members of a queue
 pub record KeepsMembers (change : QueueOf → QueueOf) : Type 0 where
   pub known : (count : ℕ) (q : QueueOf) → AreKnown count q.members → AreKnown count (change q).members
   pub once : (q : QueueOf) → StandOnce q.members → StandOnce (change q).members
 
--- a change that leaves the members as they are
+-- a change that does not change the members
 pub keeps-same : (change : QueueOf → QueueOf) → ((q : QueueOf) → (change q).members ≡ q.members) → KeepsMembers change
 keeps-same change same = record {
   known = λ count q known. subst (AreKnown count) (sym (same q)) known;
   once = λ q once. subst StandOnce (sym (same q)) once;
 }
 
--- a member whose record changes is the agent that it was
+-- a member whose record changes stays the same agent
 agent-mapped : (f : Member → Member) → ((m : Member) → (f m).agent ≡ m.agent) → (ms : List Member) (k : ℕ) (d : Member) → k < length ms
     → (get_or (map f ms) k d).agent ≡ (get_or ms k d).agent
 agent-mapped f same ms k d within = ap (λ (m : Member). m.agent) (get_or-map f ms k d d within) ∙ same (get_or ms k d)
 
--- a change of the members' records that leaves each the agent that it is
+-- a change of the members' records that keeps the agent of each
 pub keeps-mapped : (f : Member → Member) → ((m : Member) → (f m).agent ≡ m.agent) → (change : QueueOf → QueueOf)
     → ((q : QueueOf) → (change q).members ≡ map f q.members) → KeepsMembers change
 keeps-mapped f same change is = record {
@@ -57,7 +57,7 @@ keeps-mapped f same change is = record {
         let inside : k < length ms = omega (arith, within, length-map ms f) in
         once j k d before inside (sym (agent-mapped f same ms j d (omega (arith, before, inside))) ∙ both ∙ agent-mapped f same ms k d inside)
 
--- a member is paused, or its pause ends
+-- a member is paused or unpaused
 pub keeps-paused : (a : ℕ) (is_paused : Bool) → KeepsMembers (paused_queue a is_paused)
 keeps-paused a is_paused = keeps-mapped (paused_member a is_paused) (λ m. refl) (paused_queue a is_paused) (λ q. refl)
 
@@ -72,7 +72,7 @@ keeps-finished a count = keeps-mapped (finished_member a count) same (finished_q
         by true = refl
         by false = refl
 
--- what holds of each element holds of those that are left
+-- what holds of each element holds of the remaining ones
 all-without : {X : Type 0} (P : X → Type 0) (p : X → Bool) (xs : List X) → All P xs → All P (without p xs)
 all-without P p [] each = each
 all-without P p (x ∷ xs) each = by (p x) (all-without P p xs (All-tail P x xs each))
@@ -81,7 +81,7 @@ all-without P p (x ∷ xs) each = by (p x) (all-without P p xs (All-tail P x xs 
     by true rest = All-tail P x xs each
     by false rest = All-cons P x (without p xs) (All-head P x xs each) rest
 
--- the first of a list against the others, and the others among themselves
+-- the first of a list compared with the others, and the others with each other
 pub pairs-head : {X : Type 0} (R : X → X → Type 0) (x : X) (xs : List X) → AllPairs R (x ∷ xs) → All (R x) xs
 pairs-head R x xs pairs k d within = pairs 0 (suc k) d (omega arith) (omega (arith, within))
 
@@ -96,7 +96,7 @@ pairs-without R p (x ∷ xs) pairs = by (p x) (pairs-without R p xs (pairs-tail 
     by true rest = pairs-tail R x xs pairs
     by false rest = AllPairs-cons R x (without p xs) (all-without (R x) p xs (pairs-head R x xs pairs)) rest
 
--- a member is taken out
+-- a member is removed
 pub keeps-without : (a : ℕ) → KeepsMembers (without_member a)
 keeps-without a = record {
   known = λ count q known. all-without (λ (member : Member). member.agent < count) (is_agent a) q.members known;
@@ -114,7 +114,7 @@ members-changed change k qs ps as' keeps is members =
       names_differ = members.names_differ;
     })
 
--- and of all queues
+-- and the same for all queues
 pub members-mapped : (change : QueueOf → QueueOf) (qs ps : List QueueOf) (as' : List Agent) → KeepsMembers change
     → ps ≡ map change qs → AreMembers qs as' → AreMembers ps as'
 members-mapped change qs ps as' keeps is members =
@@ -127,7 +127,7 @@ members-mapped change qs ps as' keeps is members =
       names_differ = members.names_differ;
     })
 
--- agents that keep their names
+-- agents whose names do not change
 members-named : (qs : List QueueOf) (as' bs : List Agent) → length bs ≡ length as'
     → ((k : ℕ) (d : Agent) → (get_or bs k d).name ≡ (get_or as' k d).name) → AreMembers qs as' → AreMembers qs bs
 members-named qs as' bs same names members = record {
@@ -137,7 +137,7 @@ members-named qs as' bs same names members = record {
       members.names_differ j k d before (omega (arith, within, same)) (sym (names j d) ∙ both ∙ names k d);
 }
 
--- an agent comes into another state
+-- an agent enters another state
 pub members-set : (a : ℕ) (s : AgentState) (qs : List QueueOf) (as' : List Agent) → AreMembers qs as' → AreMembers qs (with_state_at a s as')
 members-set a s qs as' members = members-named qs as' (with_state_at a s as') (length-changed_at _ a as') (names a as') members
   where
@@ -168,12 +168,12 @@ number-is name as' = by (position_or_len (is_named name) as') (prefix_len-le-len
         by_less true less = refl
         by_less false past = let at_least : length as' ≤ n = ltb-false n (length as') past in omega (arith, most, at_least)
 
--- two texts that are one are the same
+-- two equal texts are the same
 same_text-self : (name : List ℕ) → same_text name name ≡ true
 same_text-self [] = refl
 same_text-self (x ∷ xs) = (λ i. eq-eqb x x refl i && same_text-self xs i)
 
--- where no agent has the name, each has another one
+-- if no agent has the name, each has a different one
 pub names-apart : (name : List ℕ) (as' : List Agent) → nat_lt (agent_number as' name) (length as') ≡ false → All (λ (agent : Agent). agent.name ≢ name) as'
 names-apart name as' past k d within same =
     let at_least : length as' ≤ agent_number as' name = ltb-false (agent_number as' name) (length as') past in
@@ -181,7 +181,7 @@ names-apart name as' past k d within same =
     let passes : is_named name (get_or as' k d) ≡ true = ap (λ text. same_text text name) same ∙ same_text-self name in
     absurd (cc)
 
--- an agent comes to be known
+-- an agent becomes known
 members-known : (name : List ℕ) (qs : List QueueOf) (as' : List Agent) → AreMembers qs as' → AreMembers qs (with_agent as' name)
 members-known name qs as' members = by (nat_lt (agent_number as' name) (length as')) refl
   where
@@ -212,7 +212,7 @@ number-known name as' = by (nat_lt (agent_number as' name) (length as')) refl
         let most : position_or_len (is_named name) as' ≤ length as' = prefix_len-le-length (λ agent. not (is_named name agent)) as' in
         omega (arith, most, number-is name as', length_push as' (record { name = name; state = Idle }))
 
--- where no member is the agent, each is another one
+-- if no member is the agent, each is a different one
 pub agents-apart : (a : ℕ) (ms : List Member) → list_any (is_agent a) ms ≡ false → All (λ (member : Member). member.agent ≢ a) ms
 agents-apart a [] none = λ k d within. absurd (omega (arith, within))
 agents-apart a (m ∷ ms) none = by (is_agent a m) refl (agents-apart a ms) none
@@ -223,7 +223,7 @@ agents-apart a (m ∷ ms) none = by (is_agent a m) refl (agents-apart a ms) none
     by false there rest none = All-cons (λ (member : Member). member.agent ≢ a) m ms
         (λ same. let is : is_agent a m ≡ true = eq-eqb m.agent a same in absurd (cc)) (rest none)
 
--- an agent that is no member of a queue becomes its last one
+-- an agent that is not a member of a queue becomes its last one
 pub members-added : (qs ps : List QueueOf) (as' bs : List Agent) (number : ℕ) (name : List ℕ) (penalty : ℕ) (is_dynamic : Bool)
     → is_member_at qs number (agent_number as' name) ≡ false
     → ps ≡ changed_at (with_member (new_member (agent_number as' name) penalty is_dynamic)) number qs → bs ≡ with_agent as' name
@@ -250,7 +250,7 @@ members-added qs ps as' bs number name penalty is_dynamic absent added known mem
     at_queue : (q : QueueOf) → slice_get qs number ≡ Some q → is_member_at qs number (agent_number as' name) ≡ has_member (agent_number as' name) q
     at_queue q here = ap (λ o. unwrap_or (option_map (has_member (agent_number as' name)) o) false) here
 
--- a member that came last is taken out again
+-- a member that came last is removed again
 without-push : (a : ℕ) (ms : List Member) (m : Member) → is_agent a m ≡ true → list_any (is_agent a) ms ≡ false → without (is_agent a) (ms ++ m ∷ []) ≡ ms
 without-push a [] m is none = ap (λ (b : Bool). if b then [] else m ∷ []) is
 without-push a (x ∷ ms) m is none = by (is_agent a x) (without-push a ms m is) none
@@ -260,7 +260,7 @@ without-push a (x ∷ ms) m is none = by (is_agent a x) (without-push a ms m is)
     by true rest none = absurd (cc)
     by false rest none = ap (λ (t : List Member). x ∷ t) (rest none)
 
--- so the queues are as they were
+-- so the queues are as before
 pub queues-back : (a number : ℕ) (m : Member) (qs : List QueueOf) → is_agent a m ≡ true → is_member_at qs number a ≡ false
     → changed_at (without_member a) number (changed_at (with_member m) number qs) ≡ qs
 queues-back a number m [] is none = refl
@@ -268,7 +268,7 @@ queues-back a zero m (q ∷ qs) is none =
     ap (λ (ms : List Member). record q { members = ms } ∷ qs) (without-push a q.members m is none)
 queues-back a (suc number) m (q ∷ qs) is none = ap (λ (t : List QueueOf). q ∷ t) (queues-back a number m qs is none)
 
--- a queue of no members comes after the others
+-- a queue without members is added at the end
 pub members-queue : (qs ps : List QueueOf) (q : QueueOf) (as' : List Agent) → q.members ≡ [] → ps ≡ qs ++ q ∷ [] → AreMembers qs as' → AreMembers ps as'
 members-queue qs ps q as' none is members =
     let P : List QueueOf → Type 0 = λ x. AreMembers x as' in

@@ -1,4 +1,4 @@
--- The agents by their names: the map of their numbers after one more, and changes that keep the names.
+-- The agents and their names: the map of their numbers after one more, and changes that keep the names.
 use Rattle.std.proofs.Common.{◌≡◌, ◌≢◌, ℕ, zero, suc, Bool, true, false, List, [], ◌∷◌, ◌++◌, map, Option, Some, None, refl, sym, length, ap, ◌∙◌, if◌then◌else◌, subst, nat_lt}
 use Rattle.std.proofs.lemmas.List.{map-append}
 use Rattle.std.proofs.lemmas.List.Elements.{All-map}
@@ -21,14 +21,14 @@ use Rattle.dp_queue.proofs.MemberLemmas.{names-apart}
 use Rattle.dp_queue.proofs.PlacesLemmas.{position-cons, text-same}
 
 module _ {X : Type 0} (p : X → Bool) where
-  -- an element that does not pass leaves the first that does
+  -- an element that does not pass keeps the first one that does
   position-others : (xs : List X) (x : X) → p x ≡ false → position p (xs ++ x ∷ []) ≡ position p xs
   position-others [] x fails = position-cons p x [] ∙ ap (λ (b : Bool). if b then Some 0 else None) fails
   position-others (y ∷ xs) x fails =
       position-cons p y (xs ++ x ∷ []) ∙ ap (λ o. if p y then Some 0 else option_map suc o) (position-others xs x fails)
       ∙ sym (position-cons p y xs)
 
-  -- one that passes after others that do not is the first
+  -- a passing element after others that do not pass is the first
   position-last : (xs : List X) (x : X) → p x ≡ true → position p xs ≡ None → position p (xs ++ x ∷ []) ≡ Some (length xs)
   position-last [] x passes none = position-cons p x [] ∙ ap (λ (b : Bool). if b then Some 0 else None) passes
   position-last (y ∷ xs) x passes none =
@@ -42,14 +42,14 @@ module _ {X : Type 0} (p : X → Bool) where
       by false None gone rest = ap (option_map suc) (rest refl)
       by false (Some k) gone rest = absurd (none-some (suc k) (sym gone))
 
-  -- the first that passes, by what is asked of the elements
+  -- the first one that passes, given a function of the elements
   position-map : {W : Type 0} (f : W → X) (ws : List W) → position p (map f ws) ≡ position (λ w. p (f w)) ws
   position-map f [] = refl
   position-map f (w ∷ ws) =
       position-cons p (f w) (map f ws) ∙ ap (λ o. if p (f w) then Some 0 else option_map suc o) (position-map f ws)
       ∙ sym (position-cons (λ v. p (f v)) w ws)
 
--- no agent has a name whose number is no agent's
+-- no agent has a name whose number is not that of an agent
 position-absent : (name : List ℕ) (agents : List Agent) → nat_lt (agent_number agents name) (length agents) ≡ false
     → position (is_named name) agents ≡ None
 position-absent name agents absent =
@@ -61,14 +61,14 @@ position-absent name agents absent =
     by true k n less past = absurd (cc)
     by false k n less past = refl
 
--- what another query finds is as before
+-- another key finds the same as before
 module _ {K : Type 0} (eq : K → K → Bool) (test : K → Bool) where
   entries-kept : {X : Type 0} (old new : List (K × X)) → KeepsOthers eq test old new → (other : K → Bool) → IsKeyTest eq other
       → AreApart test other → lookup other new ≡ lookup other old
   unfolding KeepsOthers
   entries-kept old new kept = kept
 
--- a map with a number at a key has the others as before
+-- a map with a number at a key is otherwise unchanged
 module _ (numbers new : BTreeMap (Vec ℕ) ℕ) (key : Vec ℕ) (number : ℕ)
     (put : UpdatesBy (λ x y. slice_cmp nat_cmp x.items y.items) (λ k. slice_cmp nat_cmp key.items k.items) numbers new (Some number)) where
   number-other : (name : List ℕ) → same_text key.items name ≡ false → number_at new name ≡ number_at numbers name
@@ -81,7 +81,7 @@ module _ (numbers new : BTreeMap (Vec ℕ) ℕ) (key : Vec ℕ) (number : ℕ)
           is_eq-slice_cmp name k.items ∙ nat_list_eq_equiv.symm name k.items
           ∙ sym (nat_list_eq_equiv.congr key.items k.items name (sym (is_eq-slice_cmp key.items k.items) ∙ same)) ∙ differs
 
-  -- one more agent, of the key's name that no other one has
+  -- one more agent with the key's name, which no other one has
   pub numbered-push : (name : List ℕ) (agents bs : List Agent) (state : AgentState)
       → nat_lt (agent_number agents name) (length agents) ≡ false → key.items ≡ name → number ≡ length agents
       → bs ≡ agents ++ record { name = name; state = state } ∷ [] → AreNumbered numbers agents → AreNumbered new bs
@@ -111,7 +111,7 @@ module _ (numbers new : BTreeMap (Vec ℕ) ℕ) (key : Vec ℕ) (number : ℕ)
           (all_pairs_push (λ (a : List ℕ) (b : List ℕ). a ≢ b) (names_of agents) name numbered.1
           (All-map (λ (a : List ℕ). a ≢ name) (λ (a : Agent). a.name) agents (names-apart name agents absent)))
 
--- agents that keep their names
+-- agents whose names do not change
 pub numbered-kept : (numbers : BTreeMap (Vec ℕ) ℕ) (agents bs : List Agent) → names_of bs ≡ names_of agents
     → AreNumbered numbers agents → AreNumbered numbers bs
 numbered-kept numbers agents bs same numbered = (

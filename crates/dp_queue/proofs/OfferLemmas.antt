@@ -1,4 +1,4 @@
--- What an offer asks for, and the agents that come to ring.
+-- The request of an offer, and the agents that begin to ring.
 use Rattle.std.proofs.Common.{◌≡◌, ◌≢◌, ℕ, suc, ◌+◌, ◌<◌, ◌==◌, nat_lt, Bool, true, false, not, ◌&&◌, ◌||◌, List, [], ◌∷◌, ◌++◌, Option, Some, None, Result, Ok, refl, sym, length, ap, ◌∙◌, arith, if◌then◌else◌, slice_get, subst, fold, take, drop}
 use Rattle.std.proofs.lemmas.Option.{same_Some}
 use Rattle.std.proofs.lemmas.List.Elements.{All-nil, All-cons, All-head, All-tail, All-append, All-drop, All-take, All-filter, All-weaker, filter_passes}
@@ -48,7 +48,7 @@ candidate_parts false b e h = absurd (cc)
 pub candidate-idle : (as' : List Agent) (penalty : ℕ) (m : Member) → is_candidate as' penalty m ≡ true → is_idle (state_at as' m.agent) ≡ true
 candidate-idle as' penalty m may = (candidate_parts (not m.is_paused) (is_idle_at as' m.agent) (m.penalty == penalty) may).1
 
--- the candidates among other members are the same after the ringing of one agent
+-- the candidates among other members are the same after one agent begins to ring
 filter-set : (a : ℕ) (s : AgentState) (as' : List Agent) (penalty : ℕ) (ms : List Member) → All (λ (m : Member). a ≢ m.agent) ms
     → filter (is_candidate (with_state_at a s as') penalty) ms ≡ filter (is_candidate as' penalty) ms
 filter-set a s as' penalty [] others = refl
@@ -78,7 +78,7 @@ ringing-first k c penalty as' m ms once = by (is_candidate as' penalty m)
         (filter-set m.agent (Ringing k c) as' penalty ms (pairs-head (λ (member : Member) (other : Member). member.agent ≢ other.agent) m ms once))
     by false = refl
 
--- and are counted
+-- and they are counted
 pub count-first : (k c penalty : ℕ) (as' : List Agent) (m : Member) (ms : List Member) → StandOnce (m ∷ ms)
     → (if is_candidate as' penalty m then 1 else 0) + length (filter (is_candidate (first_rung k c penalty as' m) penalty) ms)
     ≡ length (filter (is_candidate as' penalty) (m ∷ ms))
@@ -93,7 +93,7 @@ count-first k c penalty as' m ms once = by (is_candidate as' penalty m)
         omega (arith, same)
     by false = omega arith
 
--- the first channel that is not rung, by its seat or by the agents
+-- the first channel for which no agent rings, according to its seat or to the agents
 pub unrung-same : (seats : SeatsOf) (qs : List QueueOf) (as' : List Agent) (xs : List ℕ) → AreSeated seats qs as'
     → ((d : ℕ) → list_any (λ e. e == d) xs ≡ true → waits_in qs d ≡ None → ⊥)
     → find (is_unrung seats) xs ≡ find (λ c. not (is_rung as' c)) xs
@@ -112,12 +112,12 @@ unrung-same seats qs as' (x ∷ xs) seated waits =
     here : is_unrung seats x ≡ not (is_rung as' x)
     here = ap is_unrung_in (seated x) ∙ mark (waits_in qs x) (waits x (ap (λ (b : Bool). b || list_any (λ e. e == x) xs) (eq-eqb x x refl)))
 
--- a channel of the list of a queue waits
+-- a channel in the list of a queue waits
 pub stands-waits : (qs : List QueueOf) (k : ℕ) (q : QueueOf) (d : ℕ) → slice_get qs k ≡ Some q → list_any (λ e. e == d) q.waiting ≡ true
     → waits_in qs d ≡ None → ⊥
 stands-waits qs k q d at' stands none = omega (arith, times-at qs d k q at' stands, times-none qs d none)
 
--- what is found passes and stands in the list
+-- a found element passes and is in the list
 find-facts : (p : ℕ → Bool) (xs : List ℕ) (c : ℕ) → find p xs ≡ Some c → (p c ≡ true) × (list_any (λ e. e == c) xs ≡ true)
 find-facts p [] c e = absurd (cc)
 find-facts p (x ∷ xs) c e = by (p x) refl (find-facts p xs c) e
@@ -133,7 +133,7 @@ find-facts p (x ∷ xs) c e = by (p x) refl (find-facts p xs c) e
         (ap p (sym is) ∙ here, ap (λ (b : Bool). b || list_any (λ e. e == c) xs) (eq-eqb x c is))
     by false here rest e = let facts : (p c ≡ true) × (list_any (λ e. e == c) xs ≡ true) = rest e in (facts.0, later (x == c) _ facts.1)
 
--- what an offer asks for: the channel stands in the list of the queue, and is not rung
+-- the request of an offer: the channel is in the list of the queue, and no agent rings for it
 pub record IsAsked (qs : List QueueOf) (as' : List Agent) (asked : OfferRequest) : Type 0 where
   pub queue : QueueOf
   pub at : slice_get qs asked.queue ≡ Some queue
@@ -176,7 +176,7 @@ pub asked-waits : (qs : List QueueOf) (as' bs : List Agent) (asked : OfferReques
 asked-waits qs as' bs asked good is_asked =
     waits_in-at qs asked.channel asked.queue is_asked.queue (good.waits_once asked.channel) is_asked.at is_asked.stands
 
--- what holds of each member holds of the one that is found
+-- what holds of each member holds of the one found
 all-found : (P : Member → Type 0) (test : Member → Bool) (ms : List Member) → All P ms → All P (option_to_list (find test ms))
 all-found P test [] each = each
 all-found P test (m ∷ ms) each = by (test m) (all-found P test ms (All-tail P m ms each))
@@ -185,7 +185,7 @@ all-found P test (m ∷ ms) each = by (test m) (all-found P test ms (All-tail P 
     by true rest = All-cons P m [] (All-head P m ms each) (All-nil P)
     by false rest = rest
 
--- of the one that has the least
+-- and of the one with the smallest number
 all-least : (P : Member → Type 0) (f : Member → ℕ) (best : Option Member) (ms : List Member) → All P (option_to_list best) → All P ms
     → All P (option_to_list (fold (lesser f) best ms))
 all-least P f best [] first each = first
@@ -202,7 +202,7 @@ all-least P f best (m ∷ ms) first each = all-least P f (lesser f best m) ms (b
         by_less true = here
         by_less false = first
 
--- of the members turned round
+-- and of the rotated members
 all-members_after : (P : Member → Type 0) (last : Option ℕ) (ms : List Member) → All P ms → All P (members_after last ms)
 all-members_after P None ms each = each
 all-members_after P (Some agent) ms each = by (position (is_agent agent) ms)
@@ -219,7 +219,7 @@ all-choices_of P LeastRecent last test ms each = all-least P (rank Last) None (f
 all-choices_of P FewestCalls last test ms each = all-least P (rank Calls) None (filter test ms) (All-nil P) (All-filter test P ms each)
 all-choices_of P RrMemory last test ms each = all-found P test (members_after last ms) (all-members_after P last ms each)
 
--- each that a strategy chooses is a candidate
+-- each member that a strategy chooses is a candidate
 passes-found : (test : Member → Bool) (ms : List Member) → All (λ (m : Member). test m ≡ true) (option_to_list (find test ms))
 passes-found test [] = All-nil (λ (m : Member). test m ≡ true)
 passes-found test (m ∷ ms) = by (test m) refl (passes-found test ms)
@@ -238,12 +238,12 @@ passes-choices_of FewestCalls last test ms =
     all-least (λ (m : Member). test m ≡ true) (rank Calls) None (filter test ms) (All-nil (λ (m : Member). test m ≡ true)) (filter_passes test ms)
 passes-choices_of RrMemory last test ms = passes-found test (members_after last ms)
 
--- of one member at most no two are one agent
+-- of at most one member no two are the same agent
 once-few : (o : Option Member) → StandOnce (option_to_list o)
 once-few None j k d before within = absurd (omega (arith, within))
 once-few (Some m) j k d before within = absurd (omega (arith, before, within))
 
--- and of those that a strategy chooses
+-- and the same for those that a strategy chooses
 once-choices_of : (s : Strategy) (last : Option ℕ) (test : Member → Bool) (ms : List Member) → StandOnce ms → StandOnce (choices_of s last test ms)
 once-choices_of RingAll last test ms once = AllPairs-filter (λ (member : Member) (other : Member). member.agent ≢ other.agent) test ms once
 once-choices_of Linear last test ms once = once-few (one_choice Linear last test ms)
@@ -251,7 +251,7 @@ once-choices_of LeastRecent last test ms once = once-few (one_choice LeastRecent
 once-choices_of FewestCalls last test ms once = once-few (one_choice FewestCalls last test ms)
 once-choices_of RrMemory last test ms once = once-few (one_choice RrMemory last test ms)
 
--- other agents are as idle where one comes to ring
+-- other agents are as idle as before one begins to ring
 idle-others : (a : ℕ) (s : AgentState) (as' : List Agent) (ms : List Member) → All (λ (m : Member). a ≢ m.agent) ms
     → All (λ (m : Member). is_idle (state_at as' m.agent) ≡ true) ms → All (λ (m : Member). is_idle (state_at (with_state_at a s as') m.agent) ≡ true) ms
 idle-others a s as' [] others idle = All-nil (λ (m : Member). is_idle (state_at (with_state_at a s as') m.agent) ≡ true)
@@ -261,7 +261,7 @@ idle-others a s as' (m ∷ ms) others idle =
     ∙ All-head (λ (x : Member). is_idle (state_at as' x.agent) ≡ true) m ms idle)
     (idle-others a s as' ms (All-tail (λ (x : Member). a ≢ x.agent) m ms others) (All-tail (λ (x : Member). is_idle (state_at as' x.agent) ≡ true) m ms idle))
 
--- agents after the ringing of so many for a channel
+-- the agents after this many begin to ring for a channel
 pub record Rings (qs : List QueueOf) (c : ℕ) (before after : List Agent) (count : ℕ) : Type 0 where
   pub linked : AreLinked qs after
   pub counted : rung_count after c ≡ rung_count before c + count
@@ -363,7 +363,7 @@ kept-offered seats new qs ps as' bs asked count kept is_asked rung counted chose
     same_count : count ≡ rung_count bs asked.channel
     same_count = omega (arith, counted, ap length is_chosen, all.counted, nobody)
 
--- the first that passes of two lists
+-- the first passing element of two lists
 pub find-front : {X : Type 0} (p : X → Bool) (xs ys : List X) (x : X) → Some x ≡ find p xs → Some x ≡ find p (xs ++ ys)
 find-front p [] ys x e = absurd (cc)
 find-front p (z ∷ xs) ys x e = by (p z) (find-front p xs ys x) e

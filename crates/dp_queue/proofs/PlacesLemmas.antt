@@ -1,4 +1,4 @@
--- The places of hashes after one more element, and the walk along the places of one hash.
+-- The places of hashes after one more element, and the walk along the places with one hash.
 use Rattle.std.proofs.Common.{◌≡◌, ◌&&◌, nat_lt, not, ℕ, zero, suc, ◌+◌, ◌<◌, ◌≤◌, ◌==◌, Bool, true, false, List, [], ◌∷◌, ◌++◌, map, take, Option, Some, None, refl, sym, length, ap, ◌∙◌, arith, if◌then◌else◌, slice_get, ⊎_elim, nat_eq}
 use Rattle.std.proofs.lemmas.Bool.{cases_lt}
 use Rattle.std.proofs.lemmas.List.{length-map, length-take, length_push, map-append, take-append-le, take-map}
@@ -14,7 +14,7 @@ use Rattle.dp_queue.specs.declared.places.Link.{Link}
 use Rattle.dp_queue.proofs.MemberLemmas.{pairs-head, pairs-tail}
 
 module _ {X : Type 0} where
-  -- an element in front of others
+  -- an element before others
   pub slice_get-front : (xs ys : List X) (k : ℕ) → k < length xs → slice_get (xs ++ ys) k ≡ slice_get xs k
   slice_get-front [] ys k within = absurd (omega (arith, within))
   slice_get-front (x ∷ xs) ys zero within = refl
@@ -25,7 +25,7 @@ module _ {X : Type 0} where
   slice_get-last [] x = refl
   slice_get-last (y ∷ xs) x = slice_get-last xs x
 
-  -- one more element is the last that passes, if it does
+  -- one more element is the last one that passes, if it does
   pub last_position-push : (p : X → Bool) (xs : List X) (x : X) → last_position p (xs ++ x ∷ []) ≡ (if p x then Some (length xs) else last_position p xs)
   last_position-push p [] x = refl
   last_position-push p (y ∷ xs) x = ap (later (p y)) (last_position-push p xs x) ∙ by (p x)
@@ -34,7 +34,7 @@ module _ {X : Type 0} where
       by true = refl
       by false = refl
 
--- the last places with those of one more element
+-- the last places, including one more element
 pub lasts-push : (lasts new : LastsOf) (hashes : List ℕ) (hash place : ℕ) → place ≡ length hashes → AreLasts lasts hashes
     → ((other : ℕ) → get nat_eq new other ≡ (if nat_eq hash other then Some place else get nat_eq lasts other)) → AreLasts new (hashes ++ hash ∷ [])
 lasts-push lasts new hashes hash place here are put other =
@@ -42,7 +42,7 @@ lasts-push lasts new hashes hash place here are put other =
     ∙ (λ i. if hash == other then Some (here i) else are other i)
     ∙ sym (last_position-push (λ (h : ℕ). h == other) hashes hash)
 
--- one more link after the others
+-- one more link at the end
 pub chained-push : (links : List Link) (new : Link) → AreChained links → new.before ≡ last_place (hashes_of links) new.hash
     → AreChained (links ++ new ∷ [])
 chained-push links new chained before k link here = ⊎_elim old last (cases_lt k (length links))
@@ -71,19 +71,19 @@ chained-push links new chained before k link here = ⊎_elim old last (cases_lt 
         (λ i. (sym same i).before) ∙ before ∙ (λ i. last_place (hashes_of links) (same i).hash)
         ∙ ap (λ hs. last_place hs link.hash) (sym (front (omega (arith, is)) ∙ ap (λ n. take n (hashes_of links)) count ∙ all (hashes_of links)))
 
--- how many elements lead up to a place and the element there
+-- the number of elements up to and including a place
 abbrev pub size_through : Option ℕ → ℕ
 size_through None = 0
 size_through (Some place) = suc place
 
--- a place is not before the first, so nothing is there
+-- if there is no place, the first element does not pass and the rest has none
 later-none : (b : Bool) (o : Option ℕ) → later b o ≡ None → (b ≡ false) × (o ≡ None)
 later-none true None e = absurd (cc)
 later-none false None e = (refl, refl)
 later-none b (Some k) e = absurd (cc)
 
 module _ {X : Type 0} where
-  -- the last that passes lies before the last that passes an easier test, or is that one
+  -- the last one that passes a test is at or before the last one that passes an easier test
   pub last_position-size_through : (p q : X → Bool) → ((x : X) → p x ≡ true → q x ≡ true) → (xs : List X)
       → last_position p (take (size_through (last_position q xs)) xs) ≡ last_position p xs
   last_position-size_through p q easier [] = refl
@@ -99,7 +99,7 @@ module _ {X : Type 0} where
       by None false here rest = neither (p x) refl here ∙ ap (later (p x)) rest
       by (Some k) b here rest = ap (later (p x)) rest
 
-  -- the last that passes among those up to a place
+  -- the last one that passes among those up to a place
   pub last_position-at : (p : X → Bool) (xs : List X) (k : ℕ) (x : X) → slice_get xs k ≡ Some x
       → last_position p (take (suc k) xs) ≡ (if p x then Some k else last_position p (take k xs))
   last_position-at p [] k x here = absurd (cc)
@@ -144,12 +144,12 @@ module _ {X : Type 0} where
   take-fewer (suc m) (suc n) [] fewer = refl
   take-fewer (suc m) (suc n) (x ∷ xs) fewer = ap (λ (t : List X). x ∷ t) (take-fewer m n xs (omega (arith, fewer)))
 
-  -- the same by numbers of the elements
+  -- the same, given numbers of the elements
   pub last_position-map : {Y : Type 0} (p : Y → Bool) (f : X → Y) (xs : List X) → last_position p (map f xs) ≡ last_position (λ x. p (f x)) xs
   last_position-map p f [] = refl
   last_position-map p f (x ∷ xs) = ap (later (p (f x))) (last_position-map p f xs)
 
--- a walk along the places of a hash: what passes lies before the place that comes next, and that place has the hash
+-- a walk along the places with a hash: the passing element is before the next place, and that place has the hash
 pub record IsWalked {X : Type 0} (p : X → Bool) (f : X → ℕ) (hash : ℕ) (xs : List X) (at : Option ℕ) : Type 0 where
   pub rest : last_position p (take (size_through at) xs) ≡ last_position p xs
   pub has : (k : ℕ) → at ≡ Some k → slice_get (map f xs) k ≡ Some hash
@@ -183,7 +183,7 @@ module _ {X : Type 0} (p : X → Bool) (f : X → ℕ) (hash : ℕ) (same : (x :
         has = λ k here. has-last xs k (sym place ∙ here);
       }
 
-  -- it goes on from a place that does not pass
+  -- it continues from a place that does not pass
   pub walked-next : (xs : List X) (k : ℕ) (x : X) (at : Option ℕ) → IsWalked p f hash xs (Some k) → slice_get xs k ≡ Some x → p x ≡ false
       → at ≡ place_before (map f xs) k (slice_get (map f xs) k) → IsWalked p f hash xs at
   walked-next xs k x at walked here fails is =
@@ -209,7 +209,7 @@ module _ {X : Type 0} (p : X → Bool) (f : X → ℕ) (hash : ℕ) (same : (x :
       slice_get-fewer (suc n) (y ∷ ys) zero fewer = refl
       slice_get-fewer (suc n) (y ∷ ys) (suc j) fewer = slice_get-fewer n ys j (omega (arith, fewer))
 
-  -- what stands at the place of a walk
+  -- the element at the place of a walk
   pub walked-there : (xs : List X) (k : ℕ) → IsWalked p f hash xs (Some k) → (x : X) × (slice_get xs k ≡ Some x)
   walked-there xs k walked = by (slice_get xs k) refl
     where
@@ -217,12 +217,12 @@ module _ {X : Type 0} (p : X → Bool) (f : X → ℕ) (hash : ℕ) (same : (x :
       by None here = absurd (none-some hash (sym (slice_get-map f xs k ∙ ap (option_map f) here) ∙ walked.has k refl))
       by (Some x) here = (x, here)
 
-  -- it ends where it finds what passes
+  -- it ends at the element that passes
   pub walked-found : (xs : List X) (k : ℕ) (x : X) → IsWalked p f hash xs (Some k) → slice_get xs k ≡ Some x → p x ≡ true → last_position p xs ≡ Some k
   walked-found xs k x walked here passes =
       sym walked.rest ∙ last_position-at p xs k x here ∙ ap (λ (b : Bool). if b then Some k else last_position p (take k xs)) passes
 
--- the first place that passes, by what comes after the first element
+-- the first place that passes, given the place in the rest
 pub position-cons : {X : Type 0} (p : X → Bool) (x : X) (xs : List X) → position p (x ∷ xs) ≡ (if p x then Some 0 else option_map suc (position p xs))
 position-cons p x xs = by (p x) (position_or_len p xs) (length xs)
   where
@@ -241,7 +241,7 @@ position-cons p x xs = by (p x) (position_or_len p xs) (length xs)
         less false true e f = absurd (omega (arith, ltb-false n m e, ltb-true (suc n) (suc m) f))
         less false false e f = refl
 
--- where at most one element passes, the first is the last
+-- if at most one element passes, the first is the last
 pub last_position-only : {X : Type 0} (p : X → Bool) (xs : List X) → AllPairs (λ x y. p x ≡ true → p y ≡ false) xs → last_position p xs ≡ position p xs
 last_position-only p [] only = refl
 last_position-only {X} p (x ∷ xs) only =
@@ -261,7 +261,7 @@ last_position-only {X} p (x ∷ xs) only =
     by false fails None gone = refl
     by false fails (Some k) gone = refl
 
--- two texts that are the same in each byte are one
+-- two texts with the same bytes are equal
 pub text-same : (a b : List ℕ) → same_text a b ≡ true → a ≡ b
 text-same [] [] same = refl
 text-same [] (y ∷ ys) same = absurd (cc)
@@ -274,7 +274,7 @@ text-same (x ∷ xs) (y ∷ ys) same =
     both true b e = (refl, e)
     both false b e = absurd (cc)
 
--- the walk goes on to places before
+-- the walk continues to earlier places
 pub before-less : (hashes : List ℕ) (k : ℕ) (at : Option ℕ) → at ≡ place_before hashes k (slice_get hashes k) → size_through at < suc k
 before-less hashes k at is = by (slice_get hashes k) is
   where

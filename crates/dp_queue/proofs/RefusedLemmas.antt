@@ -1,4 +1,4 @@
--- An offer that is refused leaves the queues as they were.
+-- A refused offer leaves the queues as they were.
 use Rattle.std.proofs.Common.{◌≡◌, List, ℕ, Result, Ok, Err, refl}
 use Rattle.dp_queue.specs.Offers.{asked_at, offer_row, offer_row_at}
 use Rattle.dp_queue.specs.Queues.{QueuesOf, queue_number}

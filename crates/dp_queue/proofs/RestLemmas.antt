@@ -1,4 +1,4 @@
--- Where nothing goes on, no call waits and each agent is idle; a file leaves its queues so.
+-- At rest no call waits and each agent is idle; the queues of a file are at rest.
 use Rattle.std.proofs.Common.{◌≡◌, ℕ, zero, suc, ◌<◌, ◌==◌, Bool, true, false, List, [], ◌∷◌, ◌++◌, Option, Some, None, Result, Ok, Err, refl, ap, ◌∙◌, sym, length, arith, if◌then◌else◌, subst, IfOk, IfSome, nat_lt, nat_eq, codes}
 use Rattle.std.proofs.lemmas.List.Elements.{All-push, All-tail}
 use Rattle.std.specs.HashMap.{IsEmpty}
@@ -27,7 +27,7 @@ use Rattle.dp_queue.specs.declared.fault.QueueKind.{QueueKind}
 use Rattle.dp_queue.proofs.ChangeLemmas.{all-changed_at}
 use Rattle.dp_queue.proofs.WaitingLemmas.{times-none}
 
--- a number that lies within as many
+-- a number below one count is below an equal count
 pub within-same : (o : Option ℕ) (m n : ℕ) → n ≡ m → IfSome o (λ number. number < m) → IfSome o (λ number. number < n)
 within-same None m n same within = tt
 within-same (Some number) m n same within = omega (arith, same, within)
@@ -40,13 +40,13 @@ waits_in-at_rest (q ∷ qs) none c =
     let rest : waits_in qs c ≡ None = waits_in-at_rest qs (All-tail (λ (queue : QueueOf). queue.waiting ≡ []) q qs none) c in
     ap (λ (line : List ℕ). if list_any (λ d. d == c) line then Some 0 else option_map suc (waits_in qs c)) empty ∙ ap (option_map suc) rest
 
--- each agent is idle, by its number
+-- each agent is idle, given its number
 pub state_at-at_rest : (agents : List Agent) → All (λ agent. agent.state ≡ Idle) agents → (a : ℕ) → state_at agents a ≡ Idle
 state_at-at_rest [] idle a = refl
 state_at-at_rest (x ∷ xs) idle zero = idle zero x (omega arith)
 state_at-at_rest (x ∷ xs) idle (suc a) = state_at-at_rest xs (All-tail (λ (agent : Agent). agent.state ≡ Idle) x xs idle) a
 
--- so queues whose members are agents are linked with them, with no seat taken
+-- so queues whose members are agents are linked with them, without any seats
 pub linked-at_rest : (q : QueuesOf) → IsAtRest q → AreMembers q.queues q.agents → AreLinked q.queues q.agents
 linked-at_rest q rest members = record {
   waits_once = λ c. let none : times_waiting q.queues c ≡ 0 = times-none q.queues c (waits_in-at_rest q.queues rest.nobody_waits c) in omega (arith, none);
@@ -65,13 +65,13 @@ pub found-at_rest : (seats : SeatsOf) (q : QueuesOf) → IsAtRest q → AreFound
 found-at_rest seats q rest a c talks =
     let silent : talks_with c (state_at q.agents a) ≡ false = ap (talks_with c) (state_at-at_rest q.agents rest.all_idle a) in absurd (cc)
 
--- what follows of one value and of what comes of it
+-- what follows from one value and from the next
 if_ok-then : {X Y E : Type 0} (P : X → Type 0) (Q : Y → Type 0) (r : Result X E) (f : X → Result Y E) → ((x : X) → P x → IfOk (f x) Q)
     → IfOk r P → IfOk (r >>= f) Q
 if_ok-then P Q (Ok x) f step holds = step x holds
 if_ok-then P Q (Err e) f step holds = tt
 
--- the same of a value of which nothing is known
+-- the same for any value
 if_ok-any : {X Y E : Type 0} (Q : Y → Type 0) (r : Result X E) (f : X → Y) → ((x : X) → Q (f x)) → IfOk (r >>= λ x. Ok (f x)) Q
 if_ok-any Q (Ok x) f step = step x
 if_ok-any Q (Err e) f step = tt
@@ -142,7 +142,7 @@ lines-at_rest file [] rest = rest
 lines-at_rest file (line ∷ lines) rest =
     if_ok-then is_at_rest is_at_rest (after_line file line) _ (λ next kept. lines-at_rest next lines kept) (line-at_rest file line rest)
 
--- so do all lines of a file
+-- and so do all lines of a file
 pub made-at_rest : (lines : List LineOf) (file : FileOf) → after_lines unread lines ≡ Ok file → IsAtRest file.made
 made-at_rest lines file e =
     let P : Result FileOf QueueFault → Type 0 = λ r. IfOk r is_at_rest in

@@ -1,4 +1,4 @@
--- What the lines of a file come to, one after another, where those with a fault are passed over.
+-- The result of the lines of a file, one after another, if those with a fault are skipped.
 use Rattle.std.proofs.Common.{◌≡◌, ℕ, true, List, [], ◌∷◌, ◌++◌, fold, Result, Ok, Err, refl, ap, subst, sym, ◌∙◌}
 use Rattle.std.specs.Result.{is_ok}
 use Rattle.std.proofs.lemmas.List.{append-nil, append_assoc}
@@ -17,7 +17,7 @@ use Rattle.dp_queue.specs.declared.fault.QueueFault.{QueueFault}
 
 -- ---- lines
 
--- what lines without a fault have made, with the faults of the others
+-- the result of lines without a fault, with the faults of the others
 abbrev sifted_of : FileOf → List QueueFault → Sifted
 sifted_of file faults = record { file = file; faults = faults }
 
@@ -34,7 +34,7 @@ sifted-faults file found (line ∷ lines) =
     by (Ok next) taken passed = taken next
     by (Err fault) taken passed = passed fault ∙ append_assoc found (fault ∷ []) (faults_after file lines)
 
--- where all lines were taken, the faults of the text are those that were found
+-- if all lines were taken the faults of the text are those that were found
 pub faults_in-taken : (text : List ℕ) (before state : Sifted) → before ≡ unsifted → all_taken after_any before (lines_of text) ≡ Ok state → faults_in text ≡ Ok state.faults
 unfolding faults_in
 faults_in-taken text before state new e = by (lines_of text) (sym (ap (λ (s : Sifted). all_taken after_any s (lines_of text)) new) ∙ e)
@@ -46,7 +46,7 @@ faults_in-taken text before state new e = by (lines_of text) (sym (ap (λ (s : S
         (sym (sifted-faults unread [] lines) ∙ ap (λ (s : Sifted). s.faults) same)
     by (Err fault) e = absurd cc
 
--- where a line of the text is refused, so is the text
+-- if a line of the text is refused, so is the text
 pub Refuses-faults : (text : List ℕ) (before : Sifted) (conf : ConfFault) → Refuses (line_fault conf) (all_taken after_any before (lines_of text)) → Refuses (reason_of (fault_of_conf conf)) (faults_in text)
 unfolding faults_in
 Refuses-faults text before (At line kind) refused =
@@ -56,12 +56,12 @@ Refuses-faults text before conf_no_memory refused = tt
 
 -- ---- faults and loading
 
--- what some lines make, beside all their faults: it is no fault where there is none, and else the first
+-- the result of some lines compared with all their faults: it has no fault if there are none, and else the first
 abbrev IsFirst : {X : Type 0} → Result X QueueFault → List QueueFault → Type 0
 IsFirst read [] = is_ok read ≡ true
 IsFirst read (fault ∷ faults) = read ≡ Err fault
 
--- what is read on passes the fault on
+-- a next step passes the fault on
 IsFirst-passed_on : {X Y : Type 0} (next : X → Y) (read : Result X QueueFault) (faults : List QueueFault) → IsFirst read faults → IsFirst (read >>= λ x. let done : Result Y QueueFault = Ok (next x) in done) faults
 IsFirst-passed_on next (Ok x) [] is = refl
 IsFirst-passed_on next (Err fault) [] is = absurd cc
@@ -77,7 +77,7 @@ IsFirst-file file (line ∷ lines) = by (after_line file line) (λ next. IsFirst
     by (Ok next) later = later next
     by (Err fault) later = refl
 
--- the queues of what was made
+-- the queues in a result
 abbrev made_of : Result FileOf QueueFault → Result QueuesOf QueueFault
 made_of read = read >>= λ file. Ok file.made
 
@@ -90,7 +90,7 @@ IsFirst-lines lines faults same =
     subst (IsFirst (made_of (after_lines unread lines))) same
     (IsFirst-passed_on (λ (file : FileOf). file.made) (after_lines unread lines) (faults_after unread lines) (IsFirst-file unread lines))
 
--- a file loads where it has no fault, and is refused for the first fault that it has
+-- a file loads if it has no fault, and is refused for its first fault otherwise
 IsFirst-text : (text : List ℕ) (faults : List QueueFault) → faults_in text ≡ Ok faults → IsFirst (queues_in text) faults
 unfolding faults_in queues_in
 IsFirst-text text faults e = by (lines_of text) e
@@ -118,7 +118,7 @@ faults-text text fault e = by (lines_of text) e
 
 -- ---- lines without a fault
 
--- alone they make what they make among the others
+-- read alone they give the same as among the others
 after-faultless : (file : FileOf) (lines : List LineOf) → after_lines file (faultless_after file lines) ≡ Ok (left_after file lines)
 after-faultless file [] = refl
 after-faultless file (line ∷ lines) = by (after_line file line) refl (λ next. after-faultless next lines)

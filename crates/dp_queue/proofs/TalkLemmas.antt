@@ -1,4 +1,4 @@
--- An offer leaves who talks and who waits as it was.
+-- An offer does not change who talks and who waits.
 use Rattle.std.proofs.Common.{◌≡◌, ℕ, zero, suc, ◌==◌, true, false, List, [], ◌∷◌, Option, Some, None, Result, Ok, Err, refl, sym, ap, ◌∙◌, slice_get}
 use Rattle.std.proofs.lemmas.List.Elements.{All-head, All-nil, All-tail, All-weaker}
 use Rattle.std.specs.List.{All}
@@ -20,7 +20,7 @@ use Rattle.dp_queue.proofs.OfferLemmas.{candidate-idle, passes-choices_of}
 use Rattle.dp_queue.proofs.WaitingLemmas.{lines-changed_at, waits_in-same}
 use borrow.Author.Tests.{eqb-true, eq-eqb}
 
--- agents of which each talks with whom it talked
+-- agents of which each talks with the same channel as before
 pub record KeepsTalks (before after : List Agent) : Type 0 where
   pub talking : (agent queue channel : ℕ) → state_at after agent ≡ Talking queue channel → state_at before agent ≡ Talking queue channel
   pub talks : (agent queue channel : ℕ) → state_at before agent ≡ Talking queue channel → state_at after agent ≡ Talking queue channel
@@ -39,7 +39,7 @@ idle-silent s idle queue channel is = let busy : is_idle s ≡ false = ap is_idl
 ringing-silent : (queue channel : ℕ) → IsSilent (Ringing queue channel)
 ringing-silent queue channel other d is = absurd (cc)
 
--- it talks with nobody after the ringing of an agent
+-- it talks with nobody after an agent begins to ring
 silent-set : (k c a b : ℕ) (as' : List Agent) → IsSilent (state_at as' b) → IsSilent (state_at (with_state_at a (Ringing k c) as') b)
 silent-set k c a b [] silent = silent
 silent-set k c zero zero (x ∷ xs) silent = ringing-silent k c
@@ -64,7 +64,7 @@ talks-set k c a as' silent = record {
     differ : (b : ℕ) → (b == a) ≡ false → b ≡ a → ⊥
     differ b there same = let here : (b == a) ≡ true = eq-eqb b a same in absurd (cc)
 
--- one after another
+-- one change after another
 talks-after : (before between after : List Agent) → KeepsTalks before between → KeepsTalks between after → KeepsTalks before after
 talks-after before between after first second = record {
   talking = λ agent queue channel is. first.talking agent queue channel (second.talking agent queue channel is);
@@ -80,7 +80,7 @@ talks-all k c (m ∷ ms) as' silent =
     (All-weaker (λ (member : Member). IsSilent (state_at as' member.agent)) (λ (member : Member). IsSilent (state_at next member.agent))
     (λ member quiet. silent-set k c m.agent member.agent as' quiet) ms (All-tail (λ (member : Member). IsSilent (state_at as' member.agent)) m ms silent)))
 
--- those who are chosen talk with nobody
+-- the chosen agents talk with nobody
 silent-chosen : (as' : List Agent) (penalty : ℕ) (o : Option QueueOf) → All (λ (m : Member). IsSilent (state_at as' m.agent)) (chosen_in as' penalty o)
 silent-chosen as' penalty None = All-nil (λ (m : Member). IsSilent (state_at as' m.agent))
 silent-chosen as' penalty (Some queue) =
@@ -98,7 +98,7 @@ talks-offered_at q (Ok asked) =
 pub talks-offered : (q : QueuesOf) (name : List ℕ) → KeepsTalks q.agents (offer_row q name).0.agents
 talks-offered q name = talks-offered_at q (asked_at q.queues q.agents (queue_number q.queues name))
 
--- and who waits
+-- and who waits stays the same
 waits-offered_at : (q : QueuesOf) (asked : Result OfferRequest OfferFault) (channel : ℕ) → waits_in (offer_row_at q asked).0.queues channel ≡ waits_in q.queues channel
 waits-offered_at q (Err fault) channel = refl
 waits-offered_at q (Ok asked) channel =

@@ -1,4 +1,4 @@
--- In which queue a channel waits, after a change of the queues.
+-- The queue in which a channel waits, after a change of the queues.
 use Rattle.std.proofs.Common.{◌≡◌, ℕ, zero, suc, ◌+◌, ◌<◌, ◌≤◌, ◌==◌, Bool, true, false, ◌||◌, List, [], ◌∷◌, ◌++◌, map, Option, Some, None, refl, sym, length, ap, ◌∙◌, arith, if◌then◌else◌, slice_get}
 use Rattle.std.proofs.lemmas.Option.{same_Some}
 use Rattle.std.specs.Option.{option_map}
@@ -9,7 +9,7 @@ use Rattle.dp_queue.specs.Joining.{has_caller, waits_in, times_in, times_waiting
 use Rattle.dp_queue.specs.Queues.{QueueOf}
 use borrow.Author.Tests.{eqb-true}
 
--- a channel that stands in a list is counted
+-- a channel in a list is counted
 pub any-count : (c : ℕ) (xs : List ℕ) → list_any (λ d. d == c) xs ≡ true → 0 < times_in c xs
 any-count c [] found = absurd (cc)
 any-count c (x ∷ xs) found = by (x == c) (any-count c xs) found
@@ -19,7 +19,7 @@ any-count c (x ∷ xs) found = by (x == c) (any-count c xs) found
     by true rest found = omega arith
     by false rest found = omega (arith, rest found)
 
--- one that does not is not
+-- a channel that is not in it is not counted
 pub any-none : (c : ℕ) (xs : List ℕ) → list_any (λ d. d == c) xs ≡ false → times_in c xs ≡ 0
 any-none c [] none = refl
 any-none c (x ∷ xs) none = by (x == c) (any-none c xs) none
@@ -48,7 +48,7 @@ count-push d c (x ∷ xs) =
     let rest : times_in d (xs ++ c ∷ []) ≡ times_in d xs + (if c == d then 1 else 0) = count-push d c xs in
     omega (arith, rest)
 
--- without the first, no other channel is missed
+-- without the first, every other channel is still there
 pub any-without_other : (d c : ℕ) (xs : List ℕ) → (c == d) ≡ false → list_any (λ e. e == d) (without (λ e. e == c) xs) ≡ list_any (λ e. e == d) xs
 any-without_other d c [] other = refl
 any-without_other d c (x ∷ xs) other = by (x == c) refl (any-without_other d c xs other)
@@ -67,7 +67,7 @@ count-without d c (x ∷ xs) = by (x == c) (count-without d c xs)
     by true rest = omega arith
     by false rest = omega (arith, rest)
 
--- without the one place at which it stands, the channel is gone
+-- without the only place where it is, the channel is gone
 pub any-without_same : (c : ℕ) (xs : List ℕ) → times_in c xs ≤ 1 → list_any (λ e. e == c) (without (λ e. e == c) xs) ≡ false
 any-without_same c [] once = refl
 any-without_same c (x ∷ xs) once = by (x == c) refl (any-without_same c xs) once
@@ -81,7 +81,7 @@ any-without_same c (x ∷ xs) once = by (x == c) refl (any-without_same c xs) on
     by true same rest once = gone (list_any (λ e. e == c) xs) (any-count c xs) (omega (arith, once))
     by false same rest once = ap (λ (b : Bool). b || list_any (λ e. e == c) (without (λ e. e == c) xs)) same ∙ rest (omega (arith, once))
 
--- the parts of what is said of a first queue and of the others
+-- the cases of a first queue and of the others
 none_parts : (b : Bool) (o : Option ℕ) → (if b then Some 0 else option_map suc o) ≡ None → (b ≡ false) × (o ≡ None)
 none_parts true o e = absurd (cc)
 none_parts false None e = (refl, refl)
@@ -104,7 +104,7 @@ times-none (q ∷ qs) c e =
     let parts : (has_caller c q ≡ false) × (waits_in qs c ≡ None) = none_parts (has_caller c q) (waits_in qs c) e in
     omega (arith, any-none c q.waiting parts.0, times-none qs c parts.1)
 
--- one that is not counted waits nowhere
+-- a channel that is not counted waits nowhere
 pub waits_in-none : (qs : List QueueOf) (c : ℕ) → times_waiting qs c ≡ 0 → waits_in qs c ≡ None
 waits_in-none [] c none = refl
 waits_in-none (q ∷ qs) c none = by (has_caller c q) (any-count c q.waiting) (waits_in-none qs c (omega (arith, none)))
@@ -121,7 +121,7 @@ waits_in-within (q ∷ qs) c zero e = omega arith
 waits_in-within (q ∷ qs) c (suc k) e =
     let rest : k < length qs = waits_in-within qs c k (later_parts (has_caller c q) (waits_in qs c) k e).1 in omega (arith, rest)
 
--- a channel joins the queue of a number
+-- a channel joins the queue with a number
 pub waits_in-joined : (qs : List QueueOf) (c k d : ℕ) → k < length qs → waits_in qs c ≡ None
     → waits_in (changed_at (with_caller c) k qs) d ≡ (if c == d then Some k else waits_in qs d)
 waits_in-joined [] c k d within e = absurd (omega (arith, within))
@@ -191,7 +191,7 @@ times-left [] c k d = omega arith
 times-left (q ∷ qs) c zero d = omega (arith, count-without d c q.waiting)
 times-left (q ∷ qs) c (suc k) d = omega (arith, times-left qs c k d)
 
--- a channel that stands in the list of a queue is counted
+-- a channel in the list of a queue is counted
 pub times-at : (qs : List QueueOf) (c k : ℕ) (q : QueueOf) → slice_get qs k ≡ Some q → has_caller c q ≡ true → 0 < times_waiting qs c
 times-at [] c k q e found = absurd (cc)
 times-at (p ∷ qs) c zero q e found =
@@ -212,7 +212,7 @@ waits_in-at (p ∷ qs) c (suc k) q once e found =
     by true counted rest = absurd (omega (arith, counted refl, once, times-at qs c k q e found))
     by false counted rest = ap (option_map suc) rest
 
--- the same of bare waiting lists
+-- the same for the waiting lists alone
 lines_in : List (List ℕ) → ℕ → Option ℕ
 lines_in [] c = None
 lines_in (line ∷ lines) c = if list_any (λ d. d == c) line then Some 0 else option_map suc (lines_in lines c)
@@ -235,7 +235,7 @@ unfolding times_in_lines
 times-lines [] c = refl
 times-lines (q ∷ qs) c = ap (λ n. times_in c q.waiting + n) (times-lines qs c)
 
--- with the waiting lists as before, channels wait as before
+-- if the waiting lists are as before, channels wait as before
 pub waits_in-same : (ps qs : List QueueOf) (c : ℕ) → lines ps ≡ lines qs → waits_in ps c ≡ waits_in qs c
 waits_in-same ps qs c same = waits_in-lines ps c ∙ ap (λ ls. lines_in ls c) same ∙ sym (waits_in-lines qs c)
 

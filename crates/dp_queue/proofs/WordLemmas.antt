@@ -1,4 +1,4 @@
--- The queues by their names: the walk to the queue of a name, and changes that keep the names.
+-- The queues and their names: the walk to the queue with a name, and changes that keep the names.
 use Rattle.std.proofs.Common.{◌≡◌, ℕ, zero, suc, ◌<◌, Bool, true, false, List, [], ◌∷◌, ◌++◌, map, fold, Option, Some, None, refl, sym, length, get_or, ap, ◌∙◌, arith, if◌then◌else◌, slice_get, subst, nat_lt}
 use Rattle.std.proofs.lemmas.List.{get_or-map, length-map, map-append}
 use Rattle.std.proofs.lemmas.List.Elements.{All-map}
@@ -18,7 +18,7 @@ use Rattle.dp_queue.specs.Queues.{QueueOf, queue_number}
 use Rattle.dp_queue.proofs.PlacesLemmas.{IsWalked, walked-first, walked-next, walked-there, walked-found, last_position-only, text-same}
 use borrow.Author.Tests.{ltb-false}
 
--- words that are the same but for case have one hash
+-- words that are the same except for case have the same hash
 word_hash-same : (a b : List ℕ) → same_word a b ≡ true → word_hash a ≡ word_hash b
 unfolding word_hash
 word_hash-same a b same =
@@ -30,7 +30,7 @@ word_hash-same a b same =
     folded : (word : List ℕ) → fold step folding.initial (map to_ascii_lowercase word) ≡ fold with_letter folding.initial word
     folded word = fold-map step to_ascii_lowercase folding.initial word
 
--- a queue is of the name
+-- a queue has the name
 abbrev pub is_worded : List ℕ → QueueOf → Bool
 is_worded name queue = same_word queue.name name
 
@@ -39,7 +39,7 @@ hashes-worded : (queues : List QueueOf) → map word_hash (words_of queues) ≡ 
 hashes-worded [] = refl
 hashes-worded (queue ∷ queues) = ap (λ (t : List ℕ). word_hash queue.name ∷ t) (hashes-worded queues)
 
--- queues whose names differ do not both have one name
+-- queues with different names do not both have a given name
 worded-once : (name : List ℕ) (queues : List QueueOf) → AllPairs (λ a b. same_word a b ≡ false) (words_of queues)
     → AllPairs (λ queue other. is_worded name queue ≡ true → is_worded name other ≡ false) queues
 worded-once name queues differ j k d before within first = by (is_worded name (get_or queues k d)) refl
@@ -63,7 +63,7 @@ worded-once name queues differ j k d before within first = by (is_worded name (g
         sym one ∙ apart
     by false second = refl
 
--- queues that keep their names
+-- queues whose names do not change
 pub worded-kept : (hashes : List ℕ) (queues ps : List QueueOf) → words_of ps ≡ words_of queues → AreWorded hashes queues → AreWorded hashes ps
 worded-kept hashes queues ps same worded =
     let P : List (List ℕ) → Type 0 = λ words. (hashes ≡ map word_hash words) × AllPairs (λ (a : List ℕ) (b : List ℕ). same_word a b ≡ false) words in
@@ -81,12 +81,12 @@ pub worded-changed : (hashes : List ℕ) (change : QueueOf → QueueOf) (number 
 worded-changed hashes change number queues ps keeps is worded =
     worded-kept hashes queues ps (ap words_of is ∙ words-changed change number queues keeps) worded
 
--- and of all queues
+-- and the same for all queues
 pub words-mapped : (change : QueueOf → QueueOf) (queues : List QueueOf) → ((q : QueueOf) → (change q).name ≡ q.name) → words_of (map change queues) ≡ words_of queues
 words-mapped change [] keeps = refl
 words-mapped change (queue ∷ queues) keeps = (λ i. keeps queue i ∷ words-mapped change queues keeps i)
 
--- where none passes, each fails
+-- if none passes, each fails
 fails-none : {X : Type 0} (p : X → Bool) (xs : List X) → position p xs ≡ None → All (λ x. p x ≡ false) xs
 fails-none p xs none k d within =
     fails_before_first p xs k d (omega (arith, within, ltb-false (position_or_len p xs) (length xs) (past (nat_lt (position_or_len p xs) (length xs)) none)))
@@ -95,7 +95,7 @@ fails-none p xs none k d within =
     past true e = absurd (cc)
     past false e = refl
 
--- one more queue, of a name that no other one has
+-- one more queue, with a name that no other one has
 pub worded-push : (hashes new name : List ℕ) (queues ps : List QueueOf) (queue : QueueOf) → queue.name ≡ name → queue_number queues name ≡ None
     → new ≡ hashes ++ word_hash name ∷ [] → ps ≡ queues ++ queue ∷ [] → AreWorded hashes queues → AreWorded new ps
 worded-push hashes new name queues ps queue is absent more known worded =
@@ -108,7 +108,7 @@ worded-push hashes new name queues ps queue is absent more known worded =
           (All-map (λ (a : List ℕ). same_word a name ≡ false) (λ (q : QueueOf). q.name) queues (fails-none (is_worded name) queues absent)),
     )
 
--- the walk to the queue of a name
+-- the walk to the queue with a name
 abbrev pub IsWalkedTo : List ℕ → List QueueOf → Option ℕ → Type 0
 IsWalkedTo name queues at = IsWalked (is_worded name) (λ queue. word_hash queue.name) (word_hash name) queues at
 

@@ -1,4 +1,4 @@
--- What agents do with the calls that are offered to them.
+-- How agents answer, decline and end the calls that are offered to them.
 use Rattle.std.specs.Prelude.{ℕ, Bool, true, false, List, map, Option, Some, None, if◌then◌else◌}
 use Rattle.dp_queue.specs.Agents.{agent_number, talker, state_at, with_state_at}
 use Rattle.dp_conf.specs.Changes.{changed_at}
@@ -11,7 +11,7 @@ use Rattle.dp_queue.specs.declared.agent.AgentState.TheVariants.{Idle, Ringing, 
 use Rattle.dp_queue.specs.declared.call.Call.{Call}
 use Rattle.dp_queue.specs.declared.member.Member.{Member}
 
--- a call of these numbers
+-- a call with these numbers
 abbrev pub call_of : ℕ → ℕ → ℕ → Call
 call_of queue agent channel = record { queue = queue; agent = agent; channel = channel }
 
@@ -29,7 +29,7 @@ answer_row_at q a Idle = (q, None)
 answer_row_at q a (Ringing queue channel) = (after_answer q a queue channel, Some (call_of queue a channel))
 answer_row_at q a (Talking queue channel) = (q, None)
 
--- the agent of a name answers the call that it rings for
+-- the agent with a name answers the call for which it rings
 abbrev pub answer_row : QueuesOf → List ℕ → QueuesOf × Option Call
 answer_row q name = answer_row_at q (agent_number q.agents name) (state_at q.agents (agent_number q.agents name))
 
@@ -39,15 +39,15 @@ decline_row_at q a Idle = (q, false)
 decline_row_at q a (Ringing queue channel) = (with_agent_state q a Idle, true)
 decline_row_at q a (Talking queue channel) = (q, false)
 
--- the agent of a name declines the call that it rings for
+-- the agent with a name declines the call for which it rings
 abbrev pub decline_row : QueuesOf → List ℕ → QueuesOf × Bool
 decline_row q name = decline_row_at q (agent_number q.agents name) (state_at q.agents (agent_number q.agents name))
 
--- the member, with one more call and the count of finished calls if it is the agent
+-- the member, with one more call and the count of finished calls, if it is the agent
 abbrev pub finished_member : ℕ → ℕ → Member → Member
 finished_member a count member = if is_agent a member then record member { calls = one_more member.calls; last = count } else member
 
--- the queue after the end of an agent's call: its member record, if it is still there, has one more
+-- the queue after an agent's call ends: its member record, if it still exists, has one more call
 abbrev pub finished_queue : ℕ → ℕ → QueueOf → QueueOf
 finished_queue a count queue = record queue { members = map (finished_member a count) queue.members }
 
@@ -65,7 +65,7 @@ done_row_at q a Idle = (q, None)
 done_row_at q a (Ringing queue channel) = (q, None)
 done_row_at q a (Talking queue channel) = (after_talk q a queue, Some (call_of queue a channel))
 
--- the agent of a name is done with the call that it talks with
+-- the agent with a name ends the call with which it talks
 abbrev pub done_row : QueuesOf → List ℕ → QueuesOf × Option Call
 done_row q name = done_row_at q (agent_number q.agents name) (state_at q.agents (agent_number q.agents name))
 

@@ -1,4 +1,4 @@
--- The numbers of the faults of queues and the names that are printed beside them.
+-- The numbers of the faults of queues and the names printed next to them.
 use Rattle.std.specs.Prelude.{ℕ, List, ◌++◌, codes, decimal}
 use Rattle.dp_conf.specs.Codes.{conf_fault_text}
 use Rattle.dp_queue.specs.declared.fault.QueueFault.{QueueFault}
@@ -34,7 +34,7 @@ offer_name NoQueue = codes "NoQueue"
 offer_name NobodyWaiting = codes "NobodyWaiting"
 offer_name NoMember = codes "NoMember"
 
--- what is printed where a file of queues did not load
+-- what is printed if a file of queues did not load
 abbrev pub queue_fault_text : QueueFault → List ℕ
 queue_fault_text (Conf fault) = conf_fault_text fault
 queue_fault_text (Queue line kind) = queue_name kind ++ codes " line " ++ decimal line

@@ -1,4 +1,4 @@
--- The faults of a file of queues beside those of its text, and out of memory.
+-- The faults of a file of queues apart from those of its text, and out-of-memory.
 use Rattle.std.specs.Prelude.{ℕ, Option, Some, None, Result, Ok, Err}
 use Rattle.dp_conf.specs.Lines.{LineFault}
 use Rattle.dp_conf.specs.declared.fault.ConfFault.{ConfFault}
@@ -8,16 +8,16 @@ use Rattle.dp_queue.specs.declared.fault.QueueKind.{QueueKind}
 use Rattle.dp_queue.specs.declared.fault.QueueFault.{QueueFault}
 use Rattle.dp_queue.specs.declared.fault.QueueFault.TheVariants.{Conf, Queue, NoMemory}
 
--- out of memory is outermost
+-- out-of-memory is outermost
 abbrev pub fault_of_conf : ConfFault → QueueFault
 fault_of_conf (At line kind) = Conf (At line kind)
 fault_of_conf conf_no_memory = NoMemory
 
--- a line of a queue that is refused, as a fault of the queues
+-- a refused line of a queue, as a fault of the queues
 abbrev pub fault_of_line : FaultyLine QueueKind → QueueFault
 fault_of_line fault = Queue fault.line fault.kind
 
--- why a file of queues is refused; out of memory is no reason
+-- the reason why a file of queues is refused; out-of-memory has no reason
 abbrev pub reason_of : QueueFault → Option QueueFault
 reason_of (Conf fault) = Some (Conf fault)
 reason_of (Queue line kind) = Some (Queue line kind)

@@ -1,4 +1,4 @@
--- The queues of a file: each line changes what the lines before it made.
+-- The queues of a file: each line changes the result of the lines before it.
 use Rattle.std.specs.Prelude.{ℕ, Bool, false, ◌||◌, ◌==◌, List, [], ◌∷◌, ◌++◌, length, Option, Some, None, Result, Ok, Err, codes, slice_get, if◌then◌else◌}
 use Rattle.std.specs.Option.{unwrap_or}
 use Rattle.dp_conf.specs.Answers.{◌>>=◌}
@@ -16,7 +16,7 @@ use Rattle.dp_queue.specs.declared.fault.QueueKind.{QueueKind}
 use Rattle.dp_queue.specs.declared.fault.QueueKind.TheVariants.{DoubleQueue}
 use Rattle.dp_queue.specs.declared.setting.Setting.{Setting}
 
--- what some lines made, and the number of the queue whose section they end in; none in `[general]`
+-- the result of some lines, and the number of the queue whose section they end in; none in `[general]`
 pub record FileOf : Type 0 where
   pub section : Option ℕ
   pub made : QueuesOf
@@ -36,18 +36,18 @@ with_queue file name = record {
   made = record file.made { queues = file.made.queues ++ queue_named name ∷ [] };
 }
 
--- a header of a queue, by the number of the queue that has its name already
+-- the header of a queue, given the number of the queue that already has its name
 abbrev pub begun_by : FileOf → List ℕ → Option ℕ → Result FileOf QueueKind
 begun_by file name None = Ok (with_queue file name)
 begun_by file name (Some number) = Err DoubleQueue
 
--- after a header; `[general]` in any case is no queue
+-- after a header; `[general]` in any case is not a queue
 abbrev pub after_header : FileOf → List ℕ → Result FileOf QueueKind
 after_header file name =
     if same_word name (codes "general") then Ok (record file { section = None })
     else begun_by file name (queue_number file.made.queues name)
 
--- an argument; one that is not there is empty
+-- an argument; a missing one is empty
 abbrev pub argument_at : List (List ℕ) → ℕ → List ℕ
 argument_at arguments place = unwrap_or (slice_get arguments place) []
 
@@ -56,11 +56,11 @@ abbrev pub penalty_in : List ℕ → Result ℕ QueueKind
 penalty_in [] = Ok 0
 penalty_in (b ∷ bs) = number_in (b ∷ bs)
 
--- the penalty of a member, by the arguments of its line
+-- the penalty of a member, given the arguments of its line
 abbrev pub penalty_of : List (List ℕ) → Result ℕ QueueKind
 penalty_of arguments = penalty_in (argument_at arguments 1)
 
--- a member of the file is passed over where its name is empty, and where it is a member of the queue already
+-- a member in the file is skipped if its name is empty, or if it is already a member of the queue
 abbrev pub is_passed_over : QueuesOf → ℕ → List ℕ → Bool
 is_passed_over q number name = length name == 0 || is_member_at q.queues number (agent_number q.agents name)
 
@@ -69,7 +69,7 @@ abbrev pub with_named : QueuesOf → ℕ → List ℕ → ℕ → QueuesOf
 with_named q number name penalty =
     if is_passed_over q number name then q else with_member_at q number name penalty false
 
--- the queues after a member's line, by its arguments: the name, and the penalty
+-- the queues after a member's line, given its arguments: the name, and the penalty
 abbrev pub with_member_line : QueuesOf → ℕ → List (List ℕ) → Result QueuesOf QueueKind
 with_member_line q number arguments =
     penalty_of arguments >>= λ penalty. Ok (with_named q number (argument_at arguments 0) penalty)
@@ -78,7 +78,7 @@ with_member_line q number arguments =
 abbrev pub with_queue_setting : Setting → QueueOf → QueueOf
 with_queue_setting setting queue = record queue { settings = with_setting setting queue.settings }
 
--- the queues with a setting of the queue of a number changed
+-- the queues with a setting of the queue with a number changed
 abbrev pub with_setting_at : QueuesOf → ℕ → Setting → QueuesOf
 with_setting_at q number setting = record q { queues = changed_at (with_queue_setting setting) number q.queues }
 
@@ -86,19 +86,19 @@ with_setting_at q number setting = record q { queues = changed_at (with_queue_se
 abbrev pub with_key : QueuesOf → ℕ → List ℕ → List ℕ → Result QueuesOf QueueKind
 with_key q number key value = setting_of key value >>= λ setting. Ok (with_setting_at q number setting)
 
--- the queues after a pair in the section of the queue of a number
+-- the queues after a pair in the section of the queue with a number
 abbrev pub with_pair : QueuesOf → ℕ → List ℕ → List ℕ → Result QueuesOf QueueKind
 with_pair q number key value =
     if same_word key (codes "member") then with_member_line q number (arguments_of value) else with_key q number key value
 
--- the section stays
+-- the same section with other queues
 abbrev pub with_made : FileOf → QueuesOf → FileOf
 with_made file made = record file { made = made }
 
 abbrev pub made_in : FileOf → Result QueuesOf QueueKind → Result FileOf QueueKind
 made_in file made = made >>= λ q. Ok (with_made file q)
 
--- after a pair, by its section; what stands in `[general]` is not read
+-- after a pair, given its section; the pairs in `[general]` are not read
 abbrev pub after_pair : FileOf → Option ℕ → List ℕ → List ℕ → Result FileOf QueueKind
 after_pair file None key value = Ok file
 after_pair file (Some number) key value = made_in file (with_pair file.made number key value)
@@ -108,7 +108,7 @@ abbrev pub after_line : FileOf → LineOf → Result FileOf QueueFault
 after_line file (Header line name) = at_line line (after_header file name)
 after_line file (Pair line key value) = at_line line (after_pair file file.section key value)
 
--- after some lines, or the fault of the first that has one
+-- after some lines, or the fault of the first faulty one
 abbrev pub after_lines : FileOf → List LineOf → Result FileOf QueueFault
 after_lines file [] = Ok file
 after_lines file (line ∷ lines) = after_line file line >>= λ next. after_lines next lines

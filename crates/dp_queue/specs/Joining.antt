@@ -1,4 +1,4 @@
--- How a call joins a queue, leaves it, and is told to leave it.
+-- How a call joins a queue, leaves it, and is made to leave it.
 use Rattle.std.specs.Prelude.{ℕ, suc, ◌+◌, ◌<◌, Bool, true, false, not, ◌&&◌, ◌==◌, nat_lt, nat_le, List, [], ◌∷◌, ◌++◌, length, Option, Some, None, slice_get, if◌then◌else◌}
 use Rattle.std.specs.List.{list_any}
 use Rattle.std.specs.Option.{option_map, unwrap_or}
@@ -13,41 +13,41 @@ use Rattle.dp_queue.specs.declared.member.Member.{Member}
 use Rattle.dp_queue.specs.declared.settings.EmptyRule.{EmptyRule}
 use Rattle.dp_queue.specs.declared.settings.EmptyRule.TheVariants.{Yes, No, Strict, Loose}
 
--- a queue of these members is too empty to join, by `joinempty`
+-- a queue with these members is too empty to join, according to `joinempty`
 abbrev pub refuses_join : EmptyRule → List Member → Bool
 refuses_join Yes members = false
 refuses_join No members = not (has_active members)
 refuses_join Strict members = not (has_active members)
 refuses_join Loose members = length members == 0
 
--- a queue of these members is too empty to stay, by `leavewhenempty`
+-- a queue with these members is too empty to stay in, according to `leavewhenempty`
 abbrev pub refuses_stay : EmptyRule → List Member → Bool
 refuses_stay Yes members = not (has_active members)
 refuses_stay No members = false
 refuses_stay Strict members = not (has_active members)
 refuses_stay Loose members = length members == 0
 
--- as many calls wait as may, where there is a limit
+-- as many calls wait as allowed, if there is a limit
 abbrev pub is_full : ℕ → List ℕ → Bool
 is_full maxlen waiting = nat_lt 0 maxlen && nat_le maxlen (length waiting)
 
--- what a call that asks to join the queue of a number is told
+-- the result of joining the queue with a number
 abbrev pub join_answer : ℕ → QueueOf → Join
 join_answer number queue =
     if refuses_join queue.settings.joinempty queue.members then Empty
     else if is_full queue.settings.maxlen queue.waiting then Full
     else Joined number
 
--- what a call that asks to join the queue of a name is told, by the number of the queue
+-- the result of joining the queue with a name, given the number of the queue
 abbrev pub join_answer_at : List QueueOf → Option ℕ → Join
 join_answer_at queues None = Unknown
 join_answer_at queues (Some number) = unwrap_or (option_map (join_answer number) (slice_get queues number)) Unknown
 
--- what a call that asks to join the queue of a name is told
+-- the result of joining the queue with a name
 abbrev pub would_join : List QueueOf → List ℕ → Join
 would_join queues name = join_answer_at queues (queue_number queues name)
 
--- a queue that is joined is one of so many
+-- the number of a joined queue is below this one
 abbrev pub IsWithin : ℕ → Join → Type 0
 IsWithin count Unknown = Unit {0}
 IsWithin count Empty = Unit {0}
@@ -62,14 +62,14 @@ with_caller c queue = record queue { waiting = queue.waiting ++ c ∷ [] }
 abbrev pub without_caller : ℕ → QueueOf → QueueOf
 without_caller c queue = record queue { waiting = without (λ d. d == c) queue.waiting }
 
--- the queues after what a call that asks to join is told
+-- the queues after a result of joining
 abbrev pub after_join : QueuesOf → ℕ → Join → QueuesOf
 after_join q c Unknown = q
 after_join q c Empty = q
 after_join q c Full = q
 after_join q c (Joined number) = record q { queues = changed_at (with_caller c) number q.queues }
 
--- a call asks to join
+-- a call joins a queue
 abbrev pub join_row : QueuesOf → List ℕ → ℕ → QueuesOf × Join
 join_row q name c = (after_join q c (would_join q.queues name), would_join q.queues name)
 
@@ -82,21 +82,21 @@ abbrev pub waits_in : List QueueOf → ℕ → Option ℕ
 waits_in [] c = None
 waits_in (queue ∷ queues) c = if has_caller c queue then Some 0 else option_map suc (waits_in queues c)
 
--- how often the call stands in a waiting list
+-- the number of times that the call is in a waiting list
 abbrev pub times_in : ℕ → List ℕ → ℕ
 times_in c [] = 0
 times_in c (d ∷ ds) = (if d == c then 1 else 0) + times_in c ds
 
--- how often the call stands in the waiting lists
+-- the number of times that the call is in the waiting lists
 abbrev pub times_waiting : List QueueOf → ℕ → ℕ
 times_waiting [] c = 0
 times_waiting (queue ∷ queues) c = times_in c queue.waiting + times_waiting queues c
 
--- the call leaves the queue of a number, and the agents that ring for it become idle
+-- the call leaves the queue with a number, and the agents that ring for it become idle
 abbrev pub after_leaving : QueuesOf → ℕ → ℕ → QueuesOf
 after_leaving q number c = record q { queues = changed_at (without_caller c) number q.queues; agents = all_freed c q.agents }
 
--- a call leaves, by the number of the queue in which it waits
+-- a call leaves, given the number of the queue in which it waits
 abbrev pub leave_row_at : QueuesOf → ℕ → Option ℕ → QueuesOf × Bool
 leave_row_at q c None = (q, false)
 leave_row_at q c (Some number) = (after_leaving q number c, true)
@@ -105,16 +105,16 @@ leave_row_at q c (Some number) = (after_leaving q number c, true)
 abbrev pub leave_row : QueuesOf → ℕ → QueuesOf × Bool
 leave_row q c = leave_row_at q c (waits_in q.queues c)
 
--- the calls of the queue of a number are to leave it, since it is too empty
+-- the calls of the queue with a number must leave it, because it is too empty
 abbrev pub should_leave : QueuesOf → ℕ → Bool
 should_leave q number =
     unwrap_or (option_map (λ queue. refuses_stay queue.settings.leavewhenempty queue.members) (slice_get q.queues number)) false
 
--- how many calls wait in the queue of a number
+-- the number of calls that wait in the queue with a number
 abbrev pub waiting_count_at : List QueueOf → Option ℕ → ℕ
 waiting_count_at queues None = 0
 waiting_count_at queues (Some number) = unwrap_or (option_map (λ queue. length queue.waiting) (slice_get queues number)) 0
 
--- how many calls wait in the queue of a name
+-- the number of calls that wait in the queue with a name
 abbrev pub waiting_count : List QueueOf → List ℕ → ℕ
 waiting_count queues name = waiting_count_at queues (queue_number queues name)

@@ -1,4 +1,4 @@
--- What the keys of a queue's section say of its settings, and why a value is refused.
+-- The settings in a queue's section, given its keys, and why a value is refused.
 use Rattle.std.specs.Prelude.{ℕ, Bool, ◌||◌, nat_le, List, [], Option, Some, None, Result, Ok, Err, codes, if◌then◌else◌}
 use Rattle.dp_conf.specs.Answers.{◌>>=◌}
 use Rattle.dp_conf.specs.Numbers.{number_of}
@@ -13,7 +13,7 @@ use Rattle.dp_queue.specs.declared.settings.Settings.{Settings}
 use Rattle.dp_queue.specs.declared.settings.Strategy.{Strategy}
 use Rattle.dp_queue.specs.declared.settings.Strategy.TheVariants.{RingAll, Linear, LeastRecent, FewestCalls, RrMemory}
 
--- the greatest number that a file of queues may have
+-- the greatest number in a file of queues
 abbrev pub most_number : ℕ
 most_number = 2147483647
 
@@ -26,11 +26,11 @@ within_most (Some number) = if nat_le number most_number then Ok number else Err
 abbrev pub number_in : List ℕ → Result ℕ QueueKind
 number_in text = within_most (number_of text)
 
--- a strategy that is left out
+-- a strategy that is not supported
 abbrev pub is_left_out : List ℕ → Bool
 is_left_out value = same_word value (codes "random") || same_word value (codes "wrandom") || same_word value (codes "rrordered")
 
--- the strategy of a name
+-- the strategy with a name
 abbrev pub strategy_of : List ℕ → Result Strategy QueueKind
 strategy_of value =
     if same_word value (codes "ringall") then Ok RingAll
@@ -41,7 +41,7 @@ strategy_of value =
     else if is_left_out value then Err LeftOut
     else Err BadStrategy
 
--- when a queue is too empty, by a word
+-- the rule that says when a queue is too empty, given a word
 abbrev pub rule_of : List ℕ → Result EmptyRule QueueKind
 rule_of value =
     if same_word value (codes "yes") then Ok Yes
@@ -50,7 +50,7 @@ rule_of value =
     else if same_word value (codes "loose") then Ok Loose
     else Err LeftOut
 
--- what a pair says of the settings of its queue; other keys say nothing
+-- the setting of a pair in a queue's section; other keys have no effect
 unfoldable pub setting_of : List ℕ → List ℕ → Result Setting QueueKind
 setting_of key value =
     if same_word key (codes "strategy") then (strategy_of value >>= λ strategy. Ok (ChoosesBy strategy))

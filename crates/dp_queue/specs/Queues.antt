@@ -6,8 +6,8 @@ use Rattle.dp_queue.specs.declared.agent.Agent.{Agent}
 use Rattle.dp_queue.specs.declared.member.Member.{Member}
 use Rattle.dp_queue.specs.declared.settings.Settings.{Settings}
 
--- a queue: its name as its section writes it, its settings, its members in the order in which they came, the channels that
--- wait, the first of them first, and the number of the agent that `rrmemory` chose last
+-- a queue: its name as written in its section, its settings, its members in the order in which they came, the channels
+-- that wait, in order, and the number of the agent that `rrmemory` chose last
 pub record QueueOf : Type 0 where
   pub name : List ℕ
   pub settings : Settings
@@ -15,8 +15,7 @@ pub record QueueOf : Type 0 where
   pub waiting : List ℕ
   pub last : Option ℕ
 
--- the queues in the order of the file, the agents in the order in which they were first named, and how many calls are
--- finished
+-- the queues in file order, the agents in the order in which they were first named, and the number of finished calls
 pub record QueuesOf : Type 0 where
   pub queues : List QueueOf
   pub agents : List Agent
@@ -26,6 +25,6 @@ pub record QueuesOf : Type 0 where
 abbrev pub no_queues : QueuesOf
 no_queues = record { queues = []; agents = []; finished = 0 }
 
--- the number of the queue of a name, in any ASCII case
+-- the number of the queue with a name, in any ASCII case
 abbrev pub queue_number : List QueueOf → List ℕ → Option ℕ
 queue_number queues name = position (λ queue. same_word queue.name name) queues

@@ -1,4 +1,4 @@
--- Queues in which nothing goes on.
+-- Queues at rest.
 use Rattle.std.specs.Prelude.{◌≡◌, []}
 use Rattle.std.specs.List.{All}
 use Rattle.dp_queue.specs.Queues.{QueuesOf}

@@ -4,24 +4,24 @@ ghost use Rattle.dp_queue.specs.Agents as spec;
 
 use dp_conf::Text;
 
-/// What an agent does. An agent has one state over all queues; queues and channels are numbers.
+/// The state of an agent, one for all queues. Queues and channels are given by their numbers.
 #[derive(Clone, Copy, Debug, PartialEq, Eq)]
 pub enum AgentState {
     Idle,
-    /// A call that waits in the queue is offered to it.
+    /// A call that waits in the queue is being offered to the agent.
     Ringing { queue: usize, channel: u32 },
-    /// It has answered a call of the queue.
+    /// The agent has answered a call of the queue.
     Talking { queue: usize, channel: u32 },
 }
 
-/// An agent, named by its interface, with case.
+/// An agent, named by its interface, which is case sensitive.
 #[derive(Debug, PartialEq, Eq, Drop)]
 pub struct Agent {
     pub name: Text,
     pub state: AgentState,
 }
 
-/// The state of the agent of a number; idle where there is none.
+/// The state of the agent with a number; idle if there is none.
 pub(crate) fn state_at(agents: &[Agent], number: usize) -> AgentState
     ensures { result ≡ spec.state_at agents.now number }
 {
@@ -57,7 +57,7 @@ pub(crate) fn talks_with(state: AgentState, channel: u32) -> bool
     }
 }
 
-/// Puts the agent of a number into a state. One that is not known stays idle.
+/// Sets the state of the agent with a number. An unknown agent stays idle.
 pub(crate) fn set_state(agents: &mut Vec<Agent>, number: usize, state: AgentState)
     ensures { agents.new.items ≡ spec.with_state_at number state agents.old.items }
 {
@@ -66,7 +66,7 @@ pub(crate) fn set_state(agents: &mut Vec<Agent>, number: usize, state: AgentStat
     }
 }
 
-/// The state of an agent after the end of a channel's waiting.
+/// The state of an agent after a channel no longer waits.
 fn state_without_call(state: AgentState, channel: u32) -> AgentState
     ensures { result ≡ spec.freed_state channel state }
 {
@@ -77,7 +77,7 @@ fn state_without_call(state: AgentState, channel: u32) -> AgentState
     }
 }
 
-/// Makes the agents of a slice idle that ring for the channel.
+/// Makes the agents in a slice idle that ring for the channel.
 fn free_each(agents: &mut [Agent], channel: u32)
     ensures { agents.new ≡ spec.all_freed channel agents.old }
 {

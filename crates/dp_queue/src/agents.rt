@@ -1,4 +1,4 @@
-//! The agents of an exchange, by their numbers and by their names.
+//! The agents of an exchange, with their numbers and names.
 ghost use Rattle.std.specs.Prelude.{◌≡◌, [], OnOk, OnErr, false, length, nat_lt};
 ghost use Rattle.dp_queue.specs.Agents as spec;
 ghost use Rattle.dp_queue.specs.Members.{with_agent};
@@ -9,12 +9,11 @@ use std::alloc::Global;
 use std::collections::BTreeMap;
 use std::marker::Model;
 
-/// The agents in the order in which they were first named. They are never dropped, and no two have one name.
+/// The agents, in the order in which they were first named. They are never dropped, and no two have the same name.
 #[derive(Drop)]
 pub(crate) struct Agents {
     list: Vec<Agent>,
-    // The number of each agent by its name, in the order of the names: names may come from callers, and no choice of them makes
-    // a look-up dear.
+    // The number of each agent, ordered by name: names may come from callers, and no choice of names makes a look-up expensive.
     numbers: BTreeMap<Vec<u8>, usize>,
 }
 
@@ -31,7 +30,7 @@ impl Model for Agents {
 }
 
 impl Agents {
-    /// No agents. It never allocates.
+    /// Without agents. It never allocates.
     pub(crate) fn new(alloc: Global) -> Self
         ensures { result ≡ [] }
     {
@@ -48,14 +47,14 @@ impl Agents {
         &self.list
     }
 
-    /// The number of the agent of this name; the number of the agents where there is none.
+    /// The number of the agent with this name, or the number of agents if there is none.
     pub(crate) fn number_of(&self, name: &[u8]) -> usize
         ensures { result ≡ spec.agent_number self.now name.now }
     {
         self.numbers.get(name).copied().unwrap_or(self.list.len())
     }
 
-    /// Puts the agent of a number into a state. One that is not known stays idle.
+    /// Sets the state of the agent with a number. An unknown agent stays idle.
     pub(crate) fn set_state(&mut self, number: usize, state: AgentState)
         ensures { self.new ≡ spec.with_state_at number state self.old }
     {
@@ -69,7 +68,7 @@ impl Agents {
         free_all(&mut self.list, channel);
     }
 
-    /// Adds an idle agent of a name that none has. After a refused growth all is as before.
+    /// Adds an idle agent with a name that no agent has. If memory runs out nothing changes.
     fn push(&mut self, alloc: Global, name: &[u8]) -> Result<(), NoMemory>
         requires { nat_lt (spec.agent_number self.old name.now) (length self.old) ≡ false }
         ensures ok { OnOk result (self.new ≡ with_agent self.old name.now) }
@@ -89,7 +88,7 @@ impl Agents {
         Ok(())
     }
 
-    /// Makes the agent of a name known. After a refused growth all is as before.
+    /// Adds the agent with a name unless it is known. If memory runs out nothing changes.
     pub(crate) fn know(&mut self, alloc: Global, name: &[u8]) -> Result<(), NoMemory>
         ensures ok { OnOk result (self.new ≡ with_agent self.old name.now) }
         ensures err { OnErr result (self.new ≡ self.old) }

@@ -1,4 +1,4 @@
-//! Every fault of a file of queues.
+//! All faults in a file of queues.
 ghost use Rattle.std.specs.Prelude.{◌≡◌, ℕ, List, [], ◌∷◌, OnOk, Ok, Err, true};
 ghost use Rattle.std.specs.Result.{is_ok};
 ghost use Rattle.dp_conf.specs.Answers.{Answers};
@@ -14,7 +14,7 @@ use dp_conf::{FaultyLine, Line, NoMemory, TakeFault, TakeLine, beside, take_line
 use std::alloc::Global;
 use std::marker::Model;
 
-/// What the lines without a fault have made, and the faults of the others.
+/// The result of the lines without a fault, and the faults of the other lines.
 #[derive(Drop)]
 struct QueueFaults {
     file: File,
@@ -30,7 +30,7 @@ impl Model for QueueFaults {
 }
 
 impl QueueFaults {
-    /// Before the first line.
+    /// The value before the first line.
     fn new(alloc: Global) -> Self
         ensures { result ≡ spec.unsifted }
     {
@@ -48,7 +48,7 @@ impl QueueFaults {
         Ok(())
     }
 
-    /// The faults. What the other lines have made is dropped.
+    /// The faults. The result of the other lines is dropped.
     fn into_faults(self) -> Vec<QueueFault>
         ensures { result.items ≡ self.faults }
     {
@@ -62,7 +62,7 @@ impl TakeLine for QueueFaults {
 
     ghost after_line = { after_any };
 
-    // A line with a fault leaves nothing for the lines behind it.
+    // A line with a fault has no effect on the lines after it.
     fn take(&mut self, alloc: Global, line: Line<'_>) -> Result<(), NoMemory> {
         match self.file.take(alloc, line) {
             Ok(()) => Ok(()),
@@ -72,13 +72,14 @@ impl TakeLine for QueueFaults {
     }
 }
 
-/// Every fault of a file of queues, in the order of its lines, at most one for each line.
+/// All faults in a file of queues, in the order of their lines, at most one for each line.
 ///
-/// A line with a fault is passed over: the lines behind it are read as if it were empty. So the pairs behind a second header of
-/// one name are read as those of the section before it. None are given exactly if the file loads, and else the first is the one
-/// for which [`Queues::load`](crate::Queues::load) refuses it: see [`show_faults_decide_loading`].
+/// A line with a fault is skipped: the lines after it are read as if it were empty. So the pairs after a second header with one name are
+/// read as those of the section before it. The list is empty exactly if the file loads; otherwise its first fault is the one for which
+/// [`Queues::load`](crate::Queues::load) refuses the file: see [`show_faults_decide_loading`].
 ///
-/// A fault of the text itself is the error, as `QueueFault::Conf`, since it leaves open how the lines behind it are read.
+/// A fault of the text itself is the error, as `QueueFault::Conf`, because it leaves open how the lines after it are read. The error is
+/// `NoMemory` if memory runs out.
 pub fn queue_faults(alloc: Global, text: &[u8]) -> Result<Vec<QueueFault>, QueueFault>
     ensures { Answers (λ faults. faults.items) reason_of result (faults_in text.now) }
 {
@@ -88,8 +89,8 @@ pub fn queue_faults(alloc: Global, text: &[u8]) -> Result<Vec<QueueFault>, Queue
     Ok(found.into_faults())
 }
 
-/// A file with no fault loads. One with faults is refused for the first of them, and one with a fault of the text itself for
-/// that. It does nothing.
+/// States that a file without a fault loads, that a file with faults is refused for the first of them, and that a file whose text has a
+/// fault is refused for that fault. It does nothing.
 pub fn show_faults_decide_loading()
     ensures none { (text : List ℕ) → faults_in text ≡ Ok [] → is_ok (queues_in text) ≡ true }
     ensures first { (text : List ℕ) (fault : QueueFault) (faults : List QueueFault) → faults_in text ≡ Ok (fault ∷ faults)
@@ -97,7 +98,8 @@ pub fn show_faults_decide_loading()
     ensures text { (text : List ℕ) (fault : QueueFault) → faults_in text ≡ Err fault → queues_in text ≡ Err fault }
 {}
 
-/// The lines with no fault, read alone, have no fault either, and make what they make among the others. It does nothing.
+/// States that the lines without a fault have no fault either when they are read alone, and give what they gave among the others. It does
+/// nothing.
 pub fn show_faultless_lines_stand_alone()
     ensures { (lines : List LineOf) → after_lines unread (faultless_after unread lines) ≡ Ok (left_after unread lines) }
 {}

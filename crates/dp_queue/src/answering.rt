@@ -1,4 +1,4 @@
-//! What agents do with the calls that are offered to them.
+//! How agents answer, decline and end the calls that are offered to them.
 ghost use Rattle.std.specs.Prelude.{◌≡◌};
 ghost use Rattle.dp_queue.specs.Agents.{state_at, talker};
 ghost use Rattle.dp_queue.specs.Calls as spec;
@@ -11,7 +11,7 @@ use crate::member::one_more;
 use crate::queues::Queues;
 use crate::waiting_seat::{Seats, WaitingSeat, leave_seat, put_seat, put_talk, rung_at, talk_at};
 
-/// The number of the agent that talks with the channel; the number of the agents where there is none.
+/// The number of the agent that talks with the channel, or the number of agents if there is none.
 fn talker(agents: &[Agent], seats: &Seats, channel: u32) -> usize
     requires { AreFound seats.now agents.now }
     ensures { result ≡ talker agents.now channel }
@@ -29,8 +29,9 @@ fn talker(agents: &[Agent], seats: &Seats, channel: u32) -> usize
 }
 
 impl Queues {
-    /// The agent of this interface answers the call that it rings for: the call leaves the waiting list, the agent and
-    /// the channel talk, and the other agents that ring for it become idle. None where the agent does not ring.
+    /// The agent with this interface answers the call for which it rings: the call leaves the waiting list, the agent
+    /// and the channel talk, and the other agents that ring for it become idle. Returns the call, or None if the agent
+    /// does not ring.
     pub fn answer(&mut self, agent: &[u8]) -> Option<Call>
         ensures { spec.answer_row self.old agent.now ≡ (self.new, result) }
     {
@@ -58,7 +59,8 @@ impl Queues {
         }
     }
 
-    /// The agent of this interface declines the call that it rings for, and is idle. False where it does not ring.
+    /// The agent with this interface declines the call for which it rings, and becomes idle. Returns false if it does
+    /// not ring.
     pub fn decline(&mut self, agent: &[u8]) -> bool
         ensures { spec.decline_row self.old agent.now ≡ (self.new, result) }
     {
@@ -74,7 +76,7 @@ impl Queues {
         }
     }
 
-    /// Ends the talk of the agent of a number, where it talks.
+    /// Ends the talk of the agent with a number, if it talks.
     fn end_talk_of(&mut self, number: usize) -> Option<Call>
         ensures { spec.done_row_at self.old number (state_at self.old.agents number) ≡ (self.new, result) }
     {
@@ -95,8 +97,8 @@ impl Queues {
         }
     }
 
-    /// The agent of this interface is done with the call that it talks with: it is idle, one more call is finished, and
-    /// its member record in the queue, if it is still there, counts the call. None where the agent does not talk.
+    /// The agent with this interface ends its call: it becomes idle, one more call is finished, and its member record
+    /// in the queue, if it still exists, counts the call. Returns the call, or None if the agent does not talk.
     pub fn done(&mut self, agent: &[u8]) -> Option<Call>
         ensures { spec.done_row self.old agent.now ≡ (self.new, result) }
     {
@@ -104,7 +106,8 @@ impl Queues {
         self.end_talk_of(number)
     }
 
-    /// The talk of a channel ends, as by [`Queues::done`] of the agent that talks with it. None where it does not talk.
+    /// Ends the talk of a channel, as [`Queues::done`] does for the agent that talks with it. Returns the call, or None
+    /// if the channel does not talk.
     pub fn end_talk(&mut self, channel: u32) -> Option<Call>
         ensures { spec.end_talk_row self.old channel ≡ (self.new, result) }
     {

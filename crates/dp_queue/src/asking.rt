@@ -1,4 +1,4 @@
-//! What an application that adds, removes or pauses a member would be told, so that it can report before it changes anything.
+//! The results of adding, removing or pausing a member, computed before anything changes.
 ghost use Rattle.std.specs.Prelude.{◌≡◌, ℕ, Bool};
 ghost use Rattle.std.specs.Option.{option_copied};
 ghost use Rattle.dp_queue.specs.Members as spec;
@@ -8,7 +8,7 @@ use crate::membership::{is_member, is_member_at, member_at};
 use crate::queues::Queues;
 
 impl Queues {
-    /// What an application that adds this interface to the queue of this name would be told, whatever the penalty.
+    /// The result of adding this interface to the queue with this name, whatever the penalty.
     pub fn would_add(&self, queue: &[u8], interface: &[u8]) -> Added
         ensures { (penalty : ℕ) → result ≡ (spec.add_row self.now queue.now interface.now penalty).1 }
     {
@@ -22,7 +22,7 @@ impl Queues {
         Added::Added
     }
 
-    /// What an application that removes this interface from the queue of this name would be told.
+    /// The result of removing this interface from the queue with this name.
     pub fn would_remove(&self, queue: &[u8], interface: &[u8]) -> Removed
         ensures { result ≡ (spec.remove_row self.now queue.now interface.now).1 }
     {
@@ -42,8 +42,8 @@ impl Queues {
         }
     }
 
-    /// What an application that pauses this interface in the queue of this name, or in all queues, or ends its pause,
-    /// would be told: whether it is a member there.
+    /// The result of pausing this interface in the queue with this name, or in all queues, or of ending its pause:
+    /// whether it is a member there.
     pub fn would_pause(&self, queue: Option<&[u8]>, interface: &[u8]) -> bool
         ensures { (is_paused : Bool)
             → result ≡ (spec.pause_row self.now (option_copied queue.entry) interface.now is_paused).1 }

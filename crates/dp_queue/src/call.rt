@@ -1,6 +1,6 @@
-//! A call of a queue that an agent has answered.
+//! A call of a queue, answered by an agent.
 
-/// A call: the number of its queue, of the agent that answered it, and of the channel.
+/// A call: the numbers of its queue, of the agent that answered it, and of the channel.
 #[derive(Clone, Copy, Debug, PartialEq, Eq)]
 pub struct Call {
     pub queue: usize,

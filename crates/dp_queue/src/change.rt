@@ -1,25 +1,25 @@
-//! What an application is told that adds or removes a member.
+//! The results of adding and removing a member.
 
-/// What an application is told that adds a member.
+/// The result of adding a member.
 #[derive(Clone, Copy, Debug, PartialEq, Eq)]
 pub enum Added {
-    /// There is no queue of that name.
+    /// There is no queue with that name.
     NoSuchQueue,
-    /// The interface is a member of the queue.
+    /// The interface is already a member of the queue.
     MemberAlready,
-    /// It is the queue's last member now.
+    /// The interface is now the last member of the queue.
     Added,
 }
 
-/// What an application is told that removes a member.
+/// The result of removing a member.
 #[derive(Clone, Copy, Debug, PartialEq, Eq)]
 pub enum Removed {
-    /// There is no queue of that name.
+    /// There is no queue with that name.
     NoSuchQueue,
-    /// The interface is no member of the queue.
+    /// The interface is not a member of the queue.
     NotInQueue,
-    /// The member is one of the file.
+    /// The member comes from the file.
     NotDynamic,
-    /// It is no member any more.
+    /// The interface is no longer a member.
     Removed,
 }

@@ -1,4 +1,4 @@
-//! Which members of a queue an offer rings, after the Asterisk documentation's page on the strategies of queues.
+//! The members of a queue that an offer rings, after the Asterisk documentation's page on the strategies of queues.
 ghost use Rattle.std.specs.Prelude.{◌≡◌, ◌+◌, ◌<◌, ◌++◌, length, take, drop, if◌then◌else◌};
 ghost use Rattle.std.specs.List.{filter, find};
 ghost use Rattle.std.specs.Option.{option_copied};
@@ -8,7 +8,7 @@ use crate::agent::{Agent, AgentState, state_at};
 use crate::member::{Member, place_of};
 use crate::settings::Strategy;
 
-/// What members are compared by.
+/// The number by which members are compared.
 #[derive(Clone, Copy, PartialEq, Eq)]
 pub(crate) enum Key {
     Penalty,
@@ -16,7 +16,7 @@ pub(crate) enum Key {
     Calls,
 }
 
-/// The number of a member that is compared.
+/// The number by which a member is compared.
 fn rank(key: Key, member: &Member) -> u64
     ensures { result ≡ spec.rank key member.now }
 {
@@ -27,7 +27,7 @@ fn rank(key: Key, member: &Member) -> u64
     }
 }
 
-/// Whether the agent of a number is idle, as one that is not known.
+/// Whether the agent with a number is idle; an unknown agent is.
 fn is_idle_at(agents: &[Agent], number: usize) -> bool
     ensures { result ≡ spec.is_idle_at agents.now number }
 {
@@ -41,14 +41,14 @@ fn is_eligible(agents: &[Agent], member: &Member) -> bool
     !member.is_paused && is_idle_at(agents, member.agent)
 }
 
-/// Whether an offer may ring the member, and it has this penalty.
+/// Whether an offer may ring the member, and the member has this penalty.
 pub(crate) fn is_candidate(agents: &[Agent], penalty: u32, member: &Member) -> bool
     ensures { result ≡ spec.is_candidate agents.now penalty member.now }
 {
     is_eligible(agents, member) && member.penalty == penalty
 }
 
-/// The one of two that has less, and the first where they have the same.
+/// The member with the smaller number, or the first if they are equal.
 fn lesser<'a>(key: Key, best: Option<&'a Member>, member: &'a Member) -> Option<&'a Member>
     ensures { option_copied result ≡ spec.lesser (spec.rank key) (option_copied best.entry) member.now }
 {
@@ -64,7 +64,7 @@ fn lesser<'a>(key: Key, best: Option<&'a Member>, member: &'a Member) -> Option<
     }
 }
 
-/// The better one of two, where the second may be chosen at all.
+/// The better of two members, if the second may be chosen at all.
 fn better<'a>(
     key: Key,
     is_allowed: bool,
@@ -80,7 +80,7 @@ fn better<'a>(
     }
 }
 
-/// The least penalty of the members that an offer may ring.
+/// The smallest penalty of the members that an offer may ring.
 pub(crate) fn least_penalty(agents: &[Agent], members: &[Member]) -> Option<u32>
     ensures { result ≡ spec.least_penalty agents.now members.now }
 {
@@ -96,7 +96,7 @@ pub(crate) fn least_penalty(agents: &[Agent], members: &[Member]) -> Option<u32>
     }
 }
 
-/// The first of the candidates that have the least.
+/// The first of the candidates with the smallest number.
 fn first_least<'a>(
     key: Key,
     agents: &[Agent],
@@ -123,7 +123,7 @@ fn first<'a>(agents: &[Agent], penalty: u32, members: &'a [Member]) -> Option<&'
         .find(|member| is_candidate(agents, penalty, member))
 }
 
-/// The first of the candidates after a place, going round.
+/// The first of the candidates after a place, wrapping around.
 fn next_after<'a>(
     agents: &[Agent],
     penalty: u32,
@@ -140,7 +140,7 @@ fn next_after<'a>(
     }
 }
 
-/// The first of the candidates after the one that was chosen last, going round.
+/// The first of the candidates after the one that was chosen last, wrapping around.
 fn next_in_turn<'a>(
     agents: &[Agent],
     penalty: u32,
@@ -158,7 +158,7 @@ fn next_in_turn<'a>(
     }
 }
 
-/// The one candidate that a strategy chooses; `ringall` chooses none alone.
+/// The candidate that a strategy chooses; `ringall` does not choose a single one.
 pub(crate) fn pick_one<'a>(
     strategy: Strategy,
     last: Option<usize>,

@@ -1,4 +1,4 @@
-//! What a file of queues and an offer are refused for, with the numbers and the names that are printed.
+//! The faults of a file of queues and the refusals of an offer, with their numbers and their printed names.
 ghost use Rattle.std.specs.Prelude.{◌≡◌, ◌++◌, Some, codes, decimal};
 ghost use Rattle.dp_conf.specs.Codes.{conf_fault_text};
 ghost use Rattle.dp_queue.specs.Codes.{queue_code, queue_name, offer_code, offer_name, queue_fault_text};
@@ -11,13 +11,13 @@ use std::fmt;
 /// Why a line of a queue is refused.
 #[derive(Clone, Copy, Debug, PartialEq, Eq)]
 pub enum QueueKind {
-    /// A `strategy` that is none.
+    /// A `strategy` that does not exist.
     BadStrategy,
-    /// A `maxlen` or a member's penalty that is no number up to 2,147,483,647.
+    /// A `maxlen` or the penalty of a member that is not a number up to 2,147,483,647.
     BadNumber,
-    /// A `strategy`, `joinempty` or `leavewhenempty` that this program leaves out.
+    /// A `strategy`, `joinempty` or `leavewhenempty` that this program does not support.
     LeftOut,
-    /// A second section of one name.
+    /// A second section with the same name.
     DoubleQueue,
 }
 
@@ -34,7 +34,7 @@ impl QueueKind {
         }
     }
 
-    /// The name of the fault, as it is printed beside its number.
+    /// The name of the fault, as it is printed next to its number.
     pub fn name(self) -> &'static str
         ensures { result.now ≡ queue_name self }
     {
@@ -47,14 +47,14 @@ impl QueueKind {
     }
 }
 
-/// Why a file of queues did not load. Out of memory is always `NoMemory`, and never within `Conf`.
+/// Why a file of queues did not load. Out-of-memory is always `NoMemory`, and never within `Conf`.
 #[derive(Clone, Copy, Debug, PartialEq, Eq)]
 pub enum QueueFault {
     /// A line of the text is refused, whatever its section.
     Conf(ConfFault),
     /// A line of a queue is refused; lines are counted from 1.
     Queue { line: usize, kind: QueueKind },
-    /// The allocator had no memory.
+    /// Memory ran out.
     NoMemory,
 }
 
@@ -120,14 +120,14 @@ impl fmt::Display for QueueFault {
 
 impl Error for QueueFault {}
 
-/// Why nothing is offered.
+/// Why no call is offered.
 #[derive(Clone, Copy, Debug, PartialEq, Eq)]
 pub enum OfferFault {
-    /// There is no queue of that name.
+    /// There is no queue with that name.
     NoQueue,
-    /// No call waits for which no agent rings.
+    /// There is no waiting call for which no agent rings.
     NobodyWaiting,
-    /// No member is without a pause whose agent is idle.
+    /// There is no member that is not paused and whose agent is idle.
     NoMember,
 }
 
@@ -143,7 +143,7 @@ impl OfferFault {
         }
     }
 
-    /// The name of the refusal, as it is printed beside its number.
+    /// The name of the refusal, as it is printed next to its number.
     pub fn name(self) -> &'static str
         ensures { result.now ≡ offer_name self }
     {

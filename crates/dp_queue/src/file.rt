@@ -1,4 +1,4 @@
-//! What each line of a file of queues makes, after the Asterisk documentation's page on that file.
+//! The effect of each line of a file of queues, after the Asterisk documentation's page on that file.
 ghost use Rattle.std.specs.Prelude.{◌≡◌, ◌<◌, ◌++◌, ◌∷◌, [], None, Ok, IfOk, length, map};
 ghost use Rattle.dp_conf.specs.Answers.{Answers};
 ghost use Rattle.dp_conf.specs.Borrowed.{line_now};
@@ -11,7 +11,7 @@ ghost use Rattle.dp_queue.specs.steps.Loading.{AtRefusal, line_reason};
 
 use crate::agents::Agents;
 use crate::fault::QueueKind;
-use crate::membership::{add_member, is_member_at};
+use crate::membership::{NewMember, add_member, is_member_at};
 use crate::queue::Queue;
 use crate::queue_list::QueueList;
 use crate::queues::Queues;
@@ -21,7 +21,7 @@ use dp_conf::{FaultyLine, Line, NoMemory, TakeFault, same_word, split_args};
 use std::alloc::Global;
 use std::marker::Model;
 
-/// What some lines made, and the number of the queue whose section they end in, where that is one.
+/// The result of the lines so far, and the number of the queue whose section they end in, if there is one.
 #[derive(Drop)]
 pub(crate) struct File {
     section: Option<usize>,
@@ -44,7 +44,7 @@ impl Model for File {
     ghost invariant = { λ file. IfSome file.section (λ number. number < length file.queues) × AreMembers file.queues file.agents };
 }
 
-/// The penalty of a member, empty where none is written.
+/// The penalty of a member; an empty text is 0.
 fn read_penalty(text: &[u8]) -> Result<u32, QueueKind>
     ensures { result ≡ spec.penalty_in text.now }
 {
@@ -54,7 +54,7 @@ fn read_penalty(text: &[u8]) -> Result<u32, QueueKind>
     read_limited(text)
 }
 
-/// The argument at a place, empty where there is none.
+/// The argument at a place, or an empty one if there is none.
 fn argument_at<'a>(arguments: &[&'a [u8]], place: usize) -> &'a [u8]
     ensures { result.now ≡ spec.argument_at (map (λ argument. argument.now) arguments.now) place }
 {
@@ -64,14 +64,14 @@ fn argument_at<'a>(arguments: &[&'a [u8]], place: usize) -> &'a [u8]
     }
 }
 
-/// The penalty of a member, by the arguments of its line.
+/// The penalty of a member, given the arguments of its line.
 fn penalty_of(arguments: &[&[u8]]) -> Result<u32, QueueKind>
     ensures { result ≡ spec.penalty_of (map (λ argument. argument.now) arguments.now) }
 {
     read_penalty(argument_at(arguments, 1))
 }
 
-/// Whether a member of the file is passed over: its name is empty, or it is a member of the queue already.
+/// Whether a member in the file is skipped: its name is empty, or it is already a member of the queue.
 fn is_passed_over(queues: &[Queue], agents: &Agents, number: usize, name: &[u8]) -> bool
     ensures { result ≡ spec.is_passed_over (record { queues = queues.now; agents = agents.now; finished = 0 }) number name.now }
 {
@@ -79,7 +79,7 @@ fn is_passed_over(queues: &[Queue], agents: &Agents, number: usize, name: &[u8])
 }
 
 impl File {
-    /// Before the first line.
+    /// The value before the first line.
     pub(crate) fn new(alloc: Global) -> Self
         ensures { result ≡ spec.unread }
     {
@@ -90,7 +90,7 @@ impl File {
         }
     }
 
-    /// Begins the section of a queue that is new.
+    /// Begins the section of a new queue.
     fn push_queue(&mut self, alloc: Global, name: &[u8]) -> Result<(), NoMemory>
         requires { queue_number self.old.made.queues name.now ≡ None }
         ensures { IfOk result (λ done. spec.with_queue self.old name.now ≡ self.new) }
@@ -120,7 +120,7 @@ impl File {
         Ok(())
     }
 
-    /// Makes the agent of a name a member of the queue of a number, unless the name is empty or it is one already.
+    /// Makes the agent with a name a member of the queue with a number, unless the name is empty or it is one already.
     fn add_named(
         &mut self,
         alloc: Global,
@@ -134,19 +134,16 @@ impl File {
         if is_passed_over(self.queues.list(), &self.agents, number, name) {
             return Ok(());
         }
-        add_member(
-            alloc,
-            &mut self.queues,
-            &mut self.agents,
-            number,
-            name,
+        let member = NewMember {
+            interface: name,
             penalty,
-            false,
-        )?;
+            is_dynamic: false,
+        };
+        add_member(alloc, &mut self.queues, &mut self.agents, number, member)?;
         Ok(())
     }
 
-    /// Takes a member's line in the section of the queue of a number, by its arguments.
+    /// Takes a member's line in the section of the queue with a number, given its arguments.
     fn take_arguments(
         &mut self,
         alloc: Global,
@@ -164,7 +161,7 @@ impl File {
         Ok(())
     }
 
-    /// Takes a member's line in the section of the queue of a number.
+    /// Takes a member's line in the section of the queue with a number.
     fn take_member(
         &mut self,
         alloc: Global,
@@ -179,25 +176,6 @@ impl File {
     {
         let arguments = split_args(alloc, value)?;
         self.take_arguments(alloc, line, number, &arguments)
-    }
-
-    /// Takes another pair in the section of the queue of a number.
-    fn take_setting(
-        &mut self,
-        alloc: Global,
-        line: usize,
-        number: usize,
-        key: &[u8],
-        value: &[u8],
-    ) -> Result<(), TakeFault<QueueKind>>
-        requires { number < length self.old.made.queues }
-        ensures taken { Answers (λ done. self.new) line_reason result
-            (at_line line (spec.made_in self.old (spec.with_key self.old.made number key.now value.now))) }
-        ensures kept { AtRefusal (self.new ≡ self.old) result }
-    {
-        let setting = read_setting(alloc, line, key, value)?;
-        self.queues.set(number, setting);
-        Ok(())
     }
 
     /// Takes a pair.
@@ -218,12 +196,14 @@ impl File {
                 if same_word(key, b"member") {
                     return self.take_member(alloc, line, number, value);
                 }
-                self.take_setting(alloc, line, number, key, value)
+                let setting = read_setting(alloc, line, key, value)?;
+                self.queues.set(number, setting);
+                Ok(())
             }
         }
     }
 
-    /// Takes a line. One that is refused leaves everything as it was.
+    /// Takes a line. A refused line changes nothing.
     pub(crate) fn take(&mut self, alloc: Global, line: Line<'_>) -> Result<(), TakeFault<QueueKind>>
         ensures taken { Answers (λ done. self.new) line_reason result (spec.after_line self.old (line_now line.entry)) }
         ensures kept { AtRefusal (self.new ≡ self.old) result }
@@ -234,7 +214,7 @@ impl File {
         }
     }
 
-    /// The queues that the lines made.
+    /// The queues that result from the lines.
     pub(crate) fn into_queues(self, alloc: Global) -> Queues
         requires { IsAtRest self.made }
         ensures { result ≡ self.made }

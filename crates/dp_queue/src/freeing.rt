@@ -1,5 +1,5 @@
-//! How the agents that ring for a channel become idle, where it is known how many do, so that they are looked for among the
-//! members of its queue and not among all agents.
+//! How the agents that ring for a channel become idle. Their number is known, so they are looked for among the members of the queue and not
+//! among all agents.
 ghost use Rattle.std.specs.Prelude.{◌≡◌};
 ghost use Rattle.dp_queue.specs.Agents.{all_freed};
 ghost use Rattle.dp_queue.specs.steps.Seats.{rung_count};
@@ -8,7 +8,7 @@ use crate::agent::{AgentState, rings_for, state_at};
 use crate::agents::Agents;
 use crate::member::Member;
 
-/// Makes the agent of a number idle if it is one of so many that ring for the channel: how many still do.
+/// Makes the agent with a number idle if it is one of the agents that ring for the channel. Takes and returns the number of these agents.
 fn free_one(agents: &mut Agents, number: usize, channel: u32, rung: usize) -> usize
     requires { rung ≡ rung_count agents.old channel }
     ensures agents { all_freed channel agents.new ≡ all_freed channel agents.old }
@@ -21,7 +21,7 @@ fn free_one(agents: &mut Agents, number: usize, channel: u32, rung: usize) -> us
     rung
 }
 
-/// Makes the agents of some members idle that are of so many that ring for the channel: how many still do.
+/// Makes the agents of some members idle if they ring for the channel. Takes and returns the number of agents that ring for it.
 fn free_members(agents: &mut Agents, members: &[Member], channel: u32, rung: usize) -> usize
     requires { rung ≡ rung_count agents.old channel }
     ensures agents { all_freed channel agents.new ≡ all_freed channel agents.old }
@@ -37,8 +37,8 @@ fn free_members(agents: &mut Agents, members: &[Member], channel: u32, rung: usi
     left
 }
 
-/// Makes the agents idle that ring for the channel, of which there are so many. They are members of its queue, unless one
-/// was removed since.
+/// Makes the agents idle that ring for the channel, given their number. They are members of its queue, unless one was removed in the
+/// meantime.
 pub(crate) fn free_rung(agents: &mut Agents, members: &[Member], channel: u32, rung: usize)
     requires { rung ≡ rung_count agents.old channel }
     ensures { agents.new ≡ all_freed channel agents.old }

@@ -1,14 +1,14 @@
-//! What a call that asks to join a queue is told.
+//! The result of joining a queue.
 
-/// What a call that asks to join a queue is told.
+/// The result of joining a queue.
 #[derive(Clone, Copy, Debug, PartialEq, Eq)]
 pub enum Join {
-    /// There is no queue of that name.
+    /// There is no queue with that name.
     Unknown,
-    /// The queue is too empty, by its `joinempty`.
+    /// The queue is too empty, according to its `joinempty`.
     Empty,
-    /// As many calls wait as its `maxlen` allows.
+    /// As many calls are waiting as its `maxlen` allows.
     Full,
-    /// The call waits in the queue of this number.
+    /// The call waits in the queue with this number.
     Joined(usize),
 }

@@ -15,7 +15,7 @@ use crate::waiting_seat::{
 };
 use dp_conf::NoMemory;
 
-/// What a call that asks to join the queue of a name is told.
+/// The result of joining the queue with a name.
 fn join_answer(queues: &QueueList, name: &[u8]) -> Join
     ensures answer { result ≡ spec.would_join queues.now name.now }
     ensures within { spec.IsWithin (length queues.now) result }
@@ -26,7 +26,7 @@ fn join_answer(queues: &QueueList, name: &[u8]) -> Join
     }
 }
 
-/// Puts a channel after those that wait in a queue.
+/// Adds a channel at the end of those that wait in a queue.
 fn sit(
     queues: &mut QueueList,
     seats: &mut Seats,
@@ -56,7 +56,8 @@ fn sit(
     Ok(())
 }
 
-/// Takes a channel out of the queue in which it waits, but for its seat. The agents that ring for it, where some do, become idle.
+/// Removes a channel from the queue in which it waits, but keeps its seat. The agents that ring for it, if any, become
+/// idle.
 pub(crate) fn unseat(
     queues: &mut QueueList,
     agents: &mut Agents,
@@ -77,15 +78,16 @@ pub(crate) fn unseat(
 }
 
 impl Queues {
-    /// What a call that asks to join the queue of this name would be told. It never allocates.
+    /// The result that joining the queue with this name would have. It never allocates.
     pub fn would_join(&self, queue: &[u8]) -> Join
         ensures { result ≡ spec.would_join self.now.queues queue.now }
     {
         join_answer(&self.queues, queue)
     }
 
-    /// A call asks to join the queue of this name, in any ASCII case, and is the last that waits there unless it is told
-    /// otherwise. It is told first that the queue is too empty, by `joinempty`, and then that it is full.
+    /// Adds a call as the last one waiting in the queue with this name, in any ASCII case, unless the result says
+    /// otherwise. It is checked first whether the queue is too empty, according to `joinempty`, and then whether it is
+    /// full. If memory runs out nothing changes.
     pub fn join(&mut self, queue: &[u8], channel: u32) -> Result<Join, NoMemory>
         requires nowhere { spec.waits_in self.old.queues channel ≡ None }
         requires silent { is_talking self.old.agents channel ≡ false }
@@ -103,7 +105,8 @@ impl Queues {
         }
     }
 
-    /// A call leaves the queue in which it waits, and the agents that ring for it become idle. Whether it waited.
+    /// Removes a call from the queue in which it waits, and makes the agents that ring for it idle. Returns whether it
+    /// waited.
     pub fn leave(&mut self, channel: u32) -> bool
         ensures { spec.leave_row self.old channel ≡ (self.new, result) }
     {
@@ -123,8 +126,8 @@ impl Queues {
         }
     }
 
-    /// Whether the calls that wait in the queue of this number are to leave it, since it is too empty, by
-    /// `leavewhenempty`; false where there is no such queue.
+    /// Whether the calls that wait in the queue with this number must leave it because it is too empty, according to
+    /// `leavewhenempty`; false if there is no such queue.
     pub fn should_leave(&self, queue: usize) -> bool
         ensures { result ≡ spec.should_leave self.now queue }
     {

@@ -5,22 +5,22 @@ ghost use Rattle.dp_queue.specs.Calls as calls;
 ghost use Rattle.dp_queue.specs.Changes.{one_more};
 ghost use Rattle.dp_queue.specs.Members as spec;
 
-/// A member of a queue, and what the queue knows of it.
+/// A member of a queue, with what the queue knows of it.
 #[derive(Clone, Copy, Debug, PartialEq, Eq)]
 pub struct Member {
     /// The number of its agent.
     pub agent: usize,
     pub penalty: u32,
     pub is_paused: bool,
-    /// Whether an application added it, and not the file.
+    /// Whether an application added it, rather than the file.
     pub is_dynamic: bool,
-    /// How many calls of the queue it has finished.
+    /// The number of calls of the queue that it has finished.
     pub calls: u64,
-    /// The count of finished calls of all queues at its last one; 0 where there was none.
+    /// The count of finished calls of all queues when it last finished one; 0 if it has finished none.
     pub last: u64,
 }
 
-/// A member that has finished no call.
+/// A member that has not finished a call.
 pub(crate) fn new_member(agent: usize, penalty: u32, is_dynamic: bool) -> Member
     ensures { result ≡ spec.new_member agent penalty is_dynamic }
 {
@@ -41,7 +41,7 @@ pub(crate) fn has_active(members: &[Member]) -> bool
     members.iter().any(|member| !member.is_paused)
 }
 
-/// Where the member that is this agent stands.
+/// The place of the member that is this agent.
 pub(crate) fn place_of(members: &[Member], agent: usize) -> Option<usize>
     ensures place { result ≡ position (spec.is_agent agent) members.now }
     ensures within { IfSome result (λ place. place < length members.now) }
@@ -49,7 +49,7 @@ pub(crate) fn place_of(members: &[Member], agent: usize) -> Option<usize>
     members.iter().position(|member| member.agent == agent)
 }
 
-/// The member, paused or not paused if it is the agent.
+/// The member, paused or unpaused if it is the agent.
 pub(crate) fn paused_member(member: Member, agent: usize, is_paused: bool) -> Member
     ensures { result ≡ spec.paused_member agent is_paused member }
 {
@@ -63,14 +63,14 @@ pub(crate) fn paused_member(member: Member, agent: usize, is_paused: bool) -> Me
     }
 }
 
-/// One more; the greatest count stays.
+/// One more, up to the greatest count.
 pub(crate) fn one_more(count: u64) -> u64
     ensures { result ≡ one_more count }
 {
     count.saturating_add(1)
 }
 
-/// The member after the end of a call of the agent.
+/// The member after a call of the agent ends.
 pub(crate) fn finished_member(member: Member, agent: usize, count: u64) -> Member
     ensures { result ≡ calls.finished_member agent count member }
 {

@@ -1,4 +1,4 @@
-//! The members of a queue, by their places and by their agents.
+//! The members of a queue, with their places and agents.
 ghost use Rattle.std.specs.Prelude.{◌≡◌, ◌<◌, ◌++◌, ◌∷◌, [], false, IfSome, OnOk, OnErr, length, map, vec_len};
 ghost use Rattle.std.specs.List.{find, list_any, position};
 ghost use Rattle.std.specs.Option.{option_copied};
@@ -15,12 +15,12 @@ use std::alloc::Global;
 use std::collections::HashMap;
 use std::marker::Model;
 
-/// The members of a queue in the order in which they came. No agent is a member twice.
+/// The members of a queue, in the order in which they came. No agent is a member twice.
 #[derive(Drop)]
 pub(crate) struct Members {
     list: Vec<Member>,
-    // For the agent of each member, the rank of its arrival: each has more than those before it. It is where the member
-    // stands, unless one before it was taken out.
+    // For the agent of each member, the rank of its arrival, which is greater than those before it. It is the place of
+    // the member, unless one before it was removed.
     ranks: HashMap<usize, usize>,
 }
 
@@ -46,7 +46,7 @@ fn is_agent_at(members: &[Member], place: usize, agent: usize) -> bool
     }
 }
 
-/// The rank of an agent's arrival; 0 where it is no member.
+/// The rank of an agent's arrival; 0 if it is not a member.
 fn rank_of(ranks: &HashMap<usize, usize>, agent: usize) -> usize {
     match ranks.get(&agent) {
         Some(rank) => *rank,
@@ -62,12 +62,12 @@ fn next_rank(members: &[Member], ranks: &HashMap<usize, usize>) -> usize {
     }
 }
 
-/// Where the member of a rank stands, found by halves, since the ranks rise along the list.
+/// The place of the member with a rank, found by binary search, because the ranks rise along the list.
 fn place_by_rank(members: &[Member], ranks: &HashMap<usize, usize>, rank: usize) -> usize {
     members.partition_point(|member| rank_of(ranks, member.agent) < rank)
 }
 
-/// Where the member that is this agent stands, by the place where it may be.
+/// The place of the member that is this agent, given a place where it may be.
 fn place_by(members: &[Member], hint: usize, agent: usize) -> Option<usize>
     requires { StandOnce members.now }
     ensures { result ≡ position (spec.is_agent agent) members.now }
@@ -78,7 +78,7 @@ fn place_by(members: &[Member], hint: usize, agent: usize) -> Option<usize>
     place_of(members, agent)
 }
 
-/// A place at which a member may stand that has this rank: the rank, or where it is found by halves.
+/// A place where the member with this rank may be: the rank itself, or the one found by binary search.
 fn likely_place(
     members: &[Member],
     ranks: &HashMap<usize, usize>,
@@ -91,7 +91,7 @@ fn likely_place(
     place_by_rank(members, ranks, rank)
 }
 
-/// Pauses the member at a place if it is this agent, or ends its pause.
+/// Pauses or unpauses the member at a place, if it is this agent.
 fn pause_at(members: &mut Vec<Member>, place: usize, agent: usize, is_paused: bool)
     requires { place < vec_len members.old }
     ensures { members.new.items ≡ changed_at (spec.paused_member agent is_paused) place members.old.items }
@@ -99,7 +99,7 @@ fn pause_at(members: &mut Vec<Member>, place: usize, agent: usize, is_paused: bo
     members[place] = paused_member(members[place], agent, is_paused);
 }
 
-/// Counts a finished call for the member at a place if it is this agent.
+/// Counts a finished call for the member at a place, if it is this agent.
 fn finish_at(members: &mut Vec<Member>, place: usize, agent: usize, count: u64)
     requires { place < vec_len members.old }
     ensures { members.new.items ≡ changed_at (finished_member agent count) place members.old.items }
@@ -108,7 +108,7 @@ fn finish_at(members: &mut Vec<Member>, place: usize, agent: usize, count: u64)
 }
 
 impl Members {
-    /// No members. It never allocates.
+    /// Without members. It never allocates.
     pub(crate) fn new(alloc: Global) -> Self
         ensures { result ≡ [] }
     {
@@ -118,7 +118,7 @@ impl Members {
         }
     }
 
-    /// The members in the order in which they came.
+    /// The members, in the order in which they came.
     pub(crate) fn list(&self) -> &[Member]
         ensures { result.now ≡ self.now }
     {
@@ -132,7 +132,7 @@ impl Members {
         self.ranks.contains_key(&agent)
     }
 
-    /// Where the member that is this agent stands.
+    /// The place of the member that is this agent.
     pub(crate) fn place_of(&self, agent: usize) -> Option<usize>
         ensures place { result ≡ position (spec.is_agent agent) self.now }
         ensures within { IfSome result (λ place. place < length self.now) }
@@ -156,7 +156,7 @@ impl Members {
         }
     }
 
-    /// Adds a member after the others, whose agent is none. After a refused growth all is as before.
+    /// Adds a member at the end. Its agent is not yet a member. If memory runs out nothing changes.
     pub(crate) fn push(&mut self, member: Member) -> Result<(), NoMemory>
         requires { list_any (spec.is_agent member.agent) self.old ≡ false }
         ensures ok { OnOk result (self.new ≡ self.old ++ member ∷ []) }
@@ -169,7 +169,7 @@ impl Members {
         Ok(())
     }
 
-    /// Takes the member out that is this agent.
+    /// Removes the member that is this agent.
     pub(crate) fn remove(&mut self, agent: usize)
         ensures { self.new ≡ without (spec.is_agent agent) self.old }
     {
@@ -179,7 +179,7 @@ impl Members {
         }
     }
 
-    /// Pauses the member that is this agent, or ends its pause.
+    /// Pauses or unpauses the member that is this agent.
     pub(crate) fn pause(&mut self, agent: usize, is_paused: bool)
         ensures { self.new ≡ map (spec.paused_member agent is_paused) self.old }
     {

@@ -15,28 +15,35 @@ use crate::queues::Queues;
 use dp_conf::NoMemory;
 use std::alloc::Global;
 
-/// Makes the agent of an interface a member of the queue of a number, of which it is none. After a refused growth all is
-/// as before.
+/// An agent that becomes a member, by its interface.
+#[derive(Clone, Copy)]
+pub(crate) struct NewMember<'a> {
+    pub(crate) interface: &'a [u8],
+    pub(crate) penalty: u32,
+    pub(crate) is_dynamic: bool,
+}
+
+/// Makes the agent with an interface a member of the queue with a number; it is not one yet. If memory runs out nothing
+/// changes.
 pub(crate) fn add_member(
     alloc: Global,
     queues: &mut QueueList,
     agents: &mut Agents,
     number: usize,
-    interface: &[u8],
-    penalty: u32,
-    is_dynamic: bool,
+    member: NewMember<'_>,
 ) -> Result<(), NoMemory>
     requires within { number < length queues.old }
-    requires absent { spec.is_member_at queues.old number (agent_number agents.old interface.now) ≡ false }
+    requires absent { spec.is_member_at queues.old number (agent_number agents.old member.interface.now) ≡ false }
     ensures ok { OnOk result (queues.new ≡ changed_at (spec.with_member
-        (spec.new_member (agent_number agents.old interface.now) penalty is_dynamic)) number queues.old) }
-    ensures agents { OnOk result (agents.new ≡ spec.with_agent agents.old interface.now) }
+        (spec.new_member (agent_number agents.old member.entry.interface.now) member.entry.penalty member.entry.is_dynamic))
+        number queues.old) }
+    ensures agents { OnOk result (agents.new ≡ spec.with_agent agents.old member.entry.interface.now) }
     ensures err { OnErr result (queues.new ≡ queues.old) }
     ensures same { OnErr result (agents.new ≡ agents.old) }
 {
-    let agent = agents.number_of(interface);
-    queues.push_member(number, new_member(agent, penalty, is_dynamic))?;
-    match agents.know(alloc, interface) {
+    let agent = agents.number_of(member.interface);
+    queues.push_member(number, new_member(agent, member.penalty, member.is_dynamic))?;
+    match agents.know(alloc, member.interface) {
         Ok(()) => Ok(()),
         Err(fault) => {
             queues.remove_member(number, agent);
@@ -45,14 +52,14 @@ pub(crate) fn add_member(
     }
 }
 
-/// Whether the agent of a number is a member of some queue.
+/// Whether the agent with a number is a member of some queue.
 pub(crate) fn is_member(queues: &[Queue], agent: usize) -> bool
     ensures { result ≡ list_any (spec.has_member agent) queues.now }
 {
     queues.iter().any(|queue| queue.has_member(agent))
 }
 
-/// Whether the agent of a number is a member of the queue of a number.
+/// Whether the agent with a number is a member of the queue with a number.
 pub(crate) fn is_member_at(queues: &[Queue], number: usize, agent: usize) -> bool
     ensures { result ≡ spec.is_member_at queues.now number agent }
 {
@@ -62,7 +69,7 @@ pub(crate) fn is_member_at(queues: &[Queue], number: usize, agent: usize) -> boo
     }
 }
 
-/// The member of the queue of a number that is the agent of a number.
+/// The member of the queue with a number that is the agent with a number.
 pub(crate) fn member_at(queues: &[Queue], number: usize, agent: usize) -> Option<Member>
     ensures { result ≡ spec.member_of agent (slice_get queues.now number) }
 {
@@ -73,8 +80,8 @@ pub(crate) fn member_at(queues: &[Queue], number: usize, agent: usize) -> Option
 }
 
 impl Queues {
-    /// An application adds the agent of this interface to the queue of this name, as its last member and not paused.
-    /// After a refused growth all is as before.
+    /// Adds the agent with this interface to the queue with this name for an application, as its last member and
+    /// unpaused. If memory runs out nothing changes.
     pub fn add(
         &mut self,
         alloc: Global,
@@ -92,20 +99,17 @@ impl Queues {
         if is_member_at(self.queues.list(), number, agent) {
             return Ok(Added::MemberAlready);
         }
-        add_member(
-            alloc,
-            &mut self.queues,
-            &mut self.agents,
-            number,
+        let member = NewMember {
             interface,
             penalty,
-            true,
-        )?;
+            is_dynamic: true,
+        };
+        add_member(alloc, &mut self.queues, &mut self.agents, number, member)?;
         Ok(Added::Added)
     }
 
-    /// An application removes the agent of this interface from the queue of this name, unless the file made it a member.
-    /// A call for which it rings, or with which it talks, stays as it is.
+    /// Removes the agent with this interface from the queue with this name for an application, unless the file made it
+    /// a member. A call for which it rings, or with which it talks, is not affected.
     pub fn remove(&mut self, queue: &[u8], interface: &[u8]) -> Removed
         ensures { spec.remove_row self.old queue.now interface.now ≡ (self.new, result) }
     {
@@ -125,8 +129,8 @@ impl Queues {
         }
     }
 
-    /// Pauses the agent of this interface in the queue of this name, or in all queues, or ends its pause. Whether it is a
-    /// member there; one that is paused already is paused again. A call for which it rings stays as it is.
+    /// Pauses or unpauses the agent with this interface in the queue with this name, or in all queues. Returns whether
+    /// it is a member there, even if it is paused already. A call for which it rings is not affected.
     pub fn pause(&mut self, queue: Option<&[u8]>, interface: &[u8], is_paused: bool) -> bool
         ensures { spec.pause_row self.old (option_copied queue.entry) interface.now is_paused ≡ (self.new, result) }
     {

@@ -1,4 +1,4 @@
-//! Which call of a queue is offered next, and to which agents, after the Asterisk documentation's page on queues.
+//! The call of a queue that is offered next, and the agents to which it is offered, after the Asterisk documentation's page on queues.
 ghost use Rattle.std.specs.Prelude.{◌≡◌, ◌+◌, ◌<◌, ◌^◌, not, length, slice_get, Some, if◌then◌else◌};
 ghost use Rattle.std.specs.List.{All, filter, find};
 ghost use Rattle.std.specs.Option.{option_copied, option_to_list};
@@ -22,14 +22,14 @@ use crate::settings::Strategy;
 use crate::waiting_seat::{Seats, WaitingSeat, put_seat, seat_at};
 use std::collections::VecDeque;
 
-/// A call that is offered: its channel, and to how many agents.
+/// An offered call: its channel, and the number of agents to which it is offered.
 #[derive(Clone, Copy, Debug, PartialEq, Eq)]
 pub struct Offered {
     pub channel: u32,
     pub rung: usize,
 }
 
-/// What an offer asks for: agents of a queue for a channel, by members of this penalty.
+/// The request of an offer: agents of a queue for a channel, from the members with this penalty.
 #[derive(Clone, Copy, PartialEq, Eq)]
 pub(crate) struct OfferRequest {
     queue: usize,
@@ -37,7 +37,7 @@ pub(crate) struct OfferRequest {
     penalty: u32,
 }
 
-/// Whether no agent rings for the channel, by its seat.
+/// Whether no agent rings for the channel, according to its seat.
 fn is_unrung(seats: &Seats, channel: u32) -> bool
     ensures { result ≡ is_unrung seats.now channel }
 {
@@ -47,14 +47,14 @@ fn is_unrung(seats: &Seats, channel: u32) -> bool
     }
 }
 
-/// The first channel of a waiting list for which no agent rings, by the seats.
+/// The first channel of a waiting list for which no agent rings, according to the seats.
 fn find_unrung<'a>(waiting: &'a VecDeque<u32>, seats: &Seats) -> Option<&'a u32>
     ensures { option_copied result ≡ find (is_unrung seats.now) waiting.now.items }
 {
     waiting.iter().find(|channel| is_unrung(seats, **channel))
 }
 
-/// What is asked for by an offer of the queue.
+/// The request of an offer of the queue.
 fn ask_in(
     queue: &Queue,
     agents: &[Agent],
@@ -77,7 +77,7 @@ fn ask_in(
     }
 }
 
-/// What is asked for by an offer of the queue of a name.
+/// The request of an offer of the queue with a name.
 fn ask(
     queues: &QueueList,
     agents: &[Agent],
@@ -93,7 +93,7 @@ fn ask(
     }
 }
 
-/// Makes the agent of a number ring.
+/// Makes the agent with a number ring.
 fn ring_one(agents: &mut Agents, asked: OfferRequest, number: usize)
     ensures { agents.new ≡ with_state_at number (AgentState.Ringing asked.queue asked.channel) agents.old }
 {
@@ -106,7 +106,8 @@ fn ring_one(agents: &mut Agents, asked: OfferRequest, number: usize)
     );
 }
 
-/// Makes the agent of a member ring, if an offer may ring the member and it has the penalty: how many ring then.
+/// Makes the agent of a member ring, if an offer may ring the member and it has the penalty. Takes and returns the number of agents that
+/// ring.
 fn ring_candidate(agents: &mut Agents, asked: OfferRequest, member: &Member, count: usize) -> usize
     requires { count + 1 < 2 ^ 64 }
     ensures agents { agents.new ≡ (if choices.is_candidate agents.old asked.penalty member.now
@@ -120,7 +121,7 @@ fn ring_candidate(agents: &mut Agents, asked: OfferRequest, member: &Member, cou
     count + 1
 }
 
-/// Makes the agents of all candidates ring: how many do.
+/// Makes the agents of all candidates ring, and returns their number.
 fn ring_candidates(agents: &mut Agents, asked: OfferRequest, members: &[Member]) -> usize
     requires { StandOnce members.now }
     ensures agents { agents.new ≡ spec.all_ringing asked.queue asked.channel
@@ -136,7 +137,7 @@ fn ring_candidates(agents: &mut Agents, asked: OfferRequest, members: &[Member])
     count
 }
 
-/// Makes the agent of the member ring, where there is one: how many do.
+/// Makes the agent of the member ring, if there is one, and returns the number of agents that ring.
 fn ring_picked(agents: &mut Agents, asked: OfferRequest, picked: Option<&Member>) -> usize
     ensures agents { agents.new ≡ spec.all_ringing asked.queue asked.channel (option_to_list (option_copied picked.entry)) agents.old }
     ensures count { result ≡ length (option_to_list (option_copied picked.entry)) }
@@ -160,7 +161,7 @@ fn last_choice(last: Option<usize>, picked: Option<&Member>) -> Option<usize>
     }
 }
 
-/// The member that the strategy of the queue chooses; `ringall` chooses none alone.
+/// The member that the strategy of the queue chooses; `ringall` does not choose a single one.
 fn picked_in<'a>(agents: &[Agent], penalty: u32, queue: &'a Queue) -> Option<&'a Member>
     ensures { option_copied result ≡ choices.one_choice queue.now.settings.strategy queue.now.last (choices.is_candidate agents.now penalty) queue.now.members }
 {
@@ -173,8 +174,8 @@ fn picked_in<'a>(agents: &[Agent], penalty: u32, queue: &'a Queue) -> Option<&'a
     )
 }
 
-/// Makes the agents ring that the strategy of the queue chooses: how many do, and the agent that the queue remembers, which
-/// changes under `rrmemory` alone.
+/// Makes the agents ring that the strategy of the queue chooses. Returns their number, and the agent that the queue remembers, which
+/// changes only for `rrmemory`.
 fn ring(agents: &mut Agents, asked: OfferRequest, queue: &Queue) -> (usize, Option<usize>)
     requires { StandOnce queue.now.members }
     ensures agents { agents.new ≡ spec.all_ringing asked.queue asked.channel
@@ -202,7 +203,7 @@ fn ring(agents: &mut Agents, asked: OfferRequest, queue: &Queue) -> (usize, Opti
     }
 }
 
-/// Makes the agents ring that the queue chooses, and lets it remember its choice: how many ring.
+/// Makes the agents ring that the queue chooses, and remembers its choice in the queue. Returns their number.
 fn ring_at(queues: &mut QueueList, agents: &mut Agents, asked: OfferRequest) -> usize
     requires queue { asked.queue < length queues.old }
     requires once { All (λ queue. StandOnce queue.members) queues.old }
@@ -218,9 +219,9 @@ fn ring_at(queues: &mut QueueList, agents: &mut Agents, asked: OfferRequest) -> 
 }
 
 impl Queues {
-    /// Offers the first call of the queue of this name for which no agent rings yet: the agents that the queue's strategy
-    /// chooses ring for it. Only members that are not paused and whose agents are idle are chosen, and of them only those
-    /// of the least penalty (a member that is busy is never rung: a choice of this program).
+    /// Offers the first call of the queue with this name for which no agent rings yet: the agents that the queue's strategy chooses ring
+    /// for it. Only members that are not paused and whose agents are idle are chosen, and of them only those with the smallest penalty (a
+    /// busy member is never rung: a choice of this program). The errors are, in this order, `NoQueue`, `NobodyWaiting` and `NoMember`.
     pub fn offer(&mut self, queue: &[u8]) -> Result<Offered, OfferFault>
         ensures { spec.offer_row self.old queue.now ≡ (self.new, result) }
     {

@@ -19,8 +19,8 @@ use std::alloc::Global;
 use std::collections::VecDeque;
 use std::marker::Model;
 
-/// A queue: its name as its section writes it, its settings, its members in the order in which they came, and the
-/// channels that wait, the first of them first. A contract sees it as these, with the agent that `rrmemory` chose last.
+/// A queue: its name as written in its section, its settings, its members in the order in which they came, and the
+/// channels that wait, in order. A contract sees it as these, with the agent that `rrmemory` chose last.
 #[derive(Drop)]
 pub struct Queue {
     name: Text,
@@ -44,7 +44,7 @@ impl Model for Queue {
     } };
 }
 
-/// Whether a queue of these members is too empty to join.
+/// Whether a queue with these members is too empty to join.
 fn refuses_join(rule: EmptyRule, members: &[Member]) -> bool
     ensures { result ≡ joining.refuses_join rule members.now }
 {
@@ -55,7 +55,7 @@ fn refuses_join(rule: EmptyRule, members: &[Member]) -> bool
     }
 }
 
-/// Whether a queue of these members is too empty to stay.
+/// Whether a queue with these members is too empty to stay.
 fn refuses_stay(rule: EmptyRule, members: &[Member]) -> bool
     ensures { result ≡ joining.refuses_stay rule members.now }
 {
@@ -66,7 +66,7 @@ fn refuses_stay(rule: EmptyRule, members: &[Member]) -> bool
     }
 }
 
-/// Where a channel stands in a waiting list.
+/// The place of a channel in a waiting list.
 fn place_of(waiting: &VecDeque<u32>, channel: u32) -> Option<usize>
     ensures place { result ≡ position (λ d. d == channel) waiting.now.items }
     ensures within { IfSome result (λ place. place < deque_len waiting.now) }
@@ -74,7 +74,7 @@ fn place_of(waiting: &VecDeque<u32>, channel: u32) -> Option<usize>
     waiting.iter().position(|other| *other == channel)
 }
 
-/// Whether a channel stands at a place of a waiting list.
+/// Whether a channel is at a place of a waiting list.
 fn stands_at(waiting: &VecDeque<u32>, place: usize, channel: u32) -> bool
     ensures { result ≡ stands_at channel waiting.now.items place }
 {
@@ -84,7 +84,7 @@ fn stands_at(waiting: &VecDeque<u32>, place: usize, channel: u32) -> bool
     }
 }
 
-/// Where a channel stands in a waiting list, by the place where it may be.
+/// The place of a channel in a waiting list, given a place where it may be.
 fn place_by(waiting: &VecDeque<u32>, hint: usize, channel: u32) -> Option<usize>
     requires { joining.times_in channel waiting.now.items ≤ 1 }
     ensures place { result ≡ position (λ d. d == channel) waiting.now.items }
@@ -96,7 +96,7 @@ fn place_by(waiting: &VecDeque<u32>, hint: usize, channel: u32) -> Option<usize>
     place_of(waiting, channel)
 }
 
-/// Takes a channel out of a waiting list, by the place where it may be.
+/// Removes a channel from a waiting list, given a place where it may be.
 fn take_out(waiting: &mut VecDeque<u32>, hint: usize, channel: u32)
     requires { joining.times_in channel waiting.old.items ≤ 1 }
     ensures { waiting.new.items ≡ without (λ d. d == channel) waiting.old.items }
@@ -107,7 +107,7 @@ fn take_out(waiting: &mut VecDeque<u32>, hint: usize, channel: u32)
 }
 
 impl Queue {
-    /// A queue of this name with the default settings.
+    /// A queue with this name and the default settings.
     pub(crate) fn new(alloc: Global, name: Text) -> Self
         ensures { result ≡ file.queue_named name }
     {
@@ -127,7 +127,7 @@ impl Queue {
         put_setting(&mut self.settings, setting);
     }
 
-    /// The queue's name, as its section writes it.
+    /// The queue's name, as written in its section.
     pub fn name(&self) -> &Text
         ensures { result.now ≡ self.now.name }
     {
@@ -141,21 +141,21 @@ impl Queue {
         &self.settings
     }
 
-    /// The queue's members in the order in which they came.
+    /// The queue's members, in the order in which they came.
     pub fn members(&self) -> &[Member]
         ensures { result.now ≡ self.now.members }
     {
         self.members.list()
     }
 
-    /// The channels that wait, the first of them first.
+    /// The channels that wait, in order.
     pub fn waiting(&self) -> &VecDeque<u32>
         ensures { result.now.items ≡ self.now.waiting }
     {
         &self.waiting
     }
 
-    /// What a call that asks to join is told.
+    /// The result of joining.
     pub(crate) fn join_answer(&self, number: usize) -> Join
         ensures { result ≡ joining.join_answer number self.now }
     {
@@ -169,14 +169,14 @@ impl Queue {
         Join::Joined(number)
     }
 
-    /// Whether the calls that wait are to leave, since the queue is too empty.
+    /// Whether the calls that wait must leave, because the queue is too empty.
     pub(crate) fn should_leave(&self) -> bool
         ensures { result ≡ joining.refuses_stay self.now.settings.leavewhenempty self.now.members }
     {
         refuses_stay(self.settings.leavewhenempty, self.members.list())
     }
 
-    /// Adds a call after the others.
+    /// Adds a call at the end.
     pub(crate) fn push_caller(&mut self, channel: u32) -> Result<(), NoMemory>
         ensures ok { OnOk result (self.new ≡ joining.with_caller channel self.old) }
         ensures err { OnErr result (self.new ≡ self.old) }
@@ -185,7 +185,7 @@ impl Queue {
         Ok(())
     }
 
-    /// Takes a call out, by the place where it may stand.
+    /// Removes a call, given the place where it may be.
     pub(crate) fn remove_caller(&mut self, hint: usize, channel: u32)
         requires { joining.times_in channel self.old.waiting ≤ 1 }
         ensures { self.new ≡ joining.without_caller channel self.old }
@@ -193,7 +193,7 @@ impl Queue {
         take_out(&mut self.waiting, hint, channel);
     }
 
-    /// How many calls wait.
+    /// The number of calls that wait.
     pub fn waiting_count(&self) -> usize
         ensures { result ≡ length self.now.waiting }
     {
@@ -214,21 +214,21 @@ impl Queue {
         self.last = last;
     }
 
-    /// Whether the agent of a number is a member.
+    /// Whether the agent with a number is a member.
     pub(crate) fn has_member(&self, agent: usize) -> bool
         ensures { result ≡ members.has_member agent self.now }
     {
         self.members.has(agent)
     }
 
-    /// The member that is the agent of a number.
+    /// The member that is the agent with a number.
     pub(crate) fn find_member(&self, agent: usize) -> Option<Member>
         ensures { result ≡ find (members.is_agent agent) self.now.members }
     {
         self.members.find(agent)
     }
 
-    /// Adds a member after the others, whose agent is none.
+    /// Adds a member at the end. Its agent is not yet a member.
     pub(crate) fn push_member(&mut self, member: Member) -> Result<(), NoMemory>
         requires { members.has_member member.agent self.old ≡ false }
         ensures ok { OnOk result (self.new ≡ members.with_member member self.old) }
@@ -238,21 +238,21 @@ impl Queue {
         Ok(())
     }
 
-    /// Takes the member out that is the agent of a number.
+    /// Removes the member that is the agent with a number.
     pub(crate) fn remove_member(&mut self, agent: usize)
         ensures { self.new ≡ members.without_member agent self.old }
     {
         self.members.remove(agent);
     }
 
-    /// Pauses the member that is the agent of a number, or ends its pause.
+    /// Pauses or unpauses the member that is the agent with a number.
     pub(crate) fn pause(&mut self, agent: usize, is_paused: bool)
         ensures { self.new ≡ members.paused_queue agent is_paused self.old }
     {
         self.members.pause(agent, is_paused);
     }
 
-    /// Counts a finished call for the member that is the agent of a number.
+    /// Counts a finished call for the member that is the agent with a number.
     pub(crate) fn finish(&mut self, agent: usize, count: u64)
         ensures { self.new ≡ calls.finished_queue agent count self.old }
     {

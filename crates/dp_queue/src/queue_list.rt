@@ -1,4 +1,4 @@
-//! The queues of an exchange, by their numbers and by their names.
+//! The queues of an exchange, with their numbers and names.
 ghost use Rattle.std.specs.Prelude.{◌≡◌, ◌<◌, ◌≤◌, ◌++◌, ◌∷◌, [], false, None, IfSome, OnOk, OnErr, Option, ℕ, length, map, vec_len};
 ghost use Rattle.std.specs.List.{position};
 ghost use Rattle.dp_queue.specs.Calls.{finished_queue};
@@ -18,11 +18,11 @@ use dp_conf::{NoMemory, Text, same_word};
 use std::alloc::Global;
 use std::marker::Model;
 
-/// The queues in the order of the file. No two have one name, in any ASCII case.
+/// The queues, in file order. No two have the same name, in any ASCII case.
 #[derive(Drop)]
 pub(crate) struct QueueList {
     list: Vec<Queue>,
-    // Where the queues stand by the hashes of their names, so that none is looked for by a walk over them all.
+    // The places of the queues, given the hashes of their names, so that finding one does not take a walk over all of them.
     places: Places,
 }
 
@@ -38,7 +38,7 @@ impl Model for QueueList {
     ghost invariant = { λ queues. AreWorded queues.places queues.list.items };
 }
 
-/// Whether the queue of a number is of this name, in any ASCII case.
+/// Whether the queue with a number has this name, in any ASCII case.
 fn is_worded(queues: &[Queue], number: usize, name: &[u8]) -> bool
     ensures { result ≡ is_worded_at name.now queues.now number }
 {
@@ -48,7 +48,7 @@ fn is_worded(queues: &[Queue], number: usize, name: &[u8]) -> bool
     }
 }
 
-/// The number of the queue of this name, in any ASCII case.
+/// The number of the queue with this name, in any ASCII case.
 fn find_queue(queues: &[Queue], places: &Places, name: &[u8]) -> Option<usize>
     requires { AreWorded places.now queues.now }
     ensures { result ≡ spec.queue_number queues.now name.now }
@@ -63,7 +63,7 @@ fn find_queue(queues: &[Queue], places: &Places, name: &[u8]) -> Option<usize>
     None
 }
 
-/// Changes a setting of the queue of a number.
+/// Changes a setting of the queue with a number.
 fn set_at(queues: &mut Vec<Queue>, number: usize, setting: Setting)
     requires { number < vec_len queues.old }
     ensures { queues.new.items ≡ changed_at (with_queue_setting setting) number queues.old.items }
@@ -72,7 +72,7 @@ fn set_at(queues: &mut Vec<Queue>, number: usize, setting: Setting)
     queue.set(setting);
 }
 
-/// Adds a call after those that wait in the queue of a number.
+/// Adds a call at the end of those that wait in the queue with a number.
 fn push_caller_at(queues: &mut Vec<Queue>, number: usize, channel: u32) -> Result<(), NoMemory>
     requires { number < vec_len queues.old }
     ensures ok { OnOk result (queues.new.items ≡ changed_at (with_caller channel) number queues.old.items) }
@@ -82,7 +82,7 @@ fn push_caller_at(queues: &mut Vec<Queue>, number: usize, channel: u32) -> Resul
     queue.push_caller(channel)
 }
 
-/// Takes a call out of the queue of a number, by the place where it may stand.
+/// Removes a call from the queue with a number, given the place where it may be.
 fn remove_caller_at(queues: &mut Vec<Queue>, number: usize, hint: usize, channel: u32)
     requires within { number < vec_len queues.old }
     requires once { times_waiting queues.old.items channel ≤ 1 }
@@ -92,7 +92,7 @@ fn remove_caller_at(queues: &mut Vec<Queue>, number: usize, hint: usize, channel
     queue.remove_caller(hint, channel);
 }
 
-/// Adds a member to the queue of a number, in which its agent is none.
+/// Adds a member to the queue with a number. Its agent is not yet a member there.
 fn push_member_at(queues: &mut Vec<Queue>, number: usize, member: Member) -> Result<(), NoMemory>
     requires within { number < vec_len queues.old }
     requires absent { is_member_at queues.old.items number member.agent ≡ false }
@@ -103,7 +103,7 @@ fn push_member_at(queues: &mut Vec<Queue>, number: usize, member: Member) -> Res
     queue.push_member(member)
 }
 
-/// Takes the member that is the agent of a number out of a queue.
+/// Removes the member that is the agent with a number from a queue.
 fn remove_member_at(queues: &mut Vec<Queue>, number: usize, agent: usize)
     requires { number < vec_len queues.old }
     ensures { queues.new.items ≡ changed_at (without_member agent) number queues.old.items }
@@ -112,7 +112,7 @@ fn remove_member_at(queues: &mut Vec<Queue>, number: usize, agent: usize)
     queue.remove_member(agent);
 }
 
-/// Pauses the agent of a number in a queue, or ends its pause.
+/// Pauses or unpauses the agent with a number in a queue.
 fn pause_at(queues: &mut Vec<Queue>, number: usize, agent: usize, is_paused: bool)
     requires { number < vec_len queues.old }
     ensures { queues.new.items ≡ changed_at (paused_queue agent is_paused) number queues.old.items }
@@ -121,7 +121,7 @@ fn pause_at(queues: &mut Vec<Queue>, number: usize, agent: usize, is_paused: boo
     queue.pause(agent, is_paused);
 }
 
-/// Pauses the agent of a number in all queues of a slice, or ends its pauses.
+/// Pauses or unpauses the agent with a number in all queues of a slice.
 fn pause_each(queues: &mut [Queue], agent: usize, is_paused: bool)
     ensures { queues.new ≡ map (paused_queue agent is_paused) queues.old }
 {
@@ -130,14 +130,14 @@ fn pause_each(queues: &mut [Queue], agent: usize, is_paused: bool)
     }
 }
 
-/// Pauses the agent of a number in all queues, or ends its pauses.
+/// Pauses or unpauses the agent with a number in all queues.
 fn pause_all(queues: &mut Vec<Queue>, agent: usize, is_paused: bool)
     ensures { queues.new.items ≡ map (paused_queue agent is_paused) queues.old.items }
 {
     pause_each(queues, agent, is_paused);
 }
 
-/// Counts a finished call for the member of a queue that is the agent of a number.
+/// Counts a finished call for the member of a queue that is the agent with a number.
 fn finish_at(queues: &mut Vec<Queue>, number: usize, agent: usize, count: u64)
     requires { number < vec_len queues.old }
     ensures { queues.new.items ≡ changed_at (finished_queue agent count) number queues.old.items }
@@ -146,7 +146,7 @@ fn finish_at(queues: &mut Vec<Queue>, number: usize, agent: usize, count: u64)
     queue.finish(agent, count);
 }
 
-/// Lets a queue remember the agent that `rrmemory` chose.
+/// Remembers in a queue the agent that `rrmemory` chose.
 fn set_last_at(queues: &mut Vec<Queue>, number: usize, last: Option<usize>)
     requires { number < vec_len queues.old }
     ensures { queues.new.items ≡ changed_at (with_last last) number queues.old.items }
@@ -156,7 +156,7 @@ fn set_last_at(queues: &mut Vec<Queue>, number: usize, last: Option<usize>)
 }
 
 impl QueueList {
-    /// No queues. It never allocates.
+    /// Without queues. It never allocates.
     pub(crate) fn new(alloc: Global) -> Self
         ensures { result ≡ [] }
     {
@@ -173,7 +173,7 @@ impl QueueList {
         &self.list
     }
 
-    /// The number of the queue of this name, in any ASCII case.
+    /// The number of the queue with this name, in any ASCII case.
     pub(crate) fn number_of(&self, name: &[u8]) -> Option<usize>
         ensures number { result ≡ spec.queue_number self.now name.now }
         ensures within { IfSome result (λ number. number < length self.now) }
@@ -181,7 +181,7 @@ impl QueueList {
         find_queue(&self.list, &self.places, name)
     }
 
-    /// Adds a queue with the default settings, of a name that no queue has. After a refused growth all is as before.
+    /// Adds a queue with the default settings and a name that no queue has. If memory runs out nothing changes.
     pub(crate) fn push(&mut self, alloc: Global, name: &[u8]) -> Result<(), NoMemory>
         requires { spec.queue_number self.old name.now ≡ None }
         ensures ok { OnOk result (self.new ≡ self.old ++ queue_named name.now ∷ []) }
@@ -194,7 +194,7 @@ impl QueueList {
         Ok(())
     }
 
-    /// Changes a setting of the queue of a number.
+    /// Changes a setting of the queue with a number.
     pub(crate) fn set(&mut self, number: usize, setting: Setting)
         requires { number < length self.old }
         ensures { self.new ≡ changed_at (with_queue_setting setting) number self.old }
@@ -202,7 +202,7 @@ impl QueueList {
         set_at(&mut self.list, number, setting);
     }
 
-    /// Adds a call after those that wait in the queue of a number.
+    /// Adds a call at the end of those that wait in the queue with a number.
     pub(crate) fn push_caller(&mut self, number: usize, channel: u32) -> Result<(), NoMemory>
         requires { number < length self.old }
         ensures ok { OnOk result (self.new ≡ changed_at (with_caller channel) number self.old) }
@@ -212,7 +212,7 @@ impl QueueList {
         Ok(())
     }
 
-    /// Takes a call out of the queue of a number, by the place where it may stand.
+    /// Removes a call from the queue with a number, given the place where it may be.
     pub(crate) fn remove_caller(&mut self, number: usize, hint: usize, channel: u32)
         requires within { number < length self.old }
         requires once { times_waiting self.old channel ≤ 1 }
@@ -221,7 +221,7 @@ impl QueueList {
         remove_caller_at(&mut self.list, number, hint, channel);
     }
 
-    /// Adds a member to the queue of a number, in which its agent is none.
+    /// Adds a member to the queue with a number. Its agent is not yet a member there.
     pub(crate) fn push_member(&mut self, number: usize, member: Member) -> Result<(), NoMemory>
         requires within { number < length self.old }
         requires absent { is_member_at self.old number member.agent ≡ false }
@@ -232,7 +232,7 @@ impl QueueList {
         Ok(())
     }
 
-    /// Takes the member that is the agent of a number out of a queue.
+    /// Removes the member that is the agent with a number from a queue.
     pub(crate) fn remove_member(&mut self, number: usize, agent: usize)
         requires { number < length self.old }
         ensures { self.new ≡ changed_at (without_member agent) number self.old }
@@ -240,7 +240,7 @@ impl QueueList {
         remove_member_at(&mut self.list, number, agent);
     }
 
-    /// Pauses the agent of a number in a queue, or ends its pause.
+    /// Pauses or unpauses the agent with a number in a queue.
     pub(crate) fn pause(&mut self, number: usize, agent: usize, is_paused: bool)
         requires { number < length self.old }
         ensures { self.new ≡ changed_at (paused_queue agent is_paused) number self.old }
@@ -248,14 +248,14 @@ impl QueueList {
         pause_at(&mut self.list, number, agent, is_paused);
     }
 
-    /// Pauses the agent of a number in all queues, or ends its pauses.
+    /// Pauses or unpauses the agent with a number in all queues.
     pub(crate) fn pause_all(&mut self, agent: usize, is_paused: bool)
         ensures { self.new ≡ map (paused_queue agent is_paused) self.old }
     {
         pause_all(&mut self.list, agent, is_paused);
     }
 
-    /// Counts a finished call for the member of a queue that is the agent of a number.
+    /// Counts a finished call for the member of a queue that is the agent with a number.
     pub(crate) fn finish(&mut self, number: usize, agent: usize, count: u64)
         requires { number < length self.old }
         ensures { self.new ≡ changed_at (finished_queue agent count) number self.old }
@@ -263,7 +263,7 @@ impl QueueList {
         finish_at(&mut self.list, number, agent, count);
     }
 
-    /// Lets a queue remember the agent that `rrmemory` chose.
+    /// Remembers in a queue the agent that `rrmemory` chose.
     pub(crate) fn set_last(&mut self, number: usize, last: Option<usize>)
         requires { number < length self.old }
         ensures { self.new ≡ changed_at (with_last last) number self.old }

@@ -1,4 +1,4 @@
-//! The queues of an exchange with their agents.
+//! The queues of an exchange and their agents.
 ghost use Rattle.std.specs.Prelude.{◌≡◌, ◌<◌, ℕ, List, length, IfSome};
 ghost use Rattle.dp_queue.specs.Good.{IsGood};
 ghost use Rattle.dp_queue.specs.Counted.{counts_of};
@@ -16,12 +16,13 @@ use std::marker::Model;
 
 /// The queues of an exchange, with the agents that are their members and the count of finished calls.
 ///
-/// A contract sees the queues in the order of the file, the agents in the order in which they were first named, which
-/// are never dropped, and the count of finished calls of all queues, which stays at its greatest value.
+/// A contract sees the queues in file order, the agents in the order in which they were first named, which are never
+/// dropped, and the count of finished calls of all queues, which stays at its greatest value.
 pub struct Queues {
     pub(crate) queues: QueueList,
     pub(crate) agents: Agents,
-    // Where each channel waits, or with which agent it talks, so that no call walks over all waiting lists or all agents.
+    // The queue in which each channel waits, or the agent with which it talks, so that no call walks over all waiting
+    // lists or all agents.
     pub(crate) seats: Seats,
     pub(crate) finished: u64,
 }
@@ -51,28 +52,28 @@ impl Model for Queues {
 }
 
 impl Queues {
-    /// The queues in the order of the file; the number of a queue is its place.
+    /// The queues, in file order; the number of a queue is its place.
     pub fn queues(&self) -> &[Queue]
         ensures { result.now ≡ self.now.queues }
     {
         self.queues.list()
     }
 
-    /// The agents in the order in which they were first named; the number of an agent is its place.
+    /// The agents, in the order in which they were first named; the number of an agent is its place.
     pub fn agents(&self) -> &[Agent]
         ensures { result.now ≡ self.now.agents }
     {
         self.agents.list()
     }
 
-    /// How many calls of all queues are finished.
+    /// The number of finished calls of all queues.
     pub fn finished(&self) -> u64
         ensures { result ≡ self.now.finished }
     {
         self.finished
     }
 
-    /// The number of the queue of this name, in any ASCII case.
+    /// The number of the queue with this name, in any ASCII case.
     pub fn number_of(&self, queue: &[u8]) -> Option<usize>
         ensures number { result ≡ spec.queue_number self.now.queues queue.now }
         ensures within { IfSome result (λ number. number < length self.now.queues) }
@@ -90,10 +91,10 @@ impl Queues {
         }
     }
 
-    /// What is known of all queues: a channel waits at most once; the channel of an agent that rings waits in the queue
-    /// that the agent names; one that an agent talks with waits nowhere, and the queue that the agent names is one of the
-    /// queues; no two agents talk with one channel; each member of a queue is one of the agents; no agent is a member of
-    /// one queue twice; and no two agents have one name. It does nothing.
+    /// States what is known of all queues: a channel waits at most once; the channel for which an agent rings waits in
+    /// the queue of the agent's state; a channel with which an agent talks waits nowhere, and the queue of the agent's
+    /// state is one of the queues; no two agents talk with the same channel; each member of a queue is one of the
+    /// agents; no agent is a member of a queue twice; and no two agents have the same name. It does nothing.
     pub fn show_good(&self)
         ensures { IsGood self.now }
     {

@@ -13,8 +13,8 @@ use dp_conf::{FirstFault, Line, NoMemory, TakeLine, beside, take_lines};
 use std::alloc::Global;
 use std::marker::Model;
 
-/// What the lines so far have made, until one of them has a fault, which is kept aside. A contract sees it as what was
-/// made or the fault.
+/// The result of the lines so far, until one of them has a fault, which is kept. A contract sees it as the result or
+/// the fault.
 #[derive(Drop)]
 struct QueuesLoading {
     file: File,
@@ -33,7 +33,7 @@ impl Model for QueuesLoading {
 }
 
 impl QueuesLoading {
-    /// Before the first line.
+    /// The value before the first line.
     fn new(alloc: Global) -> Self
         ensures { result ≡ Ok spec.unread }
     {
@@ -43,7 +43,7 @@ impl QueuesLoading {
         }
     }
 
-    /// What the lines have made, or the fault that was kept aside.
+    /// The result of the lines, or the kept fault.
     fn into_file(self) -> Result<File, QueueFault>
         ensures { Answers (λ file. file) reason_of result self }
     {
@@ -58,7 +58,7 @@ impl TakeLine for QueuesLoading {
 
     ghost after_line = { after_one };
 
-    // The lines after one with a fault are read as lines alone, for a fault of the text.
+    // The lines after one with a fault are read only for a fault of the text.
     fn take(&mut self, alloc: Global, line: Line<'_>) -> Result<(), NoMemory> {
         if self.fault.is_kept() {
             return Ok(());
@@ -68,7 +68,7 @@ impl TakeLine for QueuesLoading {
     }
 }
 
-/// What the lines of a text make: a fault of the text comes before those of queues.
+/// The result of the lines of a text: a fault of the text comes before those of queues.
 fn read_file(alloc: Global, text: &[u8]) -> Result<File, QueueFault>
     ensures { Answers (λ file. file) reason_of result (file_of text.now) }
 {
@@ -80,10 +80,11 @@ fn read_file(alloc: Global, text: &[u8]) -> Result<File, QueueFault>
 impl Queues {
     /// Loads the queues of a file.
     ///
-    /// A section is a queue, and `[general]` in any ASCII case is ignored. A repeated key takes its last value, but each
-    /// `member` adds a member, unless it is one already. A fault of the text is answered first, as `QueueFault::Conf`;
-    /// then the fault of the first faulty line of a queue, as `QueueFault::Queue`: see
-    /// [`QueueKind`](crate::QueueKind). Nobody waits in the queues, and their agents are idle.
+    /// A section is a queue, and `[general]` in any ASCII case is ignored. A repeated key takes its last value, but
+    /// each `member` adds a member, unless it is one already. The error is `QueueFault::Conf` if the text itself has a
+    /// fault; else it is the fault of the first faulty line of a queue, as `QueueFault::Queue`: see
+    /// [`QueueKind`](crate::QueueKind). It is `NoMemory` if memory runs out. No calls wait in the queues, and their
+    /// agents are idle.
     pub fn load(alloc: Global, text: &[u8]) -> Result<Self, QueueFault>
         ensures loaded { Answers (λ queues. queues) reason_of result (spec.queues_in text.now) }
         ensures rest { IfOk result IsAtRest }

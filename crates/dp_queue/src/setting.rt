@@ -1,4 +1,4 @@
-//! What the keys of a queue's section say of its settings, after the Asterisk documentation's page on the file of queues.
+//! The settings in a queue's section, given its keys, after the Asterisk documentation's page on the file of queues.
 ghost use Rattle.std.specs.Prelude.{◌≡◌};
 ghost use Rattle.dp_conf.specs.Answers.{Answers};
 ghost use Rattle.dp_queue.specs.Faults as faults;
@@ -10,10 +10,10 @@ use crate::settings::{EmptyRule, Settings, Strategy};
 use dp_conf::{FaultyLine, TakeFault, Text, read_number, same_word};
 use std::alloc::Global;
 
-/// The greatest number that a file of queues may have.
+/// The greatest number in a file of queues.
 const MOST_NUMBER: u32 = 2_147_483_647;
 
-/// What a pair says of the settings of its queue.
+/// The setting of a pair in a queue's section.
 #[derive(Drop)]
 pub(crate) enum Setting {
     /// `strategy`.
@@ -26,7 +26,7 @@ pub(crate) enum Setting {
     LeavesBy(EmptyRule),
     /// `context`.
     DigitsIn(Text),
-    /// A key of another name.
+    /// Any other key.
     Ignored,
 }
 
@@ -43,7 +43,7 @@ pub(crate) fn at_line<T: Drop>(
     }
 }
 
-/// The number that a text writes, from 0 to 2,147,483,647.
+/// The number, from 0 to 2,147,483,647, that a text writes.
 pub(crate) fn read_limited(text: &[u8]) -> Result<u32, QueueKind>
     ensures { result ≡ spec.number_in text.now }
 {
@@ -58,14 +58,14 @@ pub(crate) fn read_limited(text: &[u8]) -> Result<u32, QueueKind>
     }
 }
 
-/// Whether a strategy is one that this program leaves out.
+/// Whether a strategy is one that this program does not support.
 fn is_left_out(value: &[u8]) -> bool
     ensures { result ≡ spec.is_left_out value.now }
 {
     same_word(value, b"random") || same_word(value, b"wrandom") || same_word(value, b"rrordered")
 }
 
-/// The strategy of a name, in any ASCII case.
+/// The strategy with a name, in any ASCII case.
 fn read_strategy(value: &[u8]) -> Result<Strategy, QueueKind>
     ensures { result ≡ spec.strategy_of value.now }
 {
@@ -90,7 +90,7 @@ fn read_strategy(value: &[u8]) -> Result<Strategy, QueueKind>
     Err(QueueKind::BadStrategy)
 }
 
-/// When a queue is too empty, by a word in any ASCII case.
+/// The rule that says when a queue is too empty, given a word in any ASCII case.
 fn read_rule(value: &[u8]) -> Result<EmptyRule, QueueKind>
     ensures { result ≡ spec.rule_of value.now }
 {
@@ -109,7 +109,7 @@ fn read_rule(value: &[u8]) -> Result<EmptyRule, QueueKind>
     Err(QueueKind::LeftOut)
 }
 
-/// What a pair says of the settings of its queue. It allocates only for `context`.
+/// The setting of a pair in a queue's section. It allocates only for `context`.
 #[tactic(auto, unfolding(crate::specs::Keys::setting_of))]
 pub(crate) fn read_setting(
     alloc: Global,

@@ -1,31 +1,31 @@
 //! The settings of a queue, after the Asterisk documentation's page on queues.
 use dp_conf::Text;
 
-/// Which of its members a queue offers a call to.
+/// The strategy by which a queue chooses the members to which it offers a call.
 #[derive(Clone, Copy, Debug, PartialEq, Eq)]
 pub enum Strategy {
-    /// All of them.
+    /// All members.
     RingAll,
-    /// The first, anew at each offer (a choice of this program).
+    /// The first member, chosen anew at each offer (a choice of this program).
     Linear,
-    /// The one whose last call of the queue is finished for the longest time.
+    /// The member whose last finished call of the queue is the longest ago.
     LeastRecent,
-    /// The one with the fewest finished calls of the queue.
+    /// The member with the fewest finished calls of the queue.
     FewestCalls,
-    /// The first after the one that was chosen last, going round.
+    /// The first member after the one that was chosen last, wrapping around.
     RrMemory,
 }
 
-/// When a queue is too empty to be joined, or to be stayed in.
+/// The rule that says when a queue is too empty to join, or to stay in.
 #[derive(Clone, Copy, Debug, PartialEq, Eq)]
 pub enum EmptyRule {
-    /// `joinempty=yes`: never. `leavewhenempty=yes`: where no member is without a pause.
+    /// `joinempty=yes`: never. `leavewhenempty=yes`: if there is no unpaused member.
     Yes,
-    /// `joinempty=no`: where no member is without a pause. `leavewhenempty=no`: never.
+    /// `joinempty=no`: if there is no unpaused member. `leavewhenempty=no`: never.
     No,
-    /// Where no member is without a pause, since the states of devices are not known here (a choice of this program).
+    /// If there is no unpaused member, because the states of devices are not known here (a choice of this program).
     Strict,
-    /// Where there is no member.
+    /// If there is no member.
     Loose,
 }
 
@@ -33,10 +33,10 @@ pub enum EmptyRule {
 #[derive(Debug, PartialEq, Eq, Drop)]
 pub struct Settings {
     pub strategy: Strategy,
-    /// How many calls wait at most; 0 is no limit.
+    /// The greatest number of calls that wait; 0 is no limit.
     pub maxlen: u32,
     pub joinempty: EmptyRule,
     pub leavewhenempty: EmptyRule,
-    /// The context in which a digit of a waiting call is looked up; empty where there is none.
+    /// The context in which a digit of a waiting call is looked up; empty if there is none.
     pub context: Text,
 }

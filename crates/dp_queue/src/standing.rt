@@ -1,4 +1,4 @@
-//! Queues that are none, and the call that an agent talks with.
+//! An exchange without queues, and the call with which an agent talks.
 ghost use Rattle.std.specs.Prelude.{◌≡◌};
 ghost use Rattle.dp_queue.specs.Calls as calls;
 ghost use Rattle.dp_queue.specs.Queues.{no_queues};
@@ -13,7 +13,7 @@ use crate::waiting_seat::Seats;
 use std::alloc::Global;
 
 impl Queues {
-    /// No queues and no agents. It never allocates.
+    /// An exchange without queues and agents. It never allocates.
     pub fn none(alloc: Global) -> Self
         ensures none { result ≡ no_queues }
         ensures rest { IsAtRest result }
@@ -26,7 +26,7 @@ impl Queues {
         }
     }
 
-    /// The call that [`Queues::done`] of the agent of this interface would end; None where the agent does not talk.
+    /// The call that [`Queues::done`] would end for the agent with this interface, or None if the agent does not talk.
     pub fn talk_of(&self, agent: &[u8]) -> Option<Call>
         ensures { result ≡ (calls.done_row self.now agent.now).1 }
     {

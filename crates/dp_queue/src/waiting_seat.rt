@@ -1,5 +1,5 @@
-//! Where each channel waits, or with which agent it talks, so that it is found without a walk over the queues or the agents.
-//! The seats take room by how many channels wait or talk, and not by their numbers.
+//! The queue in which each channel waits, or the agent with which it talks, found without a walk over the queues or the agents. The memory
+//! for the seats depends on the number of channels that wait or talk, and not on their numbers.
 ghost use Rattle.std.specs.HashMap.{spare};
 ghost use Rattle.std.specs.Prelude.{◌≡◌, ◌<◌, ℕ, OnOk, None, Some, IsSome};
 ghost use Rattle.dp_queue.specs.steps.Seats as spec;
@@ -8,26 +8,26 @@ use crate::member::one_more;
 use dp_conf::NoMemory;
 use std::collections::{HashMap, VecDeque};
 
-/// The number of the queue in which a channel waits, and how many agents ring for it.
+/// The number of the queue in which a channel waits, and the number of agents that ring for it.
 #[derive(Clone, Copy, PartialEq, Eq)]
 pub(crate) struct WaitingSeat {
     pub(crate) queue: usize,
     pub(crate) rung: usize,
 }
 
-/// What a channel does.
+/// The activity of a channel.
 #[derive(Clone, Copy, PartialEq, Eq)]
 pub(crate) enum Sitting {
-    /// It waits, with the rank of its arrival: of the channels that wait in one queue, each has more than those before it.
+    /// It waits, with the rank of its arrival: among the channels that wait in one queue, each has a greater rank than those before it.
     Waits { seat: WaitingSeat, arrival: u64 },
-    /// It talks with the agent of this number.
+    /// It talks with the agent with this number.
     Talks { agent: usize },
 }
 
-/// The seats of the channels that wait or talk, by the numbers of the channels.
+/// The seats of the channels that wait or talk, given their numbers.
 pub(crate) type Seats = HashMap<u32, Sitting>;
 
-/// The seat of a channel that waits.
+/// The seat of a waiting channel.
 pub(crate) fn seat_at(seats: &Seats, channel: u32) -> Option<WaitingSeat>
     ensures { result ≡ spec.seat_at seats.now channel }
 {
@@ -37,7 +37,7 @@ pub(crate) fn seat_at(seats: &Seats, channel: u32) -> Option<WaitingSeat>
     }
 }
 
-/// How many agents ring for a channel that waits; 0 for one that does not.
+/// The number of agents that ring for a waiting channel; 0 if it does not wait.
 pub(crate) fn rung_at(seats: &Seats, channel: u32) -> usize
     ensures { result ≡ spec.rung_at seats.now channel }
 {
@@ -47,7 +47,7 @@ pub(crate) fn rung_at(seats: &Seats, channel: u32) -> usize
     }
 }
 
-/// The rank of a channel's arrival; 0 where it does not wait.
+/// The rank of a channel's arrival; 0 if it does not wait.
 fn arrival_of(seats: &Seats, channel: u32) -> u64
     ensures { result ≡ spec.arrival_of seats.now channel }
 {
@@ -67,7 +67,7 @@ pub(crate) fn talk_at(seats: &Seats, channel: u32) -> Option<usize>
     }
 }
 
-/// The rank of the next arrival after those who wait.
+/// The rank of the next arrival after the waiting channels.
 pub(crate) fn next_arrival(seats: &Seats, waiting: &VecDeque<u32>) -> u64 {
     match waiting.back() {
         Some(last) => one_more(arrival_of(seats, *last)),
@@ -75,13 +75,13 @@ pub(crate) fn next_arrival(seats: &Seats, waiting: &VecDeque<u32>) -> u64 {
     }
 }
 
-/// Where a channel stands that waits, found by halves, since the arrivals rise along the list.
+/// The place of a waiting channel, found by binary search, because the arrivals rise along the list.
 pub(crate) fn place_by_arrival(seats: &Seats, waiting: &VecDeque<u32>, channel: u32) -> usize {
     let arrival = arrival_of(seats, channel);
     waiting.partition_point(|other| arrival_of(seats, *other) < arrival)
 }
 
-/// Makes room for one more seat. No seat changes.
+/// Makes room for one more seat. No seat changes. It fails only if memory runs out.
 pub(crate) fn make_room(seats: &mut Seats) -> Result<(), NoMemory>
     ensures room { OnOk result (0 < spare seats.new) }
     ensures same { (c : ℕ) → spec.seat_at seats.new c ≡ spec.seat_at seats.old c }
@@ -91,7 +91,7 @@ pub(crate) fn make_room(seats: &mut Seats) -> Result<(), NoMemory>
     Ok(())
 }
 
-/// Seats a channel, for which there is room.
+/// Adds the seat of a channel, for which there is room.
 pub(crate) fn take_seat(seats: &mut Seats, channel: u32, seat: WaitingSeat, arrival: u64)
     requires { 0 < spare seats.old }
     ensures seats { spec.ReplacesSeat channel (Some seat) seats.old seats.new }
@@ -101,7 +101,7 @@ pub(crate) fn take_seat(seats: &mut Seats, channel: u32, seat: WaitingSeat, arri
     seated.unwrap();
 }
 
-/// Changes what a channel does that has a seat. It never allocates.
+/// Changes the activity of a channel that has a seat. It never allocates.
 fn put_sitting(seats: &mut Seats, channel: u32, sitting: Sitting)
     requires { IsSome (spec.seat_at seats.old channel) }
     ensures seats { spec.ReplacesSeat channel (spec.seat_of (Some sitting)) seats.old seats.new }
@@ -122,7 +122,7 @@ pub(crate) fn put_seat(seats: &mut Seats, channel: u32, seat: WaitingSeat)
     put_sitting(seats, channel, Sitting::Waits { seat, arrival });
 }
 
-/// Lets a channel that has a seat talk with the agent of a number. It never allocates.
+/// Makes a channel that has a seat talk with the agent with a number. It never allocates.
 pub(crate) fn put_talk(seats: &mut Seats, channel: u32, agent: usize)
     requires { IsSome (spec.seat_at seats.old channel) }
     ensures seats { spec.ReplacesSeat channel None seats.old seats.new }
@@ -131,7 +131,7 @@ pub(crate) fn put_talk(seats: &mut Seats, channel: u32, agent: usize)
     put_sitting(seats, channel, Sitting::Talks { agent });
 }
 
-/// Takes the seat of a channel away, where it has one.
+/// Removes the seat of a channel, if it has one.
 pub(crate) fn leave_seat(seats: &mut Seats, channel: u32)
     ensures seats { spec.ReplacesSeat channel None seats.old seats.new }
     ensures talks { spec.ReplacesTalk channel None seats.old seats.new }

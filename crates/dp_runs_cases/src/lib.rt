@@ -6,6 +6,8 @@
 #[cfg(test)]
 mod runs;
 #[cfg(test)]
+mod test_files;
+#[cfg(test)]
 mod threads;
 #[cfg(test)]
 mod verbose;

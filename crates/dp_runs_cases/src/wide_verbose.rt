@@ -29,7 +29,7 @@ exten => s,1,NoOp()¦¦start main s\nwalk 1→fault 70 BadScript line 2
 /// All that a verbose run of these texts writes, and what it ends with after it.
 fn answer_to(alloc: Global, texts: &Texts) -> Result<String, NoMemory> {
     let mut writer = make_sink(alloc, 4096, None);
-    let ended = run_wide_verbose::<Same, _>(alloc, texts.lend(), NAMES, &mut writer);
+    let ended = run_wide_verbose::<Same, _>(alloc, texts.lend(), NAMES.places(), &mut writer);
     outcome_text(alloc, ended, writer)
 }
 

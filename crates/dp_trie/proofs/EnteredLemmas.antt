@@ -1,9 +1,8 @@
 -- How many nodes of a tree are entered is how many of the nodes of its entries are.
 use Rattle.std.proofs.Common.{◌≡◌, ◌≢◌, ℕ, zero, suc, ◌+◌, ◌<◌, ◌≤◌, min, Bool, true, false, cond, List, [], ◌∷◌, ◌++◌, length, map, take, drop, Option, Some, None, arith, refl, sym, ap, subst, ◌∙◌, inl, inr, is_eq, length-append}
-use Rattle.std.specs.Prelude.{◌==◌, ◌-◌, slice_get, slice_range, is_some}
+use Rattle.std.specs.Prelude.{◌-◌, slice_get, slice_range, is_some}
 use Rattle.std.specs.List.{find, AllByRecursion}
 use Rattle.std.specs.Option.{option_map, option_or}
-use Rattle.std.proofs.lemmas.Bool.{eqb-true}
 use Rattle.std.proofs.lemmas.List.{length-take, length-drop}
 use Rattle.std.proofs.lemmas.List.Sums.{sum_by-append}
 use Rattle.std.proofs.lemmas.List.Folds.{find-append}
@@ -389,9 +388,9 @@ module _ (more : Bool) (wanted : Wanted) (digits : List ℕ) (plain held : List 
       by (Some k) e = absurd cc
 
 -- where there are no nodes, none is entered
-pub none-entered_count : (more : Bool) (wanted : Wanted) (digits : List ℕ) (held : List HeldEntry) (nodes : List Node) → (length nodes == 0) ≡ true → 0 ≡ entered_count more wanted digits (known_from held [] nodes)
+pub none-entered_count : (more : Bool) (wanted : Wanted) (digits : List ℕ) (held : List HeldEntry) (nodes : List Node) → length nodes ≡ 0 → 0 ≡ entered_count more wanted digits (known_from held [] nodes)
 none-entered_count more wanted digits held [] none = refl
-none-entered_count more wanted digits held (node ∷ nodes) none = (let wrong = eqb-true (length (node ∷ nodes)) 0 none in absurd (omega (arith, wrong)))
+none-entered_count more wanted digits held (node ∷ nodes) none = absurd (omega (arith, none))
 
 -- ---- contexts one after another
 

@@ -6,7 +6,7 @@ use Rattle.std.specs.List.Sorted.{IsPartitionedBy}
 use Rattle.std.specs.Option.{option_map, option_or}
 use Rattle.std.specs.Ordering.{is_lt, ordering_then}
 use Rattle.std.specs.Cmp.Lexicographic.{pointwise, slice_cmp}
-use Rattle.std.proofs.lemmas.Bool.{eq-eqb, ne_eqb, eqb-true, eqb-false, cases_order}
+use Rattle.std.proofs.lemmas.Bool.{eq-eqb, ne_eqb, eqb-false, cases_order}
 use Rattle.std.proofs.lemmas.Cmp.{ranked}
 use Rattle.std.proofs.lemmas.List.{length-take, length-drop, take-append-drop}
 use Rattle.std.proofs.lemmas.List.Folds.{find-append}
@@ -372,9 +372,9 @@ module _ (test : Known → Bool) (first rest : List Known) where
       by (Some k) e = absurd cc
 
 -- where there are no nodes, nothing is found below them
-pub no-nodes : (test : Known → Bool) (held : List HeldEntry) (nodes : List Node) → (length nodes == 0) ≡ true → find test (known_from held [] nodes) ≡ None
+pub no-nodes : (test : Known → Bool) (held : List HeldEntry) (nodes : List Node) → length nodes ≡ 0 → find test (known_from held [] nodes) ≡ None
 no-nodes test held [] none = refl
-no-nodes test held (node ∷ nodes) none = (let wrong = eqb-true (length (node ∷ nodes)) 0 none in absurd (omega (arith, wrong)))
+no-nodes test held (node ∷ nodes) none = absurd (omega (arith, none))
 
 -- what is found has at most so many classes
 abbrev pub HasAtMost : Option Known → ℕ → Type 0

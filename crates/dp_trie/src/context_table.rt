@@ -1,16 +1,12 @@
 //! The data kept of one context: its plain names, the tree of its patterns, and the table of its labels.
-ghost use Rattle.std.specs.Prelude.{◌≡◌, ◌≤◌, [], ◌++◌, false, length, map, take, drop, find, MatchOption, IsTrue, IsFalse, IfOk};
+ghost use Rattle.std.specs.Prelude.{◌≡◌, ◌≤◌, false, length, map, take, drop, find, MatchOption, IsTrue, IsFalse, IfOk};
 ghost use Rattle.std.specs.List.{AllByRecursion};
 ghost use Rattle.std.specs.Option.{option_map};
 ghost use Rattle.dp_pattern.specs.Dashes.{without_dashes};
 ghost use Rattle.dp_trie.specs.Asked.{is_more, wants, is_asked, has_label, hit_of};
-ghost use Rattle.dp_trie.specs.Entered.{entered_count, StandOnce};
+ghost use Rattle.dp_trie.specs.Entered.{entered_count};
 ghost use Rattle.dp_trie.specs.Known.{KeepsEntries, class_count, most_nodes};
-ghost use Rattle.dp_trie.specs.steps.Labels.{AreLabels};
-ghost use Rattle.dp_trie.specs.steps.Leaps.{AreLeaps};
-ghost use Rattle.dp_trie.specs.Names.{known_plain, ArePlainRanges};
 ghost use Rattle.dp_trie.specs.steps.Ranked.{known_now, IsPattern, IsPlain, ArePlainFirst, AreInOrder};
-ghost use Rattle.dp_trie.specs.Tree.{known_from, IsTree};
 
 use crate::build::build_nodes;
 use crate::digits::Digits;
@@ -21,7 +17,7 @@ use crate::link::link;
 use crate::node::{HeldEntry, Node};
 use crate::plain::{PlainName, find_plain, plain_names};
 use crate::ranked::{Ranked, hold_all, name_of, rank};
-use crate::walk::{Counted, find_in_tree};
+use crate::walk::{Counted, Tree};
 use dp_lookup::{Dialplan, NoMemory};
 use dp_pattern::{Name, Parts};
 use std::alloc::Global;
@@ -122,51 +118,6 @@ fn build_table(alloc: Global, ranked: &[Ranked<'_>]) -> Result<ContextTable, NoM
     })
 }
 
-/// The first entry that the question asks for: first among the plain names, then in the tree.
-fn find_in_parts(
-    names: &[PlainName],
-    plain: &[HeldEntry],
-    nodes: &[Node],
-    ends: &[usize],
-    leaps: &[Leap],
-    held: &[HeldEntry],
-    question: EntryQuestion,
-    digits: &Digits<'_>,
-) -> Counted
-    requires names { ArePlainRanges (length plain.now) names.now }
-    requires order { AreInOrder (known_plain plain.now names.now) }
-    requires tree { IsTree held.now nodes.now ends.now }
-    requires leaps { AreLeaps nodes.now ends.now leaps.now }
-    requires once { StandOnce held.now nodes.now }
-    ensures hit { result.hit ≡ option_map hit_of
-        (find (is_asked (is_more question) (wants question) (without_dashes digits.now.text.now))
-        (known_plain plain.now names.now ++ known_from held.now [] nodes.now)) }
-    ensures count { result.count ≡ entered_count (is_more question) (wants question) (without_dashes digits.now.text.now)
-        (known_plain plain.now names.now ++ known_from held.now [] nodes.now) }
-    ensures most { result.count ≤ length nodes.now }
-    ensures least { MatchOption
-        (find (is_asked (is_more question) (wants question) (without_dashes digits.now.text.now))
-        (known_plain plain.now names.now ++ known_from held.now [] nodes.now))
-        (Unit {0}) (λ known. class_count known.name ≤ result.count) }
-{
-    match find_plain(names, plain, question, digits) {
-        Some(hit) => Counted {
-            hit: Some(hit),
-            count: 0,
-        },
-        None => {
-            if nodes.is_empty() {
-                Counted {
-                    hit: None,
-                    count: 0,
-                }
-            } else {
-                find_in_tree(nodes, ends, leaps, held, question, digits)
-            }
-        }
-    }
-}
-
 impl ContextTable {
     /// The data kept of the context with a number.
     pub(crate) fn build(alloc: Global, plan: &Dialplan, number: usize) -> Result<Self, NoMemory>
@@ -185,7 +136,7 @@ impl ContextTable {
         self.nodes.len()
     }
 
-    /// The first entry that the question asks for, and the number of nodes that were entered.
+    /// The first entry that the question asks for, and the number of nodes that were entered. Plain names are searched before the tree.
     pub(crate) fn find(&self, question: EntryQuestion, digits: &Digits<'_>) -> Counted
         ensures hit { result.hit ≡ option_map hit_of
             (find (is_asked (is_more question) (wants question) (without_dashes digits.now.text.now)) self.now.entries) }
@@ -196,16 +147,27 @@ impl ContextTable {
             (find (is_asked (is_more question) (wants question) (without_dashes digits.now.text.now)) self.now.entries)
             (Unit {0}) (λ known. class_count known.name ≤ result.count) }
     {
-        find_in_parts(
-            &self.names,
-            &self.plain,
-            &self.nodes,
-            &self.ends,
-            &self.leaps,
-            &self.held,
-            question,
-            digits,
-        )
+        match find_plain(&self.names, &self.plain, question, digits) {
+            Some(hit) => Counted {
+                hit: Some(hit),
+                count: 0,
+            },
+            None => {
+                if self.nodes.is_empty() {
+                    return Counted {
+                        hit: None,
+                        count: 0,
+                    };
+                }
+                let tree = Tree {
+                    nodes: &self.nodes,
+                    ends: &self.ends,
+                    leaps: &self.leaps,
+                    held: &self.held,
+                };
+                tree.find(question, digits)
+            }
+        }
     }
 
     /// The priority of the first entry that matches and has the label.

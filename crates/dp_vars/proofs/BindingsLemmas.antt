@@ -1,10 +1,10 @@
--- The bindings of a name at depths that fall.
+-- The bindings of a name at falling depths.
 use Rattle.std.proofs.Common.{◌≡◌, ◌≢◌, ◌<◌, ◌≤◌, ◌⊎◌, inl, inr, ℕ, suc, Bool, true, false, cond, eqb, List, [], ◌∷◌, Some, None, refl, sym, ap, subst, ◌∙◌, true≢false, arith}
 use Rattle.std.proofs.lemmas.Bool.Decides.{eqb_tells}
 use Rattle.dp_vars.specs.steps.Bindings.{Falls, with_binding, bound_below, depth_of, find, rebound, unbound}
 use Rattle.dp_vars.specs.declared.binding_stack.Binding.{Binding}
 
--- depths that differ are told apart
+-- different depths are not equal
 pub other : (m n : ℕ) → m ≢ n → eqb m n ≡ false
 other m n differ = by (eqb_tells m n)
   where
@@ -12,7 +12,7 @@ other m n differ = by (eqb_tells m n)
     by (inl p) = absurd (differ p.1)
     by (inr p) = p.0
 
--- what is unbound at a depth stays at each other
+-- removing a binding at a depth keeps those at other depths
 pub find-unbound : (d e : ℕ) (bs : List Binding) → e ≢ d → find e (unbound d bs) ≡ find e bs
 find-unbound d e [] differ = refl
 find-unbound d e (b ∷ bs) differ = by (eqb_tells b.depth d)
@@ -24,7 +24,7 @@ find-unbound d e (b ∷ bs) differ = by (eqb_tells b.depth d)
         ∙ ap (λ c. cond c (Some b.value) (find e bs)) (sym (other b.depth e (λ is. differ (sym is ∙ p.1))))
     by (inr p) = ap (λ c. find e (cond c bs (b ∷ bs))) p.0
 
--- what is bound at a depth is found there
+-- a value bound at a depth is found there
 pub find-with_binding : (d e : ℕ) (value : List ℕ) (bs : List Binding) → find e (with_binding d value bs) ≡ cond (eqb d e) (Some value) (find e bs)
 find-with_binding d e value bs = by (eqb_tells d e)
   where
@@ -35,14 +35,14 @@ find-with_binding d e value bs = by (eqb_tells d e)
         ∙ sym (ap (λ c. cond c (Some value) (find e bs)) p.0)
     by (inr p) = ap (cond (eqb d e) (Some value)) (find-unbound d e bs (λ is. p.1 (sym is)))
 
--- nothing is bound above where the depths fall from
+-- nothing is bound at the depth from which the depths fall, or above
 pub find-none : (limit e : ℕ) (bs : List Binding) → Falls limit bs → limit ≤ e → find e bs ≡ None
 find-none limit e [] falls above = refl
 find-none limit e (b ∷ bs) falls above =
     ap (λ c. cond c (Some b.value) (find e bs)) (other b.depth e (λ is. omega (arith, falls.0)))
     ∙ find-none b.depth e bs falls.1 (omega (arith, falls.0))
 
--- the innermost is below where the depths fall from
+-- the innermost binding is below the depth from which the depths fall
 pub depth_of_below : (limit : ℕ) (bs : List Binding) → Falls limit bs → 0 < limit → depth_of bs < limit
 depth_of_below limit [] falls some = some
 depth_of_below limit (b ∷ bs) falls some = falls.0
@@ -52,7 +52,7 @@ swapped true true x y z apart = ap (λ c. cond c y x) (sym (apart refl))
 swapped true false x y z apart = refl
 swapped false b x y z apart = refl
 
--- a depth that is one is not another below it
+-- a depth equal to one is not equal to another below it
 apart : (m n e : ℕ) → m < n → eqb n e ≡ true → eqb m e ≡ false
 apart m n e below is = by (eqb_tells n e)
   where
@@ -60,7 +60,7 @@ apart m n e below is = by (eqb_tells n e)
     by (inl p) = other m e (λ same. omega (arith, p.1))
     by (inr p) = absurd (true≢false (sym is ∙ p.0))
 
--- what is bound below a depth
+-- a value bound below a depth
 pub find-bound_below : (limit d e : ℕ) (value : List ℕ) (bs : List Binding) → Falls limit bs → 0 < d
     → find e (bound_below d value bs) ≡ cond (eqb (depth_of (unbound d bs)) e) (Some value) (find e bs)
 find-bound_below limit d e value [] falls some = refl
@@ -81,7 +81,7 @@ find-bound_below limit d e value (b ∷ bs) falls some = by (eqb_tells b.depth d
         ∙ find-with_binding b.depth e value (b ∷ bs)
         ∙ ap (λ c. cond (eqb (depth_of (cond c bs (b ∷ bs))) e) (Some value) (find e (b ∷ bs))) (sym p.0)
 
--- depths fall from further in too
+-- depths also fall from a depth further in
 pub falls_under : (m n : ℕ) (bs : List Binding) → m ≤ n → Falls m bs → Falls n bs
 falls_under m n [] below falls = tt
 falls_under m n (b ∷ bs) below falls = ((omega (arith, falls.0)), falls.1)

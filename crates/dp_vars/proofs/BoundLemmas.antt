@@ -1,4 +1,4 @@
--- What a store knows of its bindings.
+-- The bindings of a store.
 use Rattle.std.proofs.Common.{◌≡◌, ◌≢◌, ◌<◌, ◌⊎◌, inl, inr, ◌+◌, ℕ, zero, suc, Bool, true, false, cond, eqb, List, [], ◌∷◌, ◌++◌, refl, sym, ap, subst, ◌∙◌, nat_eq, not, length, take, fold, eq-eqb, get_or, set as set_item, arith}
 use Rattle.std.specs.List.{position_or_len}
 use Rattle.std.specs.Cmp.Lexicographic.{pointwise}
@@ -22,7 +22,7 @@ stack_at-number (e ∷ es) name = by (pointwise nat_eq name e.0) (position_or_le
     by true n rest = refl
     by false n rest = ap (stack_at (e ∷ es)) (one_more n) ∙ rest
 
--- what is true of the bindings at each number stays true where those of a name are others
+-- what holds of the bindings at each number still holds after those of a name are replaced
 pub with_stack-keeps : (P : ℕ → List Binding → Type 0) (es : Entries) (name : List ℕ) (bs : List Binding) → ((i : ℕ) → P i (stack_at es i))
     → P (position_or_len (pointwise nat_eq name) (names_of es)) bs → (i : ℕ) → P i (stack_at (with_stack es name bs) i)
 with_stack-keeps P [] name bs all here zero = here
@@ -45,7 +45,7 @@ eqb_step m n = by (eqb_tells m n)
     by (inl p) = p.0 ∙ sym (eq-eqb (suc m) (suc n) (ap suc p.1))
     by (inr p) = p.0 ∙ sym (other (suc m) (suc n) (λ same. p.1 (omega arith)))
 
--- what is unbound at a number
+-- removing a binding at a number
 pub stack_at-unbound_at : (d : ℕ) (es : Entries) (j i : ℕ) → stack_at (unbound_at d es j) i ≡ cond (eqb j i) (unbound d (stack_at es i)) (stack_at es i)
 stack_at-unbound_at d [] j i = by (eqb j i)
   where
@@ -59,7 +59,7 @@ stack_at-unbound_at d (e ∷ es) (suc j) zero = ap (λ b. cond b (unbound d e.1)
 stack_at-unbound_at d (e ∷ es) (suc j) (suc i) =
     stack_at-unbound_at d es j i ∙ ap (λ b. cond b (unbound d (stack_at es i)) (stack_at es i)) (eqb_step j i)
 
--- what is unbound at all numbers at which something stands at the depth
+-- removing the bindings at all numbers that have one at the depth
 pub falls_all : (d i : ℕ) (ns : List ℕ) (es : Entries) → Falls (suc d) (stack_at es i) → IsAmong i ns ⊎ Falls d (stack_at es i)
     → Falls d (stack_at (fold (unbound_at d) es ns) i)
 falls_all d i [] es falls (inl none) = absurd none
@@ -89,7 +89,7 @@ falls_all d i (n ∷ ns) es falls met =
     still (inr p) (inr done) = inr (at (inr done))
 
 module _ {B : Type 0} where
-  -- numbers that are known stay known
+  -- numbers in frames stay there
   pub held_in : (hs gs : List (HeldFrame B)) (i : ℕ) (bs : List Binding) (limit : ℕ) → Falls limit bs
       → ((place : ℕ) → suc place < limit → IsAmong i (numbers_at hs place) → IsAmong i (numbers_at gs place)) → AreHeld hs i bs → AreHeld gs i bs
   held_in hs gs i [] limit falls known held = tt
@@ -124,7 +124,7 @@ module _ {B : Type 0} where
         by true = (held.0, held-rebound value bs held.1)
         by false = held-rebound value (b ∷ bs) held
 
-  -- a store with no names
+  -- a store without names
   pub none_bound : (hs : List (HeldFrame B)) → IsBound [] hs
   none_bound hs = record { falls = λ number. tt; held = λ number. tt }
 
@@ -132,13 +132,13 @@ module _ {B : Type 0} where
   pub falls_of : (es : Entries) (hs : List (HeldFrame B)) (name : List ℕ) → IsBound es hs → Falls (suc (length hs)) (stack_of es name)
   falls_of es hs name is = subst (Falls (suc (length hs))) (stack_at-number es name) (is.falls (position_or_len (pointwise nat_eq name) (names_of es)))
 
-  -- and frames know its number
+  -- and frames have its number
   pub held_of : (es : Entries) (hs : List (HeldFrame B)) (name : List ℕ) → IsBound es hs
       → AreHeld hs (position_or_len (pointwise nat_eq name) (names_of es)) (stack_of es name)
   held_of es hs name is =
       subst (AreHeld hs (position_or_len (pointwise nat_eq name) (names_of es))) (stack_at-number es name) (is.held (position_or_len (pointwise nat_eq name) (names_of es)))
 
-  -- other bindings of a name
+  -- replacing the bindings of a name
   pub with_stack-with_binding : (es : Entries) (hs : List (HeldFrame B)) (name : List ℕ) (bs : List Binding) → IsBound es hs → Falls (suc (length hs)) bs
       → AreHeld hs (position_or_len (pointwise nat_eq name) (names_of es)) bs → IsBound (with_stack es name bs) hs
   with_stack-with_binding es hs name bs is falls held = record {
@@ -146,7 +146,7 @@ module _ {B : Type 0} where
     held = with_stack-keeps (λ i. AreHeld hs i) es name bs is.held held;
   }
 
-  -- the first names alone
+  -- keeping only the first names
   pub take-with_binding : (n : ℕ) (es : Entries) (hs : List (HeldFrame B)) → IsBound es hs → IsBound (take n es) hs
   take-with_binding n es hs is = record {
     falls = λ i. first (λ j. Falls (suc (length hs))) n es i (is.falls i) tt;
@@ -177,7 +177,7 @@ module _ {B : Type 0} where
   known-with_number n i (h ∷ g ∷ hs) zero known = known
   known-with_number n i (h ∷ g ∷ hs) (suc place) known = known-with_number n i (g ∷ hs) place known
 
-  -- it is known in the innermost frame
+  -- the innermost frame has it
   pub with_number-known : (n : ℕ) (hs : List (HeldFrame B)) → 0 < length hs → IsHeld (with_number n hs) n (length hs)
   with_number-known n [] some = tt
   with_number-known n (h ∷ []) some = last h.numbers
@@ -205,7 +205,7 @@ module _ {B : Type 0} where
       known i (g ∷ gs) zero is = is
       known i (g ∷ gs) (suc place) is = known i gs place is
 
-  -- what is unbound at all numbers
+  -- removing the bindings at all numbers
   held-unbound_all : (hs : List (HeldFrame B)) (i d : ℕ) (ns : List ℕ) (es : Entries) → AreHeld hs i (stack_at es i) → AreHeld hs i (stack_at (fold (unbound_at d) es ns) i)
   held-unbound_all hs i d [] es held = held
   held-unbound_all hs i d (n ∷ ns) es held = held-unbound_all hs i d ns (unbound_at d es n)
@@ -215,7 +215,7 @@ module _ {B : Type 0} where
       by true = held-unbound hs i d (stack_at es i) held
       by false = held
 
-  -- without the innermost frame, when what is bound there is unbound at its numbers
+  -- without the innermost frame, if what is bound there is removed at its numbers
   pub popped-with_binding : (es : Entries) (outer : List (HeldFrame B)) (h : HeldFrame B) → IsBound es (outer ++ h ∷ [])
       → IsBound (fold (unbound_at (suc (length outer))) es h.numbers) outer
   popped-with_binding es outer h is = record {
@@ -249,7 +249,7 @@ module _ {B : Type 0} where
           by (inl p) = inl (subst (IsAmong i) (last outer) (subst (IsHeld (outer ++ h ∷ []) i) p.1 held.0))
           by (inr p) = inr ((omega (arith, p.1, falls.0, length-append outer (h ∷ []))), falls.1)
 
-  -- a number that is written after those of the last frame is noted
+  -- writing a number after those of the last frame adds it to the frame
   pub with_number-set : (n m : ℕ) (hs : List (HeldFrame B)) (h : HeldFrame B) → suc m ≡ length hs → h ≡ get_or hs m h
       → set_item hs m (record { back = h.back; numbers = h.numbers ++ n ∷ [] }) ≡ with_number n hs
   with_number-set n m [] h many is = absurd (omega arith)

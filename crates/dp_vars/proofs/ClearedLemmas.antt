@@ -1,4 +1,4 @@
--- Names whose bindings are taken away.
+-- Names whose bindings are removed.
 use Rattle.std.proofs.Common.{◌≡◌, ℕ, zero, suc, Bool, true, false, cond, List, [], ◌∷◌, Some, None, refl, sym, ap, ◌∙◌, nat_eq, length, map}
 use Rattle.std.specs.Cmp.Lexicographic.{pointwise, bytes_decides}
 use Rattle.std.specs.FinMap.{remove}
@@ -15,7 +15,7 @@ nothing_at : {X : Type 0} (b : Bool) → ◌≡◌ {A = List X} [] (cond b [] []
 nothing_at true = refl
 nothing_at false = refl
 
--- the name has no bindings, and each other the same as before
+-- the name has no bindings, and each other name has the same as before
 stack_of-cleared : (q : List ℕ) (es : Entries) (name : List ℕ)
     → stack_of (cleared es name) q ≡ cond (pointwise nat_eq q name) [] (stack_of es q)
 stack_of-cleared q [] name = nothing_at (pointwise nat_eq q name)
@@ -43,7 +43,7 @@ names-cleared (e ∷ es) name = by (pointwise nat_eq name e.0) (names-cleared es
     by true rest = refl
     by false rest = ap (λ ns. e.0 ∷ ns) rest
 
--- at each depth the name has no value
+-- the name has no value at any depth
 map_at-cleared : (d : ℕ) (es : Entries) (name : List ℕ) → map_at d (cleared es name) ≡ remove (map_at d es) name
 map_at-cleared d es name = same_named _ _ (λ q.
     get-map_at d (cleared es name) q ∙ ap (find d) (stack_of-cleared q es name)
@@ -55,7 +55,7 @@ map_at-cleared d es name = same_named _ _ (λ q.
     by true bs = refl
     by false bs = refl
 
--- what is true of no bindings and of those at each number stays true
+-- what holds of no bindings and of those at each number still holds
 cleared-keeps : (P : ℕ → List Binding → Type 0) → ((i : ℕ) → P i []) → (es : Entries) (name : List ℕ) → ((i : ℕ) → P i (stack_at es i))
     → (i : ℕ) → P i (stack_at (cleared es name) i)
 cleared-keeps P none [] name all i = all i
@@ -69,7 +69,7 @@ cleared-keeps P none (e ∷ es) name all i =
     by false rest zero = all zero
     by false rest (suc i) = rest i
 
--- no bindings for a name that is there
+-- removing the bindings of a name in the entries
 pub cleared-is : (es : Entries) (name : List ℕ) (number : ℕ) → slot (names_of es) name ≡ Some number → with_stack es name [] ≡ cleared es name
 cleared-is es name number is =
     at_number name (λ es number. with_stack es name [] ≡ cleared es name)
@@ -80,7 +80,7 @@ cleared-is es name number is =
     ∙ sym (ap (λ b. cond b ((x.0, []) ∷ es) (x ∷ cleared es name)) other))
     es number is
 
--- a name that is not there has none to take away
+-- a name that is not in the entries has no bindings to remove
 pub cleared-unknown : (es : Entries) (name : List ℕ) → slot (names_of es) name ≡ None → es ≡ cleared es name
 cleared-unknown [] name is = refl
 cleared-unknown (x ∷ es) name is =
@@ -103,7 +103,7 @@ module _ {B : Type 0} where
     names = names-cleared es name i;
   }
 
-  -- bindings still go outwards, and frames know what is bound in them
+  -- bindings still go outwards, and frames have the numbers of the names that are bound in them
   pub cleared-bound : (es : Entries) (hs : List (HeldFrame B)) (name : List ℕ) → IsBound es hs → IsBound (cleared es name) hs
   cleared-bound es hs name is = record {
     falls = cleared-keeps (λ i bs. Falls (suc (length hs)) bs) (λ i. tt) es name is.falls;

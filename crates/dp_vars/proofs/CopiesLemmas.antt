@@ -1,4 +1,4 @@
--- Copies of frames, of which each has the numbers of the one that it is a copy of.
+-- Copies of frames. Each copy has the numbers of its original.
 use Rattle.std.proofs.Common.{◌≡◌, ℕ, zero, suc, List, [], ◌∷◌, refl, sym, subst}
 use Rattle.std.specs.List.{AllZip}
 use Rattle.std.proofs.lemmas.List.Elements.{length_all_zip, same_from_all_zip}
@@ -29,14 +29,14 @@ module _ {B : Type 0} (IsSame : B → B → Type 0) where
     held_each [] held = tt
     held_each (b ∷ bs) held = (held_one b.depth held.0, held_each bs held.1)
 
-  -- copies know what is bound in them
+  -- copies have the numbers of the names that are bound in them
   pub IsBound-copies : (entries : Entries) (frames copies : List (HeldFrame B)) → AllZip IsCopy frames copies → IsBound entries frames → IsBound entries copies
   IsBound-copies entries frames copies all bound = record {
     falls = λ number. subst (λ n. Falls (suc n) (stack_at entries number)) (length_all_zip IsCopy frames copies all) (bound.falls number);
     held = λ number. held_each frames copies all number (stack_at entries number) (bound.held number);
   }
 
-  -- where a copy of a place to go back to is that place, copies of frames are those frames
+  -- if a copy of a place to return to equals that place, copies of frames equal the frames
   pub same_copies : (frames copies : List (HeldFrame B)) → ((back same : B) → IsSame back same → same ≡ back) → AllZip IsCopy frames copies → copies ≡ frames
   same_copies frames copies exact all =
       same_from_all_zip IsCopy frames copies all (λ h k copied i. record { back = exact h.back k.back copied.0 i; numbers = copied.1 i })

@@ -1,4 +1,4 @@
--- What is written, the openings that wait in it, and what is still to be read, come to the expansion of the whole.
+-- What is written, the waiting openings in it, and the text still to be read give the expansion of the whole.
 use Rattle.std.proofs.Common.{◌≡◌, ◌≤◌, ◌+◌, ℕ, Bool, cond, List, [], ◌∷◌, ◌++◌, length, take, drop, length-append, append_assoc, sym, ap, ◌∙◌, arith}
 use Rattle.std.proofs.lemmas.List.{append-nil, length-take}
 use Rattle.std.proofs.Math.Seq.{take-append_seam, drop-append-add}
@@ -21,13 +21,13 @@ use Rattle.dp_vars.specs.steps.Told.{body_name, knows_body}
 use Rattle.dp_vars.specs.declared.expanding.WaitingOpening.{WaitingOpening}
 use Rattle.dp_vars.proofs.ToldLemmas.{told-body}
 
--- the openings stand in any larger size too
+-- the openings are within any larger size too
 pub StandIn-more : (waiting : List WaitingOpening) (size more : ℕ) → size ≤ more → StandIn waiting size → StandIn waiting more
 StandIn-more [] size more larger stand = tt
 StandIn-more (w ∷ waiting) size more larger stand = (omega (arith, stand.0), stand.1)
 
 module _ (functions : FunctionTable) (sight : Sight) where
-  -- a group in braces, whose value is put in its place
+  -- a group in braces, replaced with its value
   pub put-braces : (start : ℕ) (old cut new value body : List ℕ) → new ≡ cut ++ value → cut ≡ take start old
       → value ≡ body_by_with functions sight body (cut_outside 58 body) → body ≡ drop (start + 2) old
       → new ≡ take start old ++ group_value_with functions sight Braces (drop (start + 2) old)
@@ -46,7 +46,7 @@ module _ (functions : FunctionTable) (sight : Sight) where
       ∙ ap (earlier kept) (told-body functions sight body (cut_outside 58 body))
       ∙ ap (λ b. earlier kept (unknown_body functions sight b (cut_outside 58 b))) from
 
-  -- the same, where nothing was kept before
+  -- the same, if nothing was kept before
   pub named-unknown : (kept new body : List ℕ) (is_known : Bool) → kept ≡ []
       → new ≡ earlier kept (cond is_known [] (body_name body (cut_outside 58 body)))
       → is_known ≡ knows_body functions sight body (cut_outside 58 body)
@@ -55,7 +55,7 @@ module _ (functions : FunctionTable) (sight : Sight) where
   named-unknown kept new body is_known none is known =
       is ∙ (λ i. earlier (none i) (cond (known i) [] (body_name body (cut_outside 58 body)))) ∙ told-body functions sight body (cut_outside 58 body)
 
-  -- a group in brackets, whose value is put in its place
+  -- a group in brackets, replaced with its value
   pub put-brackets : (start : ℕ) (old cut new value body : List ℕ) → new ≡ cut ++ value → cut ≡ take start old
       → value ≡ value_read (functions.expression body) (expression_value body) → body ≡ drop (start + 2) old
       → new ≡ take start old ++ group_value_with functions sight Brackets (drop (start + 2) old)
@@ -70,7 +70,7 @@ module _ (functions : FunctionTable) (sight : Sight) where
   put-unknown_expression start old kept new body is from =
       is ∙ ap (λ b. earlier kept (unknown_expression (functions.expression b) b)) from
 
-  -- the expansion of the whole, by what is written, the openings that wait in it, and the levels after
+  -- the expansion of the whole, given what is written, the waiting openings in it, and the levels after
   abbrev pub come : List WaitingOpening → List ℕ → Levels → List ℕ
   come waiting bytes (Last rest) = bytes ++ expansion_of_with functions sight rest
   come [] bytes (Within rest outer) = come [] (bytes ++ expansion_of_with functions sight rest) outer
@@ -83,7 +83,7 @@ module _ (functions : FunctionTable) (sight : Sight) where
   come-with_byte (w ∷ waiting) bytes byte (Within rest outer) =
       ap (λ bs. come waiting (with_value functions sight w bs) outer) (append_assoc bytes (byte ∷ []) (expansion_of_with functions sight rest))
 
-  -- a group whose opening is written last
+  -- a group whose opening was written last
   pub value_at_end : (bytes body : List ℕ) (kind : GroupKind)
       → with_value functions sight (record { kind = kind; start = length bytes }) ((bytes ++ 36 ∷ opener kind ∷ []) ++ body) ≡ bytes ++ group_value_with functions sight kind body
   value_at_end bytes body kind =
@@ -112,7 +112,7 @@ module _ (functions : FunctionTable) (sight : Sight) where
   come-end [] bytes unknown beyond = ap (λ bs. come [] bs (beyond [] 0)) (sym (append-nil bytes))
   come-end (w ∷ waiting) bytes unknown beyond = ap (λ bs. come waiting (with_value functions sight w bs) (beyond (kinds_of waiting) 0)) (sym (append-nil bytes))
 
-  -- a mark changes nothing of what all comes to
+  -- a mark does not change the expansion of the whole
   pub come-mark : (m : Mark) (written : Written) (beyond : List GroupKind → ℕ → Levels)
       → come (after functions sight m written).waiting (after functions sight m written).bytes (beyond (kinds_of (after functions sight m written).waiting) 0)
       ≡ come written.waiting written.bytes (with_mark m beyond 0 (kinds_of written.waiting))
@@ -125,11 +125,11 @@ module _ (functions : FunctionTable) (sight : Sight) where
   unfolding levels expansion_of_with
   come-over waiting bytes = append-nil bytes
 
-  -- nothing is read yet
+  -- nothing has been read yet
   pub come-text : (text : List ℕ) → come [] [] (levels text [] 0) ≡ expansion_with functions sight text
   come-text text = ap (come [] []) (levels-last text)
 
-  -- the openings that wait stand in what is written
+  -- the waiting openings are within what is written
   pub AreWritten-after : (m : Mark) (written : Written) → AreWritten written → AreWritten (after functions sight m written)
   AreWritten-after End written stand = by written.waiting stand
     where

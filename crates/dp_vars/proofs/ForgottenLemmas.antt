@@ -1,4 +1,4 @@
--- Names that are forgotten.
+-- Forgetting names.
 use Rattle.std.proofs.Common.{◌≡◌, ◌<◌, ◌+◌, ℕ, zero, suc, Bool, true, false, cond, List, [], ◌∷◌, Option, Some, None, refl, sym, ap, ◌∙◌, nat_eq, not, length, take, ◌⊎◌, inl, inr, arith}
 use Rattle.std.specs.List.{position_or_len}
 use Rattle.std.specs.Cmp.Lexicographic.{pointwise}
@@ -13,7 +13,7 @@ use Rattle.dp_vars.proofs.StoresLemmas.{frames-same, local_at-frames, local_at-n
 use Rattle.dp_vars.proofs.TablesLemmas.{get-map_at, same_named, stack_of-unknown}
 
 module _ (q : List ℕ) where
-  -- a name that is among the first ones has the same bindings among them
+  -- a name among the first ones has the same bindings among them
   stack_of-take : (n : ℕ) (es : Entries) → position_or_len (pointwise nat_eq q) (names_of (take n es)) < length (names_of (take n es))
       → stack_of (take n es) q ≡ stack_of es q
   stack_of-take zero es within = absurd (omega arith)
@@ -43,7 +43,7 @@ module _ {B : Type 0} where
     locals = λ place name none. local_at-none 1 place es hs name (λ e. get-map_at e es name ∙ ap (find e) (stack_of-unknown es name none));
   }
 
-  -- names that no map has are forgotten
+  -- names that no map contains are forgotten
   pub forgotten : (es : Entries) (n : ℕ) (hs : List (HeldFrame B)) (before : StoreOf B) → HasNamed before → store_of es hs ≡ record before { names = names_of es }
       → take n (names_of es) ≡ before.names → store_of (take n es) hs ≡ before
   forgotten es n hs before named is names = λ i. record {

@@ -1,4 +1,4 @@
--- What is known of a body that holds no group comes to the value of that body.
+-- The known parts of a body that contains no group give the value of that body.
 use Rattle.std.proofs.Common.{◌≡◌, ◌≤◌, ◌<◌, ◌+◌, ◌-◌, ◌^◌, ◌==◌, ℕ, zero, suc, Bool, true, false, cond, List, [], ◌∷◌, ◌++◌, Option, Some, None, length, take, drop, min, append_assoc, refl, sym, ap, subst, ◌∙◌, arith, nat_lt, ⊎_elim}
 use Rattle.std.specs.Option.{option_map_or}
 use Rattle.std.specs.List.{position_or_len, before_first, after_first}
@@ -29,7 +29,7 @@ use Rattle.dp_vars.specs.declared.span.Span.{Span}
 use Rattle.dp_vars.proofs.FunctionsLemmas.{name-of}
 use Rattle.dp_vars.proofs.PartsLemmas.{part-at_most}
 
--- ---- parts of what stands at a place
+-- ---- parts of the text at a place
 
 take-take_min : (m n : ℕ) (xs : List ℕ) → take m (take n xs) ≡ take (min m n) xs
 take-take_min zero n xs = let none : 0 ≡ min 0 n = omega arith in ap (λ k. take k xs) none
@@ -63,7 +63,7 @@ pub text_at-after : (text : List ℕ) (span : Span) (size : ℕ) → text_at tex
 text_at-after text span size =
     ⊎_elim (λ t. text_at-within text span size t.1) (λ t. text_at-past text span size t.1) (leb_tells (span.from + size) span.to)
 
--- ---- what a text is cut into stands at its front and at its end
+-- ---- the text before a cut is at the start, and the text after it at the end
 
 pub record IsCutOf (text head tail : List ℕ) : Type 0 where
   pub front : take (length head) text ≡ head
@@ -132,7 +132,7 @@ before_last-front byte (b ∷ bs) front is = by (before_last byte bs) (before_la
 -- ---- heads
 
 module _ (functions : FunctionTable) (sight : Sight) (text : List ℕ) where
-  -- the argument of a call, by where it stands
+  -- the argument of a call, given its place
   argument-seen : (name argument : List ℕ) (after : Span) → Some argument ≡ before_last 41 (text_at text after)
       → functions.value sight name (text_at text (front_of after (length argument))) ≡ call_argument_with functions sight name (before_last 41 (text_at text after))
   argument-seen name argument after argument_is =
@@ -140,7 +140,7 @@ module _ (functions : FunctionTable) (sight : Sight) (text : List ℕ) where
       (text_at-front text after (length argument) ∙ before_last-front 41 (text_at text after) argument (sym argument_is))
       ∙ ap (call_argument_with functions sight name) argument_is
 
-  -- one of the five functions, by its name and by what stands after the `(`
+  -- one of the five functions, given its name and the text after the `(`
   pub call-seen : (function : Function) (name argument : List ℕ) (after : Span) → Some function ≡ function_of name
       → Some argument ≡ before_last 41 (text_at text after)
       → head_seen functions sight text (Call function (front_of after (length argument))) ≡ call_argument_with functions sight name (before_last 41 (text_at text after))
@@ -148,7 +148,7 @@ module _ (functions : FunctionTable) (sight : Sight) (text : List ℕ) where
       ap (λ n. functions.value sight n (text_at text (front_of after (length argument)))) (name-of name function (sym function_is))
       ∙ argument-seen name argument after argument_is
 
-  -- another function, by where its name and its argument stand
+  -- another function, given the places of its name and its argument
   pub other-seen : (name : Span) (argument : List ℕ) (after : Span) → Some argument ≡ before_last 41 (text_at text after)
       → head_seen functions sight text (Other name (front_of after (length argument)))
       ≡ call_argument_with functions sight (text_at text name) (before_last 41 (text_at text after))
@@ -172,7 +172,7 @@ module _ (functions : FunctionTable) (sight : Sight) (text : List ℕ) where
 
 -- ---- parts
 
--- 64 bits hold the length of a value
+-- the length of a value fits into 64 bits
 pub part_seen-small : (text : List ℕ) (cut : CutPart) (value : List ℕ) → length value < 2 ^ 64 → part_seen text cut value ≡ part cut.asked value
 part_seen-small text cut value small = by (nat_lt (length value) (2 ^ 64)) refl
   where
@@ -191,13 +191,13 @@ part_seen-asked text cut tail value tail_is asked_is = by (nat_lt (length value)
     by false is = ap (λ bytes. part (asked_of (Some bytes)) value) tail_is
 
 module _ (functions : FunctionTable) (sight : Sight) (text : List ℕ) where
-  -- a body that asks for no part
+  -- a body that requests no part
   pub full-seen : (place : Span) (head : Head) → cut_outside 58 (text_at text place) ≡ None
       → head_seen functions sight text head ≡ head_value_with functions sight (text_at text place) → head_seen functions sight text head ≡ group_value_with functions sight Braces (text_at text place)
   unfolding group_value_with
   full-seen place head none is = is ∙ ap (body_by_with functions sight (text_at text place)) (sym none)
 
-  -- a body that asks for a part
+  -- a body that requests a part
   pub part-seen : (place : Span) (head tail : List ℕ) (cut : CutPart) → cut_outside 58 (text_at text place) ≡ Some (head, tail)
       → head_seen functions sight text cut.head ≡ head_value_with functions sight (text_at text (front_of place (length head)))
       → cut.tail ≡ after_of place (length (text_at text place) - length tail)
@@ -211,7 +211,7 @@ module _ (functions : FunctionTable) (sight : Sight) (text : List ℕ) where
       ∙ ap (part (asked_of (Some tail))) (head_is ∙ ap (head_value_with functions sight) (text_at-front text place (length head) ∙ parts.front))
       ∙ ap (body_by_with functions sight (text_at text place)) (sym cut_is)
 
-  -- the same with the calls that are not known
+  -- the same with the names and calls that are not known
   pub full-found : (place : Span) (head : Head) (written : Written) → cut_outside 58 (text_at text place) ≡ None
       → ((f : FunctionTable) (s : Sight) → head_seen f s text head ≡ head_value_with f s (text_at text place))
       → with_head functions sight text written head ≡ with_group functions sight Braces written (text_at text place)

@@ -1,4 +1,4 @@
--- By the standard functions no name and no call is unknown.
+-- With the standard functions no name and no call is unknown.
 use Rattle.std.proofs.Common.{◌≡◌, ℕ, Bool, true, false, ◌&&◌, if◌then◌else◌, List, [], Option, Some, None, refl, ap}
 use Rattle.std.specs.Option.{option_or}
 use Rattle.dp_conf.specs.Cut.{before_last, cut_once}
@@ -12,7 +12,7 @@ use Rattle.dp_vars.specs.Sights.{Sight}
 use Rattle.dp_vars.specs.Unknown.{any_text, earlier, first_unknown, unknown_in_groups, unknown_body, unknown_calls, unknown_group, unknown_head, unknown_names, unknown_of}
 use Rattle.dp_vars.specs.Values.{call_argument_with, expansion_of_with, head_by_with, head_value_with, standard_functions}
 
--- the standard functions are all known
+-- every head is known to the standard functions
 standard-head : (sight : Sight) (head : List ℕ) → unknown_head standard_functions sight head ≡ []
 unfolding head_value_with
 standard-head sight head = by (cut_once 40 head)

@@ -1,4 +1,4 @@
--- Names by their numbers.
+-- Names and their numbers.
 use Rattle.std.proofs.Common.{◌≡◌, ◌<◌, ◌≤◌, ◌+◌, ℕ, suc, Bool, true, false, cond, List, [], ◌∷◌, ◌++◌, Option, Some, None, refl, sym, ap, nat_eq, nat_lt, not, ◌∙◌, ◌||◌, unwrap_or, length, map, position, arith}
 use Rattle.std.specs.List.{AllByRecursion, IsDistinct, list_any, position_or_len}
 use Rattle.std.specs.Option.{option_map}
@@ -37,14 +37,14 @@ module _ {X : Type 0} (test : X → Bool) where
       by true within = omega arith
       by false within = omega arith
 
-  -- where none is found, it is the length
+  -- if none is found it is the length
   pub position_none : (xs : List X) → position test xs ≡ None → position_or_len test xs ≡ length xs
   position_none xs is =
       let above : length xs ≤ position_or_len test xs = lt_false _ _ (none_by (nat_lt (position_or_len test xs) (length xs)) (position_or_len test xs) is) in
       let within = position_or_len_within xs in
       omega arith
 
--- a position by what is read of each element
+-- a position, given a function of each element
 pub position_or_len-map : {X Y : Type 0} (f : X → Y) (test : Y → Bool) (xs : List X)
     → position_or_len test (map f xs) ≡ position_or_len (λ x. test (f x)) xs
 position_or_len-map f test [] = refl
@@ -62,7 +62,7 @@ length-names f (x ∷ xs) = ap suc (length-names f xs)
 pub is_some_lt : (n : ℕ) → 0 < n → true ≡ nat_lt 0 n
 is_some_lt n some = grind (arith, nat_tests)
 
--- the number of a name, from that of a name among the others
+-- the number of a name, given its number among the other names
 pub slot-cons : (n : List ℕ) (names : List (List ℕ)) (q : List ℕ)
     → slot (n ∷ names) q ≡ cond (pointwise nat_eq q n) (Some 0) (option_map (λ m. suc m) (slot names q))
 slot-cons n names q = by (pointwise nat_eq q n) (position_or_len (pointwise nat_eq q) names) (length names)
@@ -86,7 +86,7 @@ slot-cons n names q = by (pointwise nat_eq q n) (position_or_len (pointwise nat_
     by true m l = ap (λ b. cond b (Some 0) None) (first l)
     by false m l = ap (λ b. cond b (Some (1 + m)) None) (next m l) ∙ mapped m (nat_lt m l)
 
--- a name that is new is none of the others
+-- a new name is none of the others
 known_none : (b : Bool) (o : Option ℕ) → cond b (Some 0) (option_map (λ m. suc m) o) ≡ None → (b ≡ false) × (o ≡ None)
 known_none true o is = (cc)
 known_none false None is = (refl, refl)
@@ -96,7 +96,7 @@ pub new_of : (n : List ℕ) (names : List (List ℕ)) (name : List ℕ) → slot
     → (pointwise nat_eq name n ≡ false) × (slot names name ≡ None)
 new_of n names name is = known_none (pointwise nat_eq name n) (slot names name) (sym (slot-cons n names name) ∙ is)
 
--- a new name that goes after the others has their count as its number, and each other name the same as before
+-- the number of a new name at the end is the number of the others, and each other name keeps its number
 pub slot-push : (names : List (List ℕ)) (name q : List ℕ) → slot names name ≡ None
     → slot (names ++ name ∷ []) q ≡ cond (pointwise nat_eq q name) (Some (length names)) (slot names q)
 slot-push [] name q is = slot-cons name [] q
@@ -114,7 +114,7 @@ slot-push (n ∷ names) name q is =
     mapped true m o = refl
     mapped false m o = refl
 
--- no name stands twice among none
+-- in an empty list no name occurs twice
 pub distinct-none : IsDistinct (pointwise nat_eq) []
 unfolding IsDistinct
 distinct-none = tt
@@ -128,7 +128,7 @@ module _ {X : Type 0} (P : X → Type 0) where
   all_but_last [] y all = tt
   all_but_last (x ∷ xs) y all = (all.0, all_but_last xs y all.1)
 
--- where no name stands twice, the last is new after the others
+-- if no name occurs twice the last one is not among the others
 pub last-new : (names : List (List ℕ)) (name : List ℕ) → IsDistinct (pointwise nat_eq) (names ++ name ∷ []) → slot names name ≡ None
 last-new [] name distinct = refl
 last-new (n ∷ names) name distinct =
@@ -138,7 +138,7 @@ last-new (n ∷ names) name distinct =
     let new = last-new names name (IsDistinct-tail (pointwise nat_eq) n (names ++ name ∷ []) distinct) in
     slot-cons n names name ∙ (λ i. cond (differs i) (Some 0) (option_map (λ m. suc m) (new i)))
 
--- and so do the others without it
+-- and no name occurs twice without it
 pub distinct-but_last : (names : List (List ℕ)) (name : List ℕ) → IsDistinct (pointwise nat_eq) (names ++ name ∷ [])
     → IsDistinct (pointwise nat_eq) names
 distinct-but_last [] name distinct = distinct-none
@@ -147,7 +147,7 @@ distinct-but_last (n ∷ names) name distinct =
     (all_but_last (λ m. pointwise nat_eq n m ≡ false) names name (IsDistinct-head (pointwise nat_eq) n (names ++ name ∷ []) distinct))
     (distinct-but_last names name (IsDistinct-tail (pointwise nat_eq) n (names ++ name ∷ []) distinct))
 
--- a new name that goes after names of which none stands twice leaves that so
+-- adding a new name to names without duplicates gives no duplicate
 pub distinct-push : (names : List (List ℕ)) (name : List ℕ) → slot names name ≡ None → IsDistinct (pointwise nat_eq) names
     → IsDistinct (pointwise nat_eq) (names ++ name ∷ [])
 distinct-push names name new distinct = IsDistinct-push nat_list_eq_equiv names name distinct (none_is names new)

@@ -1,4 +1,4 @@
--- A text in which nothing opens a group is its own expansion.
+-- A text in which no group opens is its own expansion.
 use Rattle.std.proofs.Common.{◌≡◌, ℕ, false, ◌||◌, ◌&&◌, not, if◌then◌else◌, List, [], ◌∷◌, Option, Some, None, refl, ap, ◌∙◌}
 use Rattle.std.specs.Option.{is_some, option_or}
 use Rattle.dp_conf.specs.declared.groups.GroupKind.{GroupKind}
@@ -10,7 +10,7 @@ use Rattle.dp_vars.specs.Sights.{Sight}
 use Rattle.dp_vars.specs.Unknown.{any_text, first_unknown, unknown_in_groups, unknown_of}
 use Rattle.dp_vars.specs.Values.{expansion_of_with, expansion_with}
 
--- plain bytes alone
+-- only plain bytes
 plain : List ℕ → Reading
 plain [] = Over
 plain (b ∷ bs) = Plain b (plain bs)
@@ -22,7 +22,7 @@ unfolding plain
 levels-byte b bs None none after = ap (with_byte b) (after none)
 levels-byte b bs (Some kind) none after = absurd cc
 
--- the levels of a text in which nothing opens a group
+-- the levels of a text in which no group opens
 levels-plain : (text : List ℕ) → has_opening text ≡ false → levels text [] 0 ≡ Last (plain text)
 unfolding plain levels has_opening
 levels-plain [] none = refl
@@ -43,7 +43,7 @@ unfolding plain unknown_of
 unknown_of-plain functions sight [] = refl
 unknown_of-plain functions sight (b ∷ bs) = unknown_of-plain functions sight bs
 
--- and all in it is known
+-- and everything in it is known
 pub unknown-none : (functions : FunctionTable) (sight : Sight) (text : List ℕ) → has_opening text ≡ false → first_unknown functions sight text ≡ None
 unfolding reading_of
 unknown-none functions sight text none =

@@ -1,4 +1,4 @@
--- A reach above the greatest number is as far as that one in any value.
+-- A reach above the greatest number is as far as the greatest in any value.
 use Rattle.std.proofs.Common.{◌≡◌, ◌<◌, ◌^◌, ℕ, List, Option, Some, None, length, refl, ap, ◌∙◌, arith, slice_range}
 use Rattle.std.specs.Option.{option_map}
 use Rattle.dp_vars.specs.declared.part.Reach.{Reach}

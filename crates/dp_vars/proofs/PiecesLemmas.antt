@@ -1,4 +1,4 @@
--- The pieces of a text, and what is still to be read of it, come to the expansion of the whole.
+-- The pieces of a text, and the text still to be read, give the expansion of the whole.
 use Rattle.std.proofs.Common.{◌≡◌, ◌≤◌, ◌+◌, ◌-◌, ℕ, zero, suc, Bool, true, false, cond, List, [], ◌∷◌, ◌++◌, Some, length, take, drop, fold, reverse, length-append, append_assoc, refl, sym, ap, subst, ◌∙◌, arith, nat_lt}
 use Rattle.std.proofs.lemmas.Bool.{ltb-false}
 use Rattle.std.proofs.lemmas.List.{append-nil, drop-drop, drop_at, reverse-append, take_rest}
@@ -27,9 +27,9 @@ use Rattle.dp_vars.specs.declared.span.Span.{Span}
 use Rattle.dp_vars.proofs.UnknownLemmas.{first, first-mark, first-over, first-text, body_at_end}
 use Rattle.dp_vars.proofs.ExpandingLemmas.{come, come-mark, come-over, come-text, value_at_end, StandIn-more, AreWritten-after}
 
--- ---- what stands at a mark
+-- ---- the text at a mark
 
--- the bytes of a mark inside of these groups
+-- the bytes of a mark inside these groups
 abbrev pub mark_bytes : Mark → List GroupKind → List ℕ
 mark_bytes (Byte byte) kinds = byte ∷ []
 mark_bytes (Opening kind) kinds = 36 ∷ opener kind ∷ []
@@ -51,7 +51,7 @@ opening-text_of_reading [] kind (Within inside (Within rest outer)) = refl
 opening-text_of_reading (k ∷ kinds) kind (Within inside (Within rest outer)) =
     ap (λ bytes. 36 ∷ opener kind ∷ bytes) (append_assoc (text_of_reading inside) (closer kind ∷ text_of_reading rest) (closer k ∷ printed_levels kinds outer))
 
--- outside of groups nothing ends
+-- outside groups nothing ends
 no_end : (rest beyond : List ℕ) → levels rest [] 0 ≡ with_mark End (levels beyond) 0 [] → ⊥
 no_end rest beyond is = let both : Last (reading_of rest) ≡ Within Over (levels beyond [] 0) = sym (levels-last rest) ∙ is in cc
 
@@ -101,7 +101,7 @@ AreWritten-more written bytes stand =
     StandIn-more written.waiting (length written.bytes) (length (written.bytes ++ bytes)) (omega (arith, length-append written.bytes bytes)) stand
 
 module _ (functions : FunctionTable) (sight : Sight) (text : List ℕ) where
-  -- plain bytes are written also where they make a piece
+  -- plain bytes are written even if they make a piece
   past-run : (run : Span) (pieces : List TextPiece) → past_last functions sight text (with_run run pieces) ≡ with_bytes (past_last functions sight text pieces) (text_at text run)
   past-run run pieces = by (nat_lt run.from run.to) refl
     where
@@ -110,7 +110,7 @@ module _ (functions : FunctionTable) (sight : Sight) (text : List ℕ) where
       by true is = refl
       by false is = sym (with_none (past_last functions sight text pieces) (text_at text run) (text_at-none text run (ltb-false run.from run.to is)))
 
-  -- after a group that holds no group, in place of its opening
+  -- after a group that contains no group, which replaces its opening
   past-leaf : (run : Span) (place : ℕ) (kind : GroupKind) (written : Written)
       → with_bytes (with_group functions sight kind written (text_at text run)) (text_at text (span_at place))
       ≡ after functions sight End (with_bytes (after functions sight (Opening kind) written) (text_at text run))
@@ -122,7 +122,7 @@ module _ (functions : FunctionTable) (sight : Sight) (text : List ℕ) where
         unknown = earlier written.unknown (unknown_group functions sight kind (sym (body_at_end functions sight written.bytes (text_at text run) kind) i));
       })
 
-  -- pieces of which the last stands first are the same pieces
+  -- pieces with the last one first are the same pieces
   onto : Written → List TextPiece → Written
   onto written [] = written
   onto written (piece ∷ pieces) = past functions sight text (onto written pieces) piece
@@ -146,7 +146,7 @@ module _ (functions : FunctionTable) (sight : Sight) (text : List ℕ) where
   pub past-reverse : (pieces : List TextPiece) → past_last functions sight text (reverse pieces) ≡ past_all functions sight text pieces
   past-reverse pieces = onto-blank (reverse pieces) ∙ onto-reverse blank pieces
 
-  -- the openings that wait stand in what is written
+  -- the waiting openings are within what is written
   pub AreWritten-past : (piece : TextPiece) (written : Written) → AreWritten written → AreWritten (past functions sight text written piece)
   AreWritten-past (Run span) written stand = AreWritten-more written (text_at text span) stand
   AreWritten-past (Name name) written stand = AreWritten-more written (head_seen functions sight text (heads.Name name)) stand
@@ -159,7 +159,7 @@ module _ (functions : FunctionTable) (sight : Sight) (text : List ℕ) where
   AreWritten-past (Begins kind) written stand = AreWritten-after functions sight (Opening kind) written stand
   AreWritten-past Ends written stand = AreWritten-after functions sight End written stand
 
-  -- the openings that wait stand in what is written, and the pieces that are left come to the whole
+  -- the waiting openings are within what is written, and the remaining pieces give the whole
   pub record IsWriting (written : Written) (left whole : List TextPiece) : Type 0 where
     pub stands : AreWritten written
     pub comes : fold (past functions sight text) written left ≡ past_all functions sight text whole
@@ -174,9 +174,9 @@ module _ (functions : FunctionTable) (sight : Sight) (text : List ℕ) where
     comes = ap (λ w. fold (past functions sight text) w beyond) new_is ∙ ap (fold (past functions sight text) written) (sym left_is) ∙ writing.comes;
   }
 
--- ---- a text on the way to its pieces
+-- ---- reading a text into its pieces
 
--- what is read so far and the rest of the text come to the expansion of the text, whatever is seen
+-- what is read so far and the rest of the text give the expansion of the text, whatever is seen
 pub record IsOnWay (text : List ℕ) (so_far : ReadSoFar) (rest : List ℕ) : Type 0 where
   pub kinds : (functions : FunctionTable) (sight : Sight) → kinds_of (written_in functions sight text so_far).waiting ≡ so_far.waiting
   pub comes : (functions : FunctionTable) (sight : Sight)
@@ -201,7 +201,7 @@ is-opening kind (Known value) is = cc
 is-opening kind Empty is = cc
 is-opening kind Ends is = cc
 
--- after the end of a group that holds no group
+-- after the end of a group that contains no group
 pub goes-leaf : (text : List ℕ) (place : ℕ) (old : ReadSoFar) (kind : GroupKind) (piece : TextPiece) → Some kind ≡ opening_last old.pieces → IsGroup text kind old.run piece
     → GoesAfter text End place old (record { pieces = piece ∷ without_last old.pieces; waiting = outer_of old.waiting; run = span_at place })
 goes-leaf text place old kind piece opening group = record {
@@ -221,7 +221,7 @@ goes-leaf text place old kind piece opening group = record {
         ∙ ap (λ p. after functions sight End (with_bytes (past functions sight text (past_last functions sight text pieces) p) (text_at text old.run)))
         (sym (is-opening kind last is))
 
--- after the end of a group that holds groups
+-- after the end of a group that contains groups
 pub goes-end : (text : List ℕ) (place : ℕ) (old : ReadSoFar)
     → GoesAfter text End place old (record { pieces = Ends ∷ with_run old.run old.pieces; waiting = outer_of old.waiting; run = span_at place })
 goes-end text place old = record {
@@ -233,7 +233,7 @@ goes-end text place old = record {
   begins = omega arith;
 }
 
--- nothing is read yet
+-- nothing has been read yet
 pub on_way-first : (text : List ℕ) → IsOnWay text (record { pieces = []; waiting = []; run = span_at 0 }) text
 on_way-first text = record {
   kinds = λ functions sight. refl;
@@ -244,7 +244,7 @@ on_way-first text = record {
   is_rest = refl;
 }
 
--- all is read
+-- everything has been read
 pub on_way-over : (text : List ℕ) (so_far : ReadSoFar) (rest : List ℕ) → IsOnWay text so_far rest → rest ≡ []
     → (functions : FunctionTable) (sight : Sight) → Come functions sight text (past_last functions sight text so_far.pieces) so_far.run.from
 on_way-over text so_far rest on_way none functions sight = record { bytes = bytes; unknown = unknown }
@@ -268,7 +268,7 @@ on_way-over text so_far rest on_way none functions sight = record { bytes = byte
         (written_in functions sight text so_far).unknown (levels (sym none i) (on_way.kinds functions sight i) 0))
         ∙ on_way.first_comes functions sight
 
--- a plain byte stands after those before it
+-- a plain byte comes after those before it
 stands-mark : (m : Mark) (kinds : List GroupKind) (text rest beyond : List ℕ) (run : Span) (place : ℕ) → run.from ≤ run.to → drop run.to text ≡ rest
     → rest ≡ mark_bytes m kinds ++ beyond → place ≡ run.to + length (mark_bytes m kinds) → StandsAfter text run m place
 stands-mark End kinds text rest beyond run place ordered is_rest is place_is = tt
@@ -287,7 +287,7 @@ kinds_of-after functions sight End written = by written.waiting
 
 module _ (text : List ℕ) (so_far : ReadSoFar) (rest : List ℕ) (m : Mark) (beyond : List ℕ) (on_way : IsOnWay text so_far rest)
     (marked : levels rest so_far.waiting 0 ≡ with_mark m (levels beyond) 0 so_far.waiting) where
-  -- what stands after the mark, by the size of the mark
+  -- the text after the mark, given the size of the mark
   sizes : length rest ≡ length (mark_bytes m so_far.waiting) + length beyond
   sizes = ap length (text-mark m so_far.waiting rest beyond marked) ∙ length-append (mark_bytes m so_far.waiting) beyond
 
@@ -305,7 +305,7 @@ module _ (text : List ℕ) (so_far : ReadSoFar) (rest : List ℕ) (m : Mark) (be
       ∙ ap (drop (length (mark_bytes m so_far.waiting))) (on_way.is_rest ∙ text-mark m so_far.waiting rest beyond marked)
       ∙ drop_at (mark_bytes m so_far.waiting) beyond (length (mark_bytes m so_far.waiting)) refl
 
-  -- a mark is gone after
+  -- a mark has been read
   pub on_way-after : (new : ReadSoFar) → GoesAfter text m (length text - length beyond) so_far new → IsOnWay text new beyond
   on_way-after new goes = record {
     kinds = kinds_new;

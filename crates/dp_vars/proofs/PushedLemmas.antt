@@ -1,4 +1,4 @@
--- Locals that are set one after another in a frame that was pushed.
+-- Locals that are set one after another in a new frame.
 use Rattle.std.proofs.Common.{◌≡◌, ◌-◌, ◌<◌, ℕ, zero, suc, Bool, true, false, cond, List, [], ◌∷◌, ◌++◌, refl, sym, ap, ◌∙◌, append-nil, append_assoc, nat_eq, length, take, arith, Result, Ok, Err, is_err}
 use Rattle.std.proofs.lemmas.List.Sums.{fold-append}
 use Rattle.std.proofs.Math.Seq.{take-append_seam}
@@ -19,7 +19,7 @@ with_name-front (n ∷ ns) name = by (pointwise nat_eq name n) (with_name-front 
     by true more = ([], ap (λ ms. n ∷ ms) (sym (append-nil ns)))
     by false (rest, is) = (rest, ap (λ ms. n ∷ ms) is)
 
--- names stay the first of the names
+-- the names stay at the start of the new list
 with_names-front : (vs : List Local) (ns : List (List ℕ)) → (rest : List (List ℕ)) × (with_names ns vs ≡ ns ++ rest)
 with_names-front [] ns = ([], sym (append-nil ns))
 with_names-front (v ∷ vs) ns = by (with_name-front ns v.name) (with_names-front vs (with_name ns v.name))
@@ -55,13 +55,13 @@ module _ {B : Type 0} where
       named [] names = refl
       named (f ∷ fs) names = refl
 
-  -- one more local, where the store has those before it
+  -- one more local, if the store has those before it
   pub set_local-more : (before after store : StoreOf B) (back : B) (vs : List Local) (v : Local) (name : List ℕ) → after ≡ set_local before name v.value
       → name ≡ v.name → before ≡ with_frame store back vs → after ≡ with_frame store back (vs ++ v ∷ [])
   set_local-more before after store back vs v name set named is =
       set ∙ (λ i. set_local (is i) (named i) v.value) ∙ set_local-pushed store back vs v
 
-  -- a local leaves as many frames as there are
+  -- a local does not change the number of frames
   length-set_local : (store : StoreOf B) (name value : List ℕ) → length (set_local store name value).frames ≡ length store.frames
   unfolding set_local
   length-set_local store name value = by (length store.frames - 1) store.frames
@@ -71,11 +71,11 @@ module _ {B : Type 0} where
       by zero (f ∷ fs) = refl
       by (suc place) (f ∷ fs) = ap suc (by place fs)
 
-  -- and so there is still one
+  -- and so there is still a frame
   pub set_local-some : (before after : StoreOf B) (name value : List ℕ) → after ≡ set_local before name value → 0 < length before.frames → 0 < length after.frames
   set_local-some before after name value set some = omega (arith, some, ap (λ store. length store.frames) set, length-set_local before name value)
 
-  -- and without the frame again
+  -- and the store without the frame again
   pub pushed_popped : (store : StoreOf B) (back : B) (vs : List Local) → without_frame (with_frame store back vs) ≡ record store { names = with_names store.names vs }
   pushed_popped store back vs = λ i. record {
     variables = store.variables;
@@ -84,12 +84,12 @@ module _ {B : Type 0} where
     names = with_names store.names vs;
   }
 
--- a list of no length is empty
+-- a list of length zero is empty
 pub none_left : {X : Type 0} (xs : List X) → length xs ≡ 0 → xs ≡ []
 none_left [] is = refl
 none_left (x ∷ xs) is = absurd (omega arith)
 
--- what holds of an outcome that is known
+-- a fact about a known outcome
 pub of_err : {T E P : Type 0} (r : Result T E) → is_err r ≡ true → OnErr r P → P
 of_err (Ok x) is p = (cc)
 of_err (Err e) is p = p

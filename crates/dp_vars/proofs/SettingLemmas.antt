@@ -1,4 +1,4 @@
--- Values that are bound, and what a store is then.
+-- The store after values are bound.
 use Rattle.std.proofs.Common.{◌≡◌, ◌<◌, ◌-◌, ℕ, zero, suc, List, [], ◌∷◌, ◌++◌, Some, None, refl, sym, ap, subst, ◌∙◌, nat_eq, length, take, fold, slice_get, arith}
 use Rattle.std.specs.List.{position_or_len}
 use Rattle.std.specs.Cmp.Lexicographic.{pointwise}
@@ -68,7 +68,7 @@ map_at-unbound_at d e [] n below = refl
 map_at-unbound_at d e (x ∷ es) zero below = ap (put_value (map_at e es) x.0) (find-unbound d e x.1 (λ same. omega arith))
 map_at-unbound_at d e (x ∷ es) (suc n) below = ap (λ m. put_value m x.0 (find e x.1)) (map_at-unbound_at d e es n below)
 
--- what is unbound at a depth leaves the maps below it
+-- removing bindings at a depth keeps the maps below it
 map_at-unbound_all : (d e : ℕ) (ns : List ℕ) (es : Entries) → e < d → map_at e (fold (unbound_at d) es ns) ≡ map_at e es
 map_at-unbound_all d e [] es below = refl
 map_at-unbound_all d e (n ∷ ns) es below = map_at-unbound_all d e ns (unbound_at d es n) below ∙ map_at-unbound_at d e es n below
@@ -159,7 +159,7 @@ module _ {B : Type 0} where
           ∙ find-none (suc (length hs)) (suc (length hs)) (stack_of es q) (falls_of es hs q is) (omega arith)
           ∙ sym (get-empty (slice_cmp nat_cmp) q))
 
-  -- some frames are some and a last one
+  -- a nonempty list of frames has a last one
   cut_last : (hs : List (HeldFrame B)) → 0 < length hs → (outer : List (HeldFrame B)) × ((h : HeldFrame B) × (hs ≡ outer ++ h ∷ []))
   cut_last [] some = absurd (omega arith)
   cut_last (h ∷ []) some = ([], (h, refl))
@@ -168,7 +168,7 @@ module _ {B : Type 0} where
       by : (outer : List (HeldFrame B)) × ((l : HeldFrame B) × (g ∷ hs ≡ outer ++ l ∷ [])) → (outer : List (HeldFrame B)) × ((l : HeldFrame B) × (h ∷ g ∷ hs ≡ outer ++ l ∷ []))
       by (outer, (l, cut)) = (h ∷ outer, (l, ap (λ more. h ∷ more) cut))
 
-  -- what `pop_frame_setting` comes to
+  -- the result of `pop_frame_setting`
   pub setting_view : (es : Entries) (hs : List (HeldFrame B)) (name value : List ℕ) → IsBound es hs → 0 < length hs
       → popped_setting (store_of es hs) name value (innermost (frames_from 1 es hs))
       ≡ (

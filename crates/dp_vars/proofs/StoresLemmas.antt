@@ -28,7 +28,7 @@ first_value-append (m ∷ ms) ns name = by (get m name) (first_value-append ms n
     by None rest = rest
     by (Some value) rest = refl
 
--- the place of a depth; none for that of the channel
+-- the place of a depth; that of the channel has none
 abbrev pub place_of : ℕ → Option ℕ
 place_of zero = None
 place_of (suc place) = Some place
@@ -47,7 +47,7 @@ module _ {B : Type 0} where
       record { back = h.back; locals = same d (omega arith) (omega arith) i }
       ∷ frames-same (suc d) es fs hs (λ e from below. same e (omega arith) (omega arith)) i
 
-  -- a map that is put at the depth of a frame is put there
+  -- replacing the map at the depth of a frame replaces it in the frame
   pub frames-set : (d place depth : ℕ) (es fs : Entries) (hs : List (HeldFrame B)) (name value : List ℕ)
       → ((e : ℕ) → map_at e fs ≡ cond (eqb depth e) (insert (map_at e es) name value) (map_at e es))
       → depth ≡ d + place → place < length hs
@@ -69,7 +69,7 @@ module _ {B : Type 0} where
   local_at-frames d (suc place) es (h ∷ hs) name within =
       local_at-frames (suc d) place es hs name (omega arith) ∙ ap (λ e. get (map_at e es) name) (omega arith)
 
-  -- a name that no map has is no local
+  -- a name that no map contains is not a local
   pub local_at-none : (d place : ℕ) (es : Entries) (hs : List (HeldFrame B)) (name : List ℕ) → ((e : ℕ) → get (map_at e es) name ≡ None)
       → local_at (frames_from d es hs) place name ≡ None
   local_at-none d place es [] name none = refl
@@ -108,7 +108,7 @@ module _ {B : Type 0} where
         (option_or ((get-map_at d es name ∙ sym (finds d (omega arith)) ∙ find-none d d bs falls (omega arith)) i) None))
 
   module _ (es : Entries) (name : List ℕ) (b : Binding) (bs : List Binding) where
-    -- the frame of the innermost binding holds the name
+    -- the frame of the innermost binding has the name
     pub holder-found : (d place : ℕ) (hs : List (HeldFrame B)) → Falls (d + length hs) (b ∷ bs)
         → ((e : ℕ) → e < d + length hs → find e (b ∷ bs) ≡ find e (stack_of es name)) → b.depth ≡ d + place
         → holder name (frames_from d es hs) ≡ Some place
@@ -138,7 +138,7 @@ module _ {B : Type 0} where
         ∙ ap (λ o. option_or o (first_value (map_at d es ∷ []) name))
         (first-found (suc d) place hs ((omega (arith, falls.0)), falls.1) (λ e below. finds e (omega arith)) (omega arith))
 
-  -- the innermost binding says where a name is held
+  -- the innermost binding says which frame has the name
   pub holder-is : (es : Entries) (name : List ℕ) (hs : List (HeldFrame B)) (bs : List Binding) → Falls (suc (length hs)) bs
       → ((e : ℕ) → e < suc (length hs) → find e bs ≡ find e (stack_of es name)) → holder name (frames_from 1 es hs) ≡ place_of (depth_of bs)
   holder-is es name hs [] falls finds = holder-none es name [] 1 hs tt (λ e below. finds e (omega arith))
@@ -148,7 +148,7 @@ module _ {B : Type 0} where
       by zero is = holder-none es name (b ∷ bs) 1 hs ((omega arith), falls.1) (λ e below. finds e (omega arith))
       by (suc place) is = holder-found es name b bs 1 place hs ((omega (arith, falls.0)), falls.1) (λ e below. finds e (omega arith)) (omega arith)
 
-  -- and has the value that is found
+  -- and it has the value that is found
   pub value_in-is : (es : Entries) (name : List ℕ) (hs : List (HeldFrame B)) → Falls (suc (length hs)) (stack_of es name)
       → innermost_value (stack_of es name) ≡ value_in (store_of es hs) name
   value_in-is es name hs falls =
@@ -172,7 +172,7 @@ module _ {B : Type 0} where
           sym (λ i. option_or (first-none es name [] 1 hs tt (λ e below. finds e) i) (option_or (sym (finds 0) i) None))
       by (b ∷ bs) falls finds = deeper b bs b.depth refl falls finds
 
-  -- a value that is bound at the depth of the innermost binding is set
+  -- binding a value at the depth of the innermost binding sets it
   pub set-is : (es fs : Entries) (hs : List (HeldFrame B)) (name value : List ℕ) (bs : List Binding) → Falls (suc (length hs)) bs
       → ((e : ℕ) → e < suc (length hs) → find e bs ≡ find e (stack_of es name))
       → ((e : ℕ) → map_at e fs ≡ cond (eqb (depth_of bs) e) (insert (map_at e es) name value) (map_at e es))
@@ -219,18 +219,18 @@ module _ {B : Type 0} where
           one (inl p) = ap (λ c. cond c (Some b.value) None) p.0 ∙ sym (ap (λ c. cond c (Some b.value) (find (length hs) bs)) p.0)
           one (inr p) = ap (cond (eqb b.depth (length hs)) (Some b.value)) (sym (find-none b.depth (length hs) bs falls.1 (omega (arith, p.1, falls.0))))
 
-  -- with no frame there is none
+  -- without a frame there is none
   pub local_in-none : (es : Entries) (name : List ℕ) (hs : List (HeldFrame B)) → length hs ≡ 0 → None ≡ local_in (store_of es hs) name
   local_in-none es name [] none = refl
   local_in-none es name (h ∷ hs) none = absurd (omega arith)
 
-  -- numbers that are noted leave the frames
+  -- adding numbers does not change the frames
   pub frames-with_number : (d n : ℕ) (es : Entries) (hs : List (HeldFrame B)) → frames_from d es (with_number n hs) ≡ frames_from d es hs
   frames-with_number d n es [] = refl
   frames-with_number d n es (h ∷ []) = refl
   frames-with_number d n es (h ∷ g ∷ hs) = ap (λ fs. record { back = h.back; locals = map_at d es } ∷ fs) (frames-with_number (suc d) n es (g ∷ hs))
 
-  -- a value that is bound in the innermost frame is a local that is set
+  -- binding a value in the innermost frame sets a local
   pub set_local-is : (n : ℕ) (es fs : Entries) (hs : List (HeldFrame B)) (name value : List ℕ) → 0 < length hs
       → ((e : ℕ) → map_at e fs ≡ cond (eqb (length hs) e) (insert (map_at e es) name value) (map_at e es))
       → names_of fs ≡ with_name (names_of es) name → store_of fs (with_number n hs) ≡ set_local (store_of es hs) name value
@@ -246,7 +246,7 @@ module _ {B : Type 0} where
       by [] some = absurd (omega arith)
       by (h ∷ hs) some = refl
 
-  -- with no frame nothing is set
+  -- without a frame nothing is set
   pub set_local-none : (es : Entries) (hs : List (HeldFrame B)) (name value : List ℕ) → length hs ≡ 0 → store_of es hs ≡ set_local (store_of es hs) name value
   unfolding set_local
   set_local-none es [] name value none = refl

@@ -1,5 +1,5 @@
 -- Names with their bindings.
-use Rattle.std.proofs.Common.{◌≡◌, ◌≤◌, ◌+◌, ℕ, zero, suc, Bool, true, false, cond, eqb, List, [], ◌∷◌, Option, Some, None, refl, sym, ap, ◌∙◌, nat_eq, not, length, get_or, set, subst, ◌++◌, unwrap_or, arith, Result, Ok, Err}
+use Rattle.std.proofs.Common.{◌≡◌, ◌≤◌, ◌+◌, ℕ, zero, suc, Bool, true, false, cond, eqb, List, [], ◌∷◌, Option, Some, None, refl, sym, ap, ◌∙◌, nat_eq, not, length, get_or, set, take, ◌-◌, subst, ◌++◌, unwrap_or, arith, Result, Ok, Err}
 use Rattle.std.specs.List.{position_or_len}
 use Rattle.std.specs.Result.{OnErr}
 use Rattle.std.specs.Ordering.{nat_cmp}
@@ -8,8 +8,9 @@ use Rattle.std.specs.FinMap.{get, get-empty, get-insert, get-remove, same_map, n
 use Rattle.std.specs.BTreeMap.{insert_entry}
 use Rattle.std.specs.Map.{lookup, remove_entry}
 use Rattle.std.specs.Option.{option_map}
-use Rattle.std.proofs.lemmas.List.{map-append}
-use Rattle.dp_vars.proofs.VariablesLemmas.{apart, has_bytes, lookup-by_bytes, lookup-inserted, lookup-removed, shadowed, swapped}
+use Rattle.std.proofs.lemmas.List.{length-append, map-append}
+use Rattle.std.proofs.Math.Seq.{take-append_seam}
+use Rattle.dp_vars.proofs.VariablesLemmas.{apart, has_bytes, lookup-inserted, lookup-removed, shadowed, swapped}
 use Rattle.dp_vars.specs.steps.Bindings.{find, unbound}
 use Rattle.dp_vars.specs.Stores.{slot, with_name}
 use Rattle.dp_vars.specs.steps.Tables.{AreNumbered, Entries, map_at, names_of, put_value, stack_of, unbound_at, with_stack}
@@ -21,14 +22,14 @@ use Rattle.dp_vars.proofs.NamesLemmas.{distinct-but_last, distinct-none, distinc
 pub same_named : (m n : Named) → ((q : List ℕ) → get m q ≡ get n q) → m ≡ n
 same_named m n same = same_map nat_list_cmp_total (slice_cmp-IsAntisymmetric nat_cmp-IsAntisymmetric) m n same
 
--- a value that is put is found, and each other as before
+-- the value that is put is found, and each other as before
 pub get-put_value : (m : Named) (name : List ℕ) (o : Option (List ℕ)) (q : List ℕ)
     → get (put_value m name o) q ≡ cond (pointwise nat_eq q name) o (get m q)
 get-put_value m name None q = get-remove nat_list_cmp_total m name q ∙ ap (λ b. cond b None (get m q)) (sym (texts_ties q name))
 get-put_value m name (Some value) q =
     get-insert nat_list_cmp_total m name value q ∙ ap (λ b. cond b (Some value) (get m q)) (sym (texts_ties q name))
 
--- what a name has at a depth
+-- the value of a name at a depth
 pub get-map_at : (depth : ℕ) (entries : Entries) (q : List ℕ) → get (map_at depth entries) q ≡ find depth (stack_of entries q)
 get-map_at depth [] q = get-empty (slice_cmp nat_cmp) q
 get-map_at depth (e ∷ es) q =
@@ -40,7 +41,7 @@ get-map_at depth (e ∷ es) q =
     by true = refl
     by false = refl
 
--- the name has these bindings, and each other the same as before
+-- the name has these bindings, and each other name the same as before
 pub stack_of-with_stack : (q : List ℕ) (entries : Entries) (name : List ℕ) (bs : List Binding)
     → stack_of (with_stack entries name bs) q ≡ cond (pointwise nat_eq q name) bs (stack_of entries q)
 stack_of-with_stack q [] name bs = refl
@@ -58,7 +59,7 @@ stack_of-with_stack q (e ∷ es) name bs = by (pointwise nat_eq name e.0) refl (
         ap (cond (pointwise nat_eq q e.0) e.1) rest
         ∙ swapped (pointwise nat_eq q name) (pointwise nat_eq q e.0) bs e.1 (stack_of es q) (apart q name e.0 other)
 
--- a new name is added after the others
+-- a new name is added at the end
 pub names-with_stack : (entries : Entries) (name : List ℕ) (bs : List Binding) → names_of (with_stack entries name bs) ≡ with_name (names_of entries) name
 names-with_stack [] name bs = refl
 names-with_stack (e ∷ es) name bs = by (pointwise nat_eq name e.0) (names-with_stack es name bs)
@@ -68,7 +69,7 @@ names-with_stack (e ∷ es) name bs = by (pointwise nat_eq name e.0) (names-with
     by true rest = refl
     by false rest = ap (λ ns. e.0 ∷ ns) rest
 
--- a name that has no number has no bindings
+-- a name without a number has no bindings
 pub stack_of-new : (entries : Entries) (name : List ℕ) → position_or_len (pointwise nat_eq name) (names_of entries) ≡ length (names_of entries) → stack_of entries name ≡ []
 stack_of-new [] name is = refl
 stack_of-new (e ∷ es) name is = by (pointwise nat_eq name e.0) is (stack_of-new es name)
@@ -87,7 +88,7 @@ cond_same : {X : Type 0} (c : Bool) (x : X) → x ≡ cond c x x
 cond_same true x = refl
 cond_same false x = refl
 
--- bindings of which the value at one depth is another are a value that is put at that depth
+-- bindings with another value at one depth put that value at that depth
 pub map_at-with_stack : (entries : Entries) (name : List ℕ) (bs : List Binding) (depth : ℕ) (o : Option (List ℕ))
     → ((e : ℕ) → find e bs ≡ cond (eqb depth e) o (find e (stack_of entries name))) → (e : ℕ)
     → map_at e (with_stack entries name bs) ≡ cond (eqb depth e) (put_value (map_at e entries) name o) (map_at e entries)
@@ -103,7 +104,7 @@ map_at-with_stack entries name bs depth o finds e = same_named _ _ (λ q.
     by q true same = finds e ∙ ap (λ n. cond (eqb depth e) o (find e (stack_of entries n))) (sym ((bytes_decides q name).0 same))
     by q false other = cond_same (eqb depth e) (find e (stack_of entries q))
 
--- what is so where a name stands, and as well with one more entry before it, is so of a name and its number
+-- what holds at a name, and still holds with one more entry before it, holds of the name and its number
 pub at_number : (name : List ℕ) (P : Entries → ℕ → Type 0)
     → ((x : List ℕ × List Binding) (es : Entries) → pointwise nat_eq name x.0 ≡ true → P (x ∷ es) 0)
     → ((x : List ℕ × List Binding) (es : Entries) (number : ℕ) → pointwise nat_eq name x.0 ≡ false → P es number → P (x ∷ es) (suc number))
@@ -126,7 +127,7 @@ at_number name P here further (x ∷ es) number is =
     by false None other number is rest = (cc)
     by false (Some m) other number is rest = subst (P (x ∷ es)) (next m number is) (further x es m other (rest m refl))
 
--- what is written at the number of a name is written for the name
+-- writing at the number of a name writes for the name
 pub written : (es : Entries) (name : List ℕ) (number : ℕ) (e : List ℕ × List Binding) (bs : List Binding)
     → slot (names_of es) name ≡ Some number → e ≡ get_or es number e → set es number (e.0, bs) ≡ with_stack es name bs
 written es name number e bs is =
@@ -136,7 +137,7 @@ written es name number e bs is =
     ap (λ more. x ∷ more) (rest at) ∙ ap (λ b. cond b ((x.0, bs) ∷ es) (x ∷ with_stack es name bs)) (sym other))
     es number is
 
--- what stands at the number of a name is what a look-up of the name finds
+-- the entry at the number of a name is found for the name
 pub found : (es : Entries) (name : List ℕ) (number : ℕ) (e : List ℕ × List Binding) → slot (names_of es) name ≡ Some number
     → e ≡ get_or es number e → lookup (pointwise nat_eq name) es ≡ Some e.1
 found es name number e is =
@@ -145,14 +146,14 @@ found es name number e is =
     (λ x es number other rest at. ap (λ b. cond b (Some x.1) (lookup (pointwise nat_eq name) es)) other ∙ rest at)
     es number is
 
--- a name that has no number is not found
+-- a name without a number is not found
 pub not_found : (es : Entries) (name : List ℕ) → slot (names_of es) name ≡ None → lookup (pointwise nat_eq name) es ≡ None
 not_found [] name is = refl
 not_found (x ∷ es) name is =
     let new = new_of x.0 (names_of es) name is in
     ap (λ b. cond b (Some x.1) (lookup (pointwise nat_eq name) es)) new.0 ∙ not_found es name new.1
 
--- other bindings at a number leave the names
+-- other bindings at a number do not change the names
 pub names-set : (es : Entries) (number : ℕ) (e : List ℕ × List Binding) (bs : List Binding) → e ≡ get_or es number e
     → names_of (set es number (e.0, bs)) ≡ names_of es
 names-set [] number e bs at = refl
@@ -168,18 +169,18 @@ found_stack (e ∷ es) name = by (pointwise nat_eq name e.0) (found_stack es nam
     by true rest = refl
     by false rest = rest
 
--- the bindings that a look-up finds
+-- the bindings that are found for a name
 pub stack_of-lookup : (entries : Entries) (name : List ℕ) (o : Option (List Binding)) → o ≡ lookup (pointwise nat_eq name) entries → stack_of entries name ≡ unwrap_or o []
 stack_of-lookup entries name o is = found_stack entries name ∙ ap (λ r. unwrap_or r []) (sym is)
 
--- what is unbound at a number
+-- removing a binding at a number
 unbound_at-set : (depth : ℕ) (es : Entries) (number : ℕ) (e : List ℕ × List Binding) → e ≡ get_or es number e
     → set es number (e.0, unbound depth e.1) ≡ unbound_at depth es number
 unbound_at-set depth [] number e at = refl
 unbound_at-set depth (x ∷ es) zero e at = ap (λ y. (y.0, unbound depth y.1) ∷ es) at
 unbound_at-set depth (x ∷ es) (suc number) e at = ap (λ more. x ∷ more) (unbound_at-set depth es number e at)
 
--- an entry that stands at a number, seen as its name and its bindings
+-- an entry at a number, as its name and its bindings
 module _ (es : Entries) (number : ℕ) (x : List ℕ × List Binding) (own : List ℕ) (old : List Binding)
     (same : (own, old) ≡ x) (at : x ≡ get_or es number x) where
   here : (own, old) ≡ get_or es number (own, old)
@@ -199,7 +200,7 @@ module _ (es : Entries) (number : ℕ) (x : List ℕ × List Binding) (own : Lis
       → AreNumbered numbers (names_of (set es number (own, bs)))
   numbered-at numbers bs are = subst (AreNumbered numbers) (sym (names-set es number (own, old) bs here)) are
 
-  -- a write at a name's number: what its bindings are changed to stands for the name
+  -- a change at the number of a name changes the bindings of the name
   pub changed-at : (seen : Entries) → es ≡ seen → (name : List ℕ) (change : List Binding → List Binding) (bs : List Binding)
       → slot (names_of seen) name ≡ Some number → bs ≡ change old
       → set es number (own, bs) ≡ with_stack seen name (change (stack_of seen name))
@@ -210,14 +211,14 @@ module _ (es : Entries) (number : ℕ) (x : List ℕ × List Binding) (own : Lis
       ∙ ap (with_stack es name) (made ∙ ap change (sym stack))
       ∙ ap (λ entries. with_stack entries name (change (stack_of entries name))) view
 
-  -- what is unbound at the number
+  -- removing a binding at the number
   pub unbound-at : (seen : Entries) → es ≡ seen → (depth : ℕ) (bs : List Binding) → bs ≡ unbound depth old
       → set es number (own, bs) ≡ unbound_at depth seen number
   unbound-at seen view depth bs made =
       ap (λ bs. set es number (own, bs)) made ∙ unbound_at-set depth es number (own, old) here
       ∙ ap (λ entries. unbound_at depth entries number) view
 
--- a new name goes after the others
+-- a new name is added at the end
 pub with_stack-new : (es : Entries) (name : List ℕ) (bs : List Binding) → slot (names_of es) name ≡ None
     → with_stack es name bs ≡ es ++ (name, bs) ∷ []
 with_stack-new [] name bs is = refl
@@ -225,12 +226,22 @@ with_stack-new (x ∷ es) name bs is =
     let new = new_of x.0 (names_of es) name is in
     ap (λ b. cond b ((x.0, bs) ∷ es) (x ∷ with_stack es name bs)) new.0 ∙ ap (λ more. x ∷ more) (with_stack-new es name bs new.1)
 
+-- without a new name, which goes after the others, they are left
+pub without-new : (es : Entries) (name : List ℕ) (bs : List Binding) → slot (names_of es) name ≡ None
+    → take (length (with_stack es name bs) - 1) (with_stack es name bs) ≡ es
+without-new es name bs is =
+    let last : List (List ℕ × List Binding) = (name, bs) ∷ [] in
+    let count : length (es ++ last) - 1 ≡ length es = omega (arith, length-append es last) in
+    ap (λ all. take (length all - 1) all) (with_stack-new es name bs is)
+    ∙ ap (λ n. take n (es ++ last)) count
+    ∙ take-append_seam es last
+
 -- numbers of no names
 pub numbered-none : AreNumbered [] []
 numbered-none = record { slots = λ name. refl; distinct = distinct-none }
 
 module _ {K : Type 0} (bytes : K → List ℕ) where
-  -- a new name after the others, and its number
+  -- adding a new name at the end, and its number
   pub numbered-push : (numbers : List (K × ℕ)) (names : List (List ℕ)) (key : K) → AreNumbered (by_bytes bytes numbers) names
       → slot names (bytes key) ≡ None
       → AreNumbered (by_bytes bytes (insert_entry (in_order bytes) numbers key (length names))) (names ++ bytes key ∷ [])
@@ -242,7 +253,7 @@ module _ {K : Type 0} (bytes : K → List ℕ) where
     distinct = distinct-push names (bytes key) new are.distinct;
   }
 
-  -- the names without the last, and the numbers without its own
+  -- the names without the last, and the numbers without that of the last
   pub numbered-pop : (numbers : List (K × ℕ)) (names : List (List ℕ)) (name : List ℕ)
       → AreNumbered (by_bytes bytes numbers) (names ++ name ∷ [])
       → lookup (has_bytes bytes name) (remove_entry (has_bytes bytes name) numbers) ≡ None
@@ -262,18 +273,14 @@ module _ {K : Type 0} (bytes : K → List ℕ) where
       by q true tied = sym (ap (slot names) ((bytes_decides q name).0 tied) ∙ new)
       by q false other = refl
 
--- a key of a new name
+-- a key for a new name
 module _ {K : Type 0} (bytes : K → List ℕ) (numbers : List (K × ℕ)) (inside seen : Entries) (key : K) (name : List ℕ)
     (are : AreNumbered (by_bytes bytes numbers) (names_of inside)) (view : inside ≡ seen) (same : bytes key ≡ name)
     (new : slot (names_of seen) name ≡ None) where
   is-new : slot (names_of inside) (bytes key) ≡ None
   is-new = (λ i. slot (names_of (view i)) (same i)) ∙ new
 
-  -- has no number
-  pub unnumbered : lookup (has_bytes bytes (bytes key)) numbers ≡ None
-  unnumbered = lookup-by_bytes bytes (bytes key) numbers ∙ are.slots (bytes key) ∙ is-new
-
-  -- bindings that are added after the others are the name's, and the names have their numbers in the map with the key
+  -- bindings that are added at the end belong to the name, and the map with the key has the numbers of the names
   pub added : (after : List (K × ℕ)) (es fs : Entries) (number : ℕ) (own : List ℕ) (bs made : List Binding)
       → es ≡ inside → number ≡ length es → after ≡ insert_entry (in_order bytes) numbers key number → own ≡ name → bs ≡ made → fs ≡ es ++ (own, bs) ∷ []
       → AreNumbered (by_bytes bytes after) (names_of fs) × (fs ≡ with_stack seen name made)
@@ -290,22 +297,22 @@ module _ {K : Type 0} (bytes : K → List ℕ) (numbers : List (K × ℕ)) (insi
         at ∙ sym (with_stack-new inside (bytes key) made is-new) ∙ (λ i. with_stack (view i) (same i) made),
       )
 
--- at a number that no name has nothing is
+-- there is nothing at a number that no name has
 pub unbound_at-beyond : (depth : ℕ) (entries : Entries) (number : ℕ) → length entries ≤ number → unbound_at depth entries number ≡ entries
 unbound_at-beyond depth [] number beyond = refl
 unbound_at-beyond depth (e ∷ es) zero beyond = absurd (omega arith)
 unbound_at-beyond depth (e ∷ es) (suc number) beyond = ap (λ more. e ∷ more) (unbound_at-beyond depth es number (omega arith))
 
--- a name that is not known has no bindings
+-- an unknown name has no bindings
 pub stack_of-unknown : (entries : Entries) (name : List ℕ) → slot (names_of entries) name ≡ None → stack_of entries name ≡ []
 stack_of-unknown entries name is = stack_of-new entries name (position_none (pointwise nat_eq name) (names_of entries) is)
 
--- so that a change makes of them what it makes of none
+-- so a change gives the same as for no bindings
 pub changed-new : (seen : Entries) (name : List ℕ) (change : List Binding → List Binding) → slot (names_of seen) name ≡ None
     → with_stack seen name (change []) ≡ with_stack seen name (change (stack_of seen name))
 changed-new seen name change is = ap (λ bs. with_stack seen name (change bs)) (sym (stack_of-unknown seen name is))
 
--- what follows whatever the outcome
+-- a consequence of any outcome
 pub on_err : {T E P : Type 0} (r : Result T E) → P → OnErr r P
 on_err (Ok x) p = tt
 on_err (Err e) p = p

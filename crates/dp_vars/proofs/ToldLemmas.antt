@@ -1,4 +1,4 @@
--- What is not known is named so.
+-- The name of what is not known.
 use Rattle.std.proofs.Common.{◌≡◌, ℕ, cond, List, [], Option, Some, None, refl}
 use Rattle.dp_conf.specs.Cut.{before_last, cut_once}
 use Rattle.dp_vars.specs.Functions.{FunctionTable}

@@ -1,4 +1,4 @@
--- The first call that is not known, by what is written, the openings that wait in it, and what is still to be read.
+-- The first name, call or expression that is not known, given what is written, the waiting openings in it, and the text still to be read.
 use Rattle.std.proofs.Common.{◌≡◌, ◌≢◌, ◌+◌, ℕ, List, [], ◌∷◌, ◌++◌, length, drop, append_assoc, refl, sym, ap, ◌∙◌}
 use Rattle.std.proofs.lemmas.List.{append-nil}
 use Rattle.std.proofs.Math.Seq.{drop-append-add}
@@ -32,7 +32,7 @@ pub earlier-assoc : (a b c : List ℕ) → earlier (earlier a b) c ≡ earlier a
 earlier-assoc [] b c = refl
 earlier-assoc (byte ∷ a) b c = refl
 
--- nothing was kept yet
+-- nothing has been kept yet
 pub earlier-first : (old new : List ℕ) → length old ≡ 0 → new ≡ earlier old new
 earlier-first [] new none = refl
 earlier-first (byte ∷ old) new none = cc
@@ -42,7 +42,7 @@ pub earlier-kept : (old new : List ℕ) → length old ≢ 0 → old ≡ earlier
 earlier-kept [] new some = absurd (some refl)
 earlier-kept (byte ∷ old) new some = refl
 
--- an expression of which the value is there
+-- an expression whose value is known
 pub with_brackets : (functions : FunctionTable) (sight : Sight) (text : List ℕ) (written : Written) (known : KnownExpression) (place : Span)
     → known.body ≡ place → known.value.items ≡ expression_value (text_at text place)
     → with_expression functions text written known ≡ with_group functions sight Brackets written (text_at text place)
@@ -52,7 +52,7 @@ with_brackets functions sight text written known place there is =
     (unknown_expression (functions.expression (text_at text (there i))) (text_at text (there i)))
 
 module _ (functions : FunctionTable) (sight : Sight) where
-  -- the first call of the whole, by what is written, the openings that wait in it, the first call so far, and the levels after
+  -- the first one in the whole, given what is written, the waiting openings in it, the first one so far, and the levels after
   abbrev pub first : List WaitingOpening → List ℕ → List ℕ → Levels → List ℕ
   first waiting bytes unknown (Last rest) = earlier unknown (unknown_of functions sight rest)
   first [] bytes unknown (Within rest outer) =
@@ -73,20 +73,20 @@ module _ (functions : FunctionTable) (sight : Sight) where
       (earlier (earlier unknown (unknown_of functions sight rest)) (unknown_group functions sight w.kind (body_in w bs))) outer)
       (append_assoc bytes (byte ∷ []) (expansion_of_with functions sight rest))
 
-  -- the body of a group whose opening is written last
+  -- the body of a group whose opening was written last
   pub body_at_end : (bytes body : List ℕ) (kind : GroupKind)
       → body_in (record { kind = kind; start = length bytes }) ((bytes ++ 36 ∷ opener kind ∷ []) ++ body) ≡ body
   body_at_end bytes body kind =
       ap (drop (length bytes + 2)) (append_assoc bytes (36 ∷ opener kind ∷ []) body) ∙ drop-append-add bytes (36 ∷ opener kind ∷ body) 2
 
-  -- the bytes after a group, and what follows it
+  -- the bytes after a group, and those after them
   value_then : (bytes inside rest : List ℕ) (kind : GroupKind)
       → with_value functions sight (record { kind = kind; start = length bytes }) ((bytes ++ 36 ∷ opener kind ∷ []) ++ inside) ++ rest
       ≡ bytes ++ (group_value_with functions sight kind inside ++ rest)
   value_then bytes inside rest kind =
       ap (λ bs. bs ++ rest) (value_at_end functions sight bytes inside kind) ∙ append_assoc bytes (group_value_with functions sight kind inside) rest
 
-  -- the first call before, inside of, at and after a group
+  -- the first one before, inside, at and after a group
   first_then : (bytes unknown inside called rest : List ℕ) (kind : GroupKind)
       → earlier (earlier (earlier unknown called)
       (unknown_group functions sight kind (body_in (record { kind = kind; start = length bytes }) ((bytes ++ 36 ∷ opener kind ∷ []) ++ inside)))) rest
@@ -121,7 +121,7 @@ module _ (functions : FunctionTable) (sight : Sight) where
       λ i. first waiting (with_value functions sight w (sym (append-nil bytes) i))
       (earlier (sym (earlier-none unknown) i) (unknown_group functions sight w.kind (body_in w (sym (append-nil bytes) i)))) (beyond (kinds_of waiting) 0)
 
-  -- a mark changes nothing of what all comes to
+  -- a mark does not change the result for the whole
   pub first-mark : (m : Mark) (written : Written) (beyond : List GroupKind → ℕ → Levels)
       → first (after functions sight m written).waiting (after functions sight m written).bytes (after functions sight m written).unknown
       (beyond (kinds_of (after functions sight m written).waiting) 0)
@@ -136,6 +136,6 @@ module _ (functions : FunctionTable) (sight : Sight) where
   unfolding levels unknown_of
   first-over waiting bytes unknown = earlier-none unknown
 
-  -- nothing is read yet
+  -- nothing has been read yet
   pub first-text : (text : List ℕ) → first [] [] [] (levels text [] 0) ≡ unknown_of functions sight (reading_of text)
   first-text text = ap (first [] [] []) (levels-last text)

@@ -1,4 +1,4 @@
--- The values of names, by the maps in which they are searched.
+-- The values of names, given the maps in which they are looked up.
 use Rattle.std.proofs.Common.{◌≡◌, ℕ, Bool, true, false, cond, List, [], ◌∷◌, ◌++◌, Option, Some, None, unwrap_or, map, refl, sym, ap, ◌∙◌}
 use Rattle.std.specs.Prelude.{is_some}
 use Rattle.std.specs.Option.{option_map, option_or}
@@ -11,7 +11,7 @@ use Rattle.dp_vars.specs.Variables.{Named, first_value, value_or_empty}
 use Rattle.dp_vars.proofs.StoresLemmas.{first_value-append}
 use Rattle.dp_vars.proofs.VariablesLemmas.{get-texts}
 
--- a look-up among values that are computed from what is found
+-- a look-up among values that are computed from the found ones
 lookup-map : {X Y : Type 0} (value : X → Y) (test : List ℕ → Bool) (entries : List (List ℕ × X))
     → lookup test (map (λ e. (e.0, value e.1)) entries) ≡ option_map value (lookup test entries)
 lookup-map value test [] = refl
@@ -22,7 +22,7 @@ lookup-map value test (e ∷ es) = by (test e.0) (lookup-map value test es)
     by true rest = refl
     by false rest = rest
 
--- what the channel gives a name
+-- the value that the channel gives to a name
 get-channel_map : (channel : Option ChannelView) (name : List ℕ)
     → get (channel_map channel) name ≡ option_map (given_value channel) (lookup (same_text name) given_names)
 get-channel_map channel name = get-texts name (given_by channel) ∙ lookup-map (given_value channel) (same_text name) given_names
@@ -35,14 +35,14 @@ module _ (channel : Option ChannelView) (stored : List Named) (globals : Named) 
       ap (λ o. unwrap_or (option_or o (first_value (stored ++ globals ∷ []) name)) [])
       (ap (option_map (given_value channel)) is ∙ sym (get-channel_map channel name))
 
-  -- which has a value
+  -- it has a value
   pub set-given : (given : GivenName) → Some given ≡ lookup (same_text name) given_names
       → true ≡ is_some (first_value (channel_map channel ∷ (stored ++ globals ∷ [])) name)
   set-given given is =
       ap (λ o. is_some (option_or o (first_value (stored ++ globals ∷ []) name)))
       (ap (option_map (given_value channel)) is ∙ sym (get-channel_map channel name))
 
-  -- any other name is sought in the store and then among the globals
+  -- any other name is looked up in the store and then among the globals
   first-not_given : None ≡ lookup (same_text name) given_names
       → option_or (first_value stored name) (first_value (globals ∷ []) name) ≡ first_value (channel_map channel ∷ (stored ++ globals ∷ [])) name
   first-not_given none =
@@ -68,7 +68,7 @@ module _ (channel : Option ChannelView) (stored : List Named) (globals : Named) 
       → value ≡ value_or_empty (channel_map channel ∷ (stored ++ globals ∷ [])) name
   value-stored value none is = ap (λ o. unwrap_or (option_or o (first_value (globals ∷ []) name)) []) is ∙ not_given none
 
-  -- any other name is a global's, or has no value
+  -- any other name is that of a global, or has no value
   pub value-global : (value : List ℕ) → None ≡ lookup (same_text name) given_names → None ≡ first_value stored name
       → value ≡ value_or_empty (globals ∷ []) name → value ≡ value_or_empty (channel_map channel ∷ (stored ++ globals ∷ [])) name
   value-global value none absent is =

@@ -1,4 +1,4 @@
--- Lists of entries whose keys are read by their bytes, as ordered maps hold them, and as finite maps.
+-- Lists of entries with their keys as bytes, as in ordered maps, and as finite maps.
 use Rattle.std.proofs.Common.{◌≡◌, ℕ, Bool, true, false, cond, List, [], ◌∷◌, Option, Some, None, Ordering, Less, Equal, Greater, IsSome, refl, sym, ap, ◌∙◌, nat_eq}
 use Rattle.std.specs.Ordering.{is_eq, match_ordering, nat_cmp}
 use Rattle.std.specs.Cmp.Lexicographic.{slice_cmp, pointwise, texts_ties, nat_list_eq_equiv, nat_list_cmp_total, bytes_decides}
@@ -17,11 +17,11 @@ swapped true true x y z apart = ap (λ c. cond c y x) (apart refl)
 swapped true false x y z apart = refl
 swapped false b x y z apart = refl
 
--- two texts that differ are not both the same as a third
+-- two different texts are not both equal to a third
 pub apart : (q k e : List ℕ) → pointwise nat_eq k e ≡ false → pointwise nat_eq q e ≡ true → pointwise nat_eq q k ≡ false
 apart q k e other tied = nat_list_eq_equiv.congr q e k tied ∙ nat_list_eq_equiv.symm e k ∙ other
 
--- texts that are not in one place of the order differ
+-- texts are equal exactly if they are equal in the order
 other_by : (q k : List ℕ) (r : Ordering) → slice_cmp nat_cmp q k ≡ r → pointwise nat_eq q k ≡ is_eq r
 other_by q k r is = texts_ties q k ∙ ap is_eq is
 
@@ -33,7 +33,7 @@ find-lookup : {X : Type 0} (name : List ℕ) (es : List (List ℕ × X)) → fin
 find-lookup name [] = refl
 find-lookup name (e ∷ es) = λ i. cond (sym (texts_ties name e.0) i) (Some e.1) (find-lookup name es i)
 
--- what a name has among entries is what their finite map has
+-- the value of a name among entries is that in their finite map
 pub get-texts : {X : Type 0} (name : List ℕ) (es : List (List ℕ × X))
     → get (from_entries {R = slice_cmp nat_cmp} es) name ≡ lookup (pointwise nat_eq name) es
 get-texts name es = get-from_entries nat_list_cmp_total es name ∙ find-lookup name es
@@ -44,7 +44,7 @@ module _ {K : Type 0} (bytes : K → List ℕ) where
   has_bytes name key = is_at (λ k. slice_cmp nat_cmp name (bytes k)) key
 
 module _ {K X : Type 0} (bytes : K → List ℕ) where
-  -- what has a name among the entries
+  -- the value of a name among the entries
   abbrev pub at_name : List (K × X) → List ℕ → Option X
   at_name entries name = lookup (pointwise nat_eq name) (by_bytes bytes entries)
 
@@ -74,7 +74,7 @@ module _ {K X : Type 0} (bytes : K → List ℕ) where
           ∙ swapped (pointwise nat_eq q (bytes k)) (pointwise nat_eq q (bytes e.0)) (Some v) (Some e.1) (at_name es q)
           (apart q (bytes k) (bytes e.0) (other_by (bytes k) (bytes e.0) Greater is))
 
-  -- an entry that is passed is found as before
+  -- an entry that is skipped is found as before
   passed : (q name : List ℕ) (e : K × X) (es rest : List (K × X)) (o : Option X) → pointwise nat_eq name (bytes e.0) ≡ false
       → at_name rest q ≡ cond (pointwise nat_eq q name) o (at_name es q)
       → at_name (e ∷ rest) q ≡ cond (pointwise nat_eq q name) o (at_name (e ∷ es) q)
@@ -82,7 +82,7 @@ module _ {K X : Type 0} (bytes : K → List ℕ) where
       ap (cond (pointwise nat_eq q (bytes e.0)) (Some e.1)) is
       ∙ swapped (pointwise nat_eq q name) (pointwise nat_eq q (bytes e.0)) o (Some e.1) (at_name es q) (apart q name (bytes e.0) other)
 
-  -- a key that is there has what is written for it, and each other key what it had
+  -- an existing key has the value that is written for it, and each other key its old value
   pub lookup-written : (q name : List ℕ) (entries : List (K × X)) (v : X) → IsSome (lookup (has_bytes bytes name) entries)
       → at_name (set_value (has_bytes bytes name) entries v) q ≡ cond (pointwise nat_eq q name) (Some v) (at_name entries q)
   lookup-written q name [] v there = (cc)
@@ -101,7 +101,7 @@ module _ {K X : Type 0} (bytes : K → List ℕ) where
           (same_by name (bytes e.0) tied)
       by false other there rest = passed q name e es (set_value (has_bytes bytes name) es v) (Some v) other (rest there)
 
-  -- where a key is taken out, each other key has what it had
+  -- after a key is removed each other key has its old value
   lookup-kept : (q name : List ℕ) (entries : List (K × X)) → pointwise nat_eq q name ≡ false
       → at_name (remove_entry (has_bytes bytes name) entries) q ≡ at_name entries q
   lookup-kept q name [] differs = refl
@@ -113,7 +113,7 @@ module _ {K X : Type 0} (bytes : K → List ℕ) where
           ap (λ b. cond b (Some e.1) (at_name es q)) (sym (ap (pointwise nat_eq q) (sym (same_by name (bytes e.0) tied)) ∙ differs))
       by false other rest = ap (cond (pointwise nat_eq q (bytes e.0)) (Some e.1)) rest
 
-  -- a key that is taken out is not found, and each other key as before
+  -- a removed key is not found, and each other key as before
   pub lookup-removed : (q name : List ℕ) (entries : List (K × X))
       → lookup (has_bytes bytes name) (remove_entry (has_bytes bytes name) entries) ≡ None
       → at_name (remove_entry (has_bytes bytes name) entries) q ≡ cond (pointwise nat_eq q name) None (at_name entries q)
@@ -136,7 +136,7 @@ module _ {K X : Type 0} (bytes : K → List ℕ) where
       ∙ (λ i. cond (texts_ties q name i) (Some v) (sym (get-texts q (by_bytes bytes entries)) i))
       ∙ sym (get-insert nat_list_cmp_total _ name v q))
 
-  -- copies of entries, each with a key that is a copy of its key and with its value, have the same bytes
+  -- copies of entries, each with the same value and a copy of the key, have the same bytes
   pub by_bytes-copies : (IsCopy : K → K → Type 0) → ((key copy : K) → IsCopy key copy → bytes copy ≡ bytes key) → (entries copies : List (K × X))
       → AllZip (λ e c. IsCopy e.0 c.0 × (c.1 ≡ e.1)) entries copies → by_bytes bytes copies ≡ by_bytes bytes entries
   by_bytes-copies IsCopy same [] [] all = refl
@@ -145,7 +145,7 @@ module _ {K X : Type 0} (bytes : K → List ℕ) where
   by_bytes-copies IsCopy same (e ∷ es) (c ∷ cs) all =
       λ i. (same e.0 c.0 all.0.0 i, all.0.1 i) ∷ by_bytes-copies IsCopy same es cs all.1 i
 
--- a list of copies of bytes is the list of those bytes
+-- a list of copies of bytes is the same list
 pub same_bytes : (bytes copies : List ℕ) → AllZip (λ byte copy. copy ≡ byte) bytes copies → copies ≡ bytes
 same_bytes [] [] all = refl
 same_bytes [] (c ∷ cs) all = absurd all

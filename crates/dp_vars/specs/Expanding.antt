@@ -1,4 +1,4 @@
--- A text on the way to its expansion: what is written, and the openings in it that wait for their ends.
+-- A text during its expansion: what is written so far, and the openings in it that wait for their ends.
 use Rattle.std.specs.Prelude.{ℕ, ◌+◌, List, [], ◌∷◌, ◌++◌, drop, length, take}
 use Rattle.dp_conf.specs.declared.groups.Mark.{Mark}
 use Rattle.dp_conf.specs.declared.groups.Mark.TheVariants.{End, Opening, Byte}
@@ -9,14 +9,14 @@ use Rattle.dp_vars.specs.Unknown.{earlier, unknown_group}
 use Rattle.dp_vars.specs.Values.{group_value_with}
 use Rattle.dp_vars.specs.declared.expanding.WaitingOpening.{WaitingOpening}
 
--- what is written, the openings that wait, the innermost first, each with the place of its `$`, and the first call so far
--- of a function that is not known
+-- what is written, the waiting openings, the innermost first, each with the place of its `$`, and the first name, call or expression so far
+-- that is not known
 pub record Written : Type 0 where
   pub bytes : List ℕ
   pub waiting : List WaitingOpening
   pub unknown : List ℕ
 
--- what is written with a group in place of its opening and its body
+-- the written text with the value of a group in place of its opening and its body
 abbrev pub with_value : FunctionTable → Sight → WaitingOpening → List ℕ → List ℕ
 with_value functions sight w bytes = take w.start bytes ++ group_value_with functions sight w.kind (drop (w.start + 2) bytes)
 

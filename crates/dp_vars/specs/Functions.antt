@@ -1,11 +1,11 @@
--- Tables of functions: what a name between `${` and `(` comes to, and what setting such a name from outside sets.
+-- Tables of functions: the meaning of a name between `${` and `(`, and the target of setting such a name from outside.
 use Rattle.std.specs.Prelude.{ℕ, List, Bool}
 use Rattle.dp_expr.specs.declared.reading.ExpressionReading.{ExpressionReading}
 use Rattle.dp_vars.specs.Sights.{Sight}
 use Rattle.dp_vars.specs.declared.functions.Target.{Target}
 use Rattle.dp_vars.specs.declared.functions.Target.TheVariants as targets
 
--- what setting a name sets: a variable, a global or a local of a name, the number of the caller, or nothing
+-- the target of setting a name: a variable, a global or a local with a name, the number of the caller, or nothing
 pub data SettingTarget : Type 0 where
   Variable : List ℕ → SettingTarget
   Global : List ℕ → SettingTarget
@@ -13,7 +13,7 @@ pub data SettingTarget : Type 0 where
   Caller : SettingTarget
   Nothing : SettingTarget
 
--- what is set, by the bytes of its name
+-- the target, with its name as bytes
 abbrev pub target_seen : Target → SettingTarget
 target_seen (targets.Variable name) = Variable name.now
 target_seen (targets.Global name) = Global name.now
@@ -21,9 +21,9 @@ target_seen (targets.Local name) = Local name.now
 target_seen targets.Caller = Caller
 target_seen targets.Nothing = Nothing
 
--- what the functions of a table come to: the value of a name and an argument, whether the name and the argument are
--- known, whether the value of a plain name is, whether a text has the groups that this program reads in it, what an expression
--- comes to beside its value, and what setting a name from outside sets
+-- the meaning of the functions of a table: the value of a name and an argument, whether the name and the argument are known, whether the
+-- value of a plain name is, whether a text has the groups that this program reads in it, how an expression is read in addition to its
+-- value, and the target of setting a name from outside
 pub record FunctionTable : Type 0 where
   pub value : Sight → List ℕ → List ℕ → List ℕ
   pub knows : Sight → List ℕ → List ℕ → Bool

@@ -1,4 +1,4 @@
--- The pieces of a template, and what is written after them.
+-- The pieces of a template, and the text that is written after them.
 use Rattle.std.specs.Prelude.{◌≡◌, ℕ, List, [], ◌++◌, drop, fold}
 use Rattle.dp_conf.specs.declared.groups.Mark.TheVariants.{End, Opening}
 use Rattle.dp_conf.specs.GroupsRead.{reading_of}
@@ -16,26 +16,26 @@ use Rattle.dp_vars.specs.declared.text_piece.KnownExpression.{KnownExpression}
 use Rattle.dp_vars.specs.declared.text_piece.TextPiece.{TextPiece}
 use Rattle.dp_vars.specs.declared.text_piece.TextPiece.TheVariants.{Run, Name, Call, Other, Part, Known, Empty, Begins, Ends}
 
--- what is written with some bytes more
+-- the written text with more bytes
 abbrev pub with_bytes : Written → List ℕ → Written
 with_bytes written bytes = record written { bytes = written.bytes ++ bytes }
 
--- what is written with the value of a group, and with the call in it that is not known
+-- the written text with the value of a group, and with the name, call or expression in it that is not known
 abbrev pub with_found : Written → List ℕ → List ℕ → Written
 with_found written value unknown =
     record { bytes = written.bytes ++ value; waiting = written.waiting; unknown = earlier written.unknown unknown }
 
--- what is written with the value of a head
+-- the written text with the value of a head
 abbrev pub with_head : FunctionTable → Sight → List ℕ → Written → Head → Written
 with_head functions sight text written head =
     with_found written (head_seen functions sight text head) (unknown_seen functions sight text head)
 
--- what is written with a part of the value of a head
+-- the written text with a part of the value of a head
 abbrev pub with_cut : FunctionTable → Sight → List ℕ → Written → CutPart → Written
 with_cut functions sight text written cut =
     with_found written (part_seen text cut (head_seen functions sight text cut.head)) (unknown_seen functions sight text cut.head)
 
--- what is written with an expression, of which the value is there
+-- the written text with an expression whose value is known
 abbrev pub with_expression : FunctionTable → List ℕ → Written → KnownExpression → Written
 with_expression functions text written known =
     with_found written (value_read (functions.expression (text_at text known.body)) known.value.items)
@@ -61,7 +61,7 @@ blank = record { bytes = []; waiting = []; unknown = [] }
 abbrev pub past_all : FunctionTable → Sight → List ℕ → List TextPiece → Written
 past_all functions sight text pieces = fold (past functions sight text) blank pieces
 
--- what is written and the plain bytes after a place are the expansion of a text, and the call is its first that is not known
+-- the written text and the plain bytes after a place are the expansion of a text, and what was kept is the first in it that is not known
 pub record Come (functions : FunctionTable) (sight : Sight) (text : List ℕ) (written : Written) (tail : ℕ) : Type 0 where
   pub bytes : written.bytes ++ drop tail text ≡ expansion_with functions sight text
   pub unknown : written.unknown ≡ unknown_of functions sight (reading_of text)
@@ -71,7 +71,7 @@ pub record PiecesOf : Type 0 where
   pub pieces : List TextPiece
   pub tail : ℕ
 
--- after all pieces, and after the plain bytes that follow them, the expansion of the text is written, and its first call
--- that is not known is known, whatever is seen and whatever functions there are
+-- after all pieces, and after the plain bytes after them, the expansion of the text is written, and the first name, call or expression in
+-- it that is not known was found, whatever is seen and whatever functions there are
 abbrev pub AreOf : List ℕ → PiecesOf → Type 0
 AreOf text known = (functions : FunctionTable) (sight : Sight) → Come functions sight text (past_all functions sight text known.pieces) known.tail

@@ -1,4 +1,4 @@
--- The text of a value that was found, and the name of a function.
+-- The text of a found value, and the name of a function.
 use Rattle.std.specs.Prelude.{ℕ, List}
 use Rattle.std.specs.Fmt.{decimal}
 use Rattle.dp_vars.specs.Sights.{channel_name}
@@ -8,7 +8,7 @@ use Rattle.dp_vars.specs.declared.value.FoundValue.TheVariants.{Bytes, Number, C
 use Rattle.dp_vars.specs.declared.functions.FunctionName.{FunctionName}
 use Rattle.dp_vars.specs.declared.functions.FunctionName.TheVariants.{Known, Other}
 
--- bytes, a number in decimal, or the name of the channel of a number
+-- bytes, a number in decimal, or the name of the channel with a number
 abbrev pub value_bytes : FoundValue → List ℕ
 value_bytes (Bytes bytes) = bytes.now
 value_bytes (Number number) = decimal number

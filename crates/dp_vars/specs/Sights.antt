@@ -1,4 +1,4 @@
--- What a group can see: the variables, the globals, the locals of the innermost frame, the caller and the queues.
+-- What a group sees: the variables, the globals, the locals of the innermost frame, the caller and the queues.
 use Rattle.std.specs.Prelude.{ℕ, Bool, is_some, List, [], ◌∷◌, ◌++◌, Option, Some, None, map, unwrap_or, codes}
 use Rattle.std.specs.Borrow.{Bor}
 use Rattle.std.specs.Fmt.{decimal}
@@ -13,8 +13,8 @@ use Rattle.dp_vars.specs.declared.scope.Scope.{Scope}
 use Rattle.dp_vars.specs.declared.value.GivenName.{GivenName}
 use Rattle.dp_vars.specs.declared.value.GivenName.TheVariants.{Exten, Context, Priority, Channel}
 
--- the value of each name and whether it has one, the value of each global and whether there is one, the value of each local of
--- the innermost frame alone, the caller's number, how many wait in each queue, and how many members it has, where it is there
+-- the value of each name and whether it has one, the value of each global and whether there is one, the value of each local of the
+-- innermost frame alone, the caller's number, the number of calls that wait in each queue, and the number of its members, if it exists
 pub record Sight : Type 0 where
   pub variable : List ℕ → List ℕ
   pub is_set : List ℕ → Bool
@@ -25,12 +25,12 @@ pub record Sight : Type 0 where
   pub waiting : List ℕ → ℕ
   pub members : List ℕ → Option ℕ
 
--- what is counted of the queues by their names: how many wait in each, and how many members it has, where it is there
+-- the counts of the queues by name: the number of calls that wait in each, and the number of its members, if it exists
 pub record QueueCounts : Type 0 where
   pub waiting : List ℕ → ℕ
   pub members : List ℕ → Option ℕ
 
--- what a channel gives to a text: its number and place, and the caller's number
+-- what a text sees of a channel: its number and place, and the caller's number
 pub record ChannelView : Type 0 where
   pub number : ℕ
   pub context : List ℕ
@@ -38,7 +38,7 @@ pub record ChannelView : Type 0 where
   pub priority : ℕ
   pub caller : List ℕ
 
--- what is seen of a channel, by its values
+-- the view of a channel, as values
 abbrev pub view_of : ChannelSeen → ChannelView
 view_of seen = record {
   number = seen.number;
@@ -56,7 +56,7 @@ channel_name number = codes "Channel/" ++ decimal number
 abbrev pub given_names : List (List ℕ × GivenName)
 given_names = (codes "EXTEN", Exten) ∷ (codes "CONTEXT", Context) ∷ (codes "PRIORITY", Priority) ∷ (codes "CHANNEL", Channel) ∷ []
 
--- their values; where there is no channel each of them is empty, and so no variable of that name is seen
+-- their values; without a channel each of them is empty, and so no variable with that name is seen
 abbrev pub given_value : Option ChannelView → GivenName → List ℕ
 given_value None given = []
 given_value (Some channel) Exten = channel.extension
@@ -76,12 +76,12 @@ channel_map channel = from_entries {R = slice_cmp nat_cmp} (given_by channel)
 abbrev pub caller_of : Option ChannelView → List ℕ
 caller_of channel = option_map_or (λ seen. seen.caller) channel []
 
--- the value after a reference, where there is one
+-- the value behind a reference, if there is one
 abbrev pub after : {X : Type 0} → Option (Bor X) → Option X
 after reference = option_map (λ r. r.now) reference
 
 module _ {B : Type 0} where
-  -- the maps of a store, where there is one: the locals from the innermost frame outwards, and the channel's variables
+  -- the maps of a store, if there is one: the locals from the innermost frame outwards, and the channel's variables
   abbrev pub stored_maps : Option (StoreOf B) → List Named
   stored_maps None = []
   stored_maps (Some store) = searched_maps store
@@ -91,11 +91,11 @@ module _ {B : Type 0} where
   local_seen None name = []
   local_seen (Some store) name = unwrap_or (local_in store name) []
 
-  -- the maps in which a name is searched: what the channel gives, those of the store, and the globals
+  -- the maps in which a name is looked up: what the channel gives, those of the store, and the globals
   abbrev pub maps_by : Option ChannelView → Option (StoreOf B) → Named → List Named
   maps_by channel store globals = channel_map channel ∷ (stored_maps store ++ globals ∷ [])
 
-  -- what a channel, a store and the globals let see, with what is counted of the queues
+  -- what is seen of a channel, a store and the globals, with the counts of the queues
   abbrev pub sight_by : QueueCounts → Option ChannelView → Option (StoreOf B) → Named → Sight
   sight_by counts channel store globals = record {
     variable = value_or_empty (maps_by channel store globals);
@@ -109,11 +109,11 @@ module _ {B : Type 0} where
   }
 
 module _ {B C : Type 0} where
-  -- the maps in which a scope searches a name
+  -- the maps in which a scope looks up a name
   abbrev pub maps_of : Scope B C → List Named
   maps_of scope = maps_by (option_map view_of scope.channel) (after scope.store) scope.globals.now
 
-  -- what a scope lets see, where `count` counts in the queues
+  -- what is seen in a scope, where `count` gives the counts of the queues
   abbrev pub sight_of : (C → QueueCounts) → Scope B C → Sight
   sight_of count scope =
       sight_by (count scope.counts.now) (option_map view_of scope.channel) (after scope.store) scope.globals.now

@@ -2,6 +2,6 @@
 use Rattle.std.specs.Prelude.{ℕ, ◌-◌, List, drop, take}
 use Rattle.dp_vars.specs.declared.span.Span.{Span}
 
--- what stands between two places of a text, as far as the text goes
+-- the text between two places, as far as the text goes
 abbrev pub text_at : List ℕ → Span → List ℕ
 text_at text span = take (span.to - span.from) (drop span.from text)

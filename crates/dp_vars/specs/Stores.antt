@@ -1,4 +1,4 @@
--- The variables of a channel, the frames above them, which may have locals, and the names by their numbers.
+-- The variables of a channel, the frames above them, which may have locals, and the names with their numbers.
 use Rattle.std.specs.Prelude.{ℕ, zero, suc, ◌-◌, List, [], ◌∷◌, ◌++◌, Option, Some, None, length, map, fold, reverse, take, slice_get, nat_eq, position, if◌then◌else◌}
 use Rattle.std.specs.Cmp.Lexicographic.{pointwise}
 use Rattle.std.specs.Option.{option_and_then, option_map, option_or}
@@ -6,12 +6,12 @@ use Rattle.std.specs.FinMap.{contains_key, get, insert, empty, remove}
 use Rattle.dp_vars.specs.Variables.{Named, first_value, map_of}
 use Rattle.dp_vars.specs.declared.local.Local.{Local}
 
--- where a subroutine goes back to, and its locals
+-- the place to which a subroutine returns, and its locals
 pub record Frame (B : Type 0) : Type 0 where
   pub back : B
   pub locals : Named
 
--- the variables of a channel, its frames, the innermost last, and the names that were given to it, each in the place of its number
+-- the variables of a channel, its frames, the innermost last, and the names that it was given, in the order of their numbers
 pub record StoreOf (B : Type 0) : Type 0 where
   pub variables : Named
   pub frames : List (Frame B)
@@ -21,7 +21,7 @@ pub record StoreOf (B : Type 0) : Type 0 where
 abbrev pub slot : List (List ℕ) → List ℕ → Option ℕ
 slot names name = position (pointwise nat_eq name) names
 
--- the names with one more after them, where it is new
+-- the names with one more at the end, if it is new
 abbrev pub with_name : List (List ℕ) → List ℕ → List (List ℕ)
 with_name [] name = name ∷ []
 with_name (n ∷ names) name = if pointwise nat_eq name n then n ∷ names else n ∷ with_name names name
@@ -39,11 +39,11 @@ module _ {B : Type 0} where
   abbrev pub all_locals : List (Frame B) → List Named
   all_locals frames = map (λ frame. frame.locals) (reverse frames)
 
-  -- the maps in which a name is searched: those locals, and then the variables
+  -- the maps in which a name is looked up: those locals, and then the variables
   abbrev pub searched_maps : StoreOf B → List Named
   searched_maps store = all_locals store.frames ++ store.variables ∷ []
 
-  -- the value that the store has for a name
+  -- the value of a name in the store
   abbrev pub value_in : StoreOf B → List ℕ → Option (List ℕ)
   value_in store name = first_value (searched_maps store) name
 
@@ -78,7 +78,7 @@ module _ {B : Type 0} where
   set_in (Some place) store name value =
       record store { frames = changed_at (with_local name value) place store.frames; names = with_name store.names name }
 
-  -- the store after a name is set: the local of the innermost frame that has it as one, else the channel's variable
+  -- the store after a name is set: the local of the innermost frame that has one with the name, else the channel's variable
   unfoldable pub set : StoreOf B → List ℕ → List ℕ → StoreOf B
   set store name value = set_in (holder name store.frames) store name value
 
@@ -86,19 +86,19 @@ module _ {B : Type 0} where
   abbrev pub without_local : List ℕ → Frame B → Frame B
   without_local name frame = record frame { locals = remove frame.locals name }
 
-  -- the store in which a name has no value any more, neither of the channel nor as a local of a frame; it keeps its number
+  -- the store in which a name no longer has a value, neither of the channel nor as a local of a frame; it keeps its number
   unfoldable pub unset : StoreOf B → List ℕ → StoreOf B
   unset store name = record store {
     variables = remove store.variables name;
     frames = map (without_local name) store.frames;
   }
 
-  -- the names with that of a local, where there is a frame that it is set in
+  -- the names with that of a local, if there is a frame in which to set it
   abbrev pub with_local_name : List (Frame B) → List (List ℕ) → List ℕ → List (List ℕ)
   with_local_name [] names name = names
   with_local_name (frame ∷ frames) names name = with_name names name
 
-  -- the store with a local of the innermost frame set, where there is a frame
+  -- the store with a local of the innermost frame set, if there is a frame
   unfoldable pub set_local : StoreOf B → List ℕ → List ℕ → StoreOf B
   set_local store name value = record store {
     frames = changed_at (with_local name value) (length store.frames - 1) store.frames;
@@ -116,7 +116,7 @@ module _ {B : Type 0} where
   abbrev pub without_frame : StoreOf B → StoreOf B
   without_frame store = record store { frames = take (length store.frames - 1) store.frames }
 
-  -- the store without its innermost frame and with a name set then, and where that frame goes back to; with no frame nothing
+  -- the store without its innermost frame and then with a name set, and the place to which that frame returns; None without a frame
   abbrev pub popped_setting : StoreOf B → List ℕ → List ℕ → Option (Frame B) → StoreOf B × Option B
   popped_setting store name value None = (store, None)
   popped_setting store name value (Some frame) = (set (without_frame store) name value, Some frame.back)

@@ -17,7 +17,7 @@ use Rattle.dp_vars.specs.Sights.{Sight}
 use Rattle.dp_vars.specs.declared.value.Function.{Function}
 use Rattle.dp_vars.specs.declared.value.Function.TheVariants.{Global, Local, Len, CallerId, QueueWaitingCount}
 
--- the functions by their names
+-- the functions, given their names
 abbrev pub function_of : List ℕ → Option Function
 function_of name =
     if same_text name (codes "GLOBAL") then Some Global
@@ -34,11 +34,11 @@ function_name Len = codes "LEN"
 function_name CallerId = codes "CALLERID"
 function_name QueueWaitingCount = codes "QUEUE_WAITING_COUNT"
 
--- the number of the caller, where that is asked for
+-- the number of the caller, if that is requested
 abbrev pub caller_value : List ℕ → List ℕ → List ℕ
 caller_value caller argument = if same_text argument (codes "num") then caller else []
 
--- the value of a function of an argument; other names are no functions, and their value is empty
+-- the value of a function with an argument; other names are not functions, and their value is empty
 abbrev pub function_value : Sight → Option Function → List ℕ → List ℕ
 function_value sight None argument = []
 function_value sight (Some Global) argument = sight.global argument
@@ -47,8 +47,8 @@ function_value sight (Some Len) argument = decimal (length argument)
 function_value sight (Some CallerId) argument = caller_value sight.caller argument
 function_value sight (Some QueueWaitingCount) argument = decimal (sight.waiting argument)
 
--- the table of these functions: it knows each name, since any other function and any variable that is not set are empty, groups
--- are as this program reads them, an expression has its value, and setting a name sets the variable
+-- the table of these functions: it knows each name, because any other function and any variable that is not set are
+-- empty, groups are as this program reads them, an expression has its value, and setting a name sets the variable
 abbrev pub standard_functions : FunctionTable
 standard_functions = record {
   value = λ sight name argument. function_value sight (function_of name) argument;
@@ -59,12 +59,13 @@ standard_functions = record {
   target = λ name. Variable name;
 }
 
--- a function has its argument between its first `(` and the last `)` after it; with no such `)` it is empty
+-- the argument of a function is between its first `(` and the last `)` after it; without such a `)` the function is
+-- empty
 abbrev pub call_argument_with : FunctionTable → Sight → List ℕ → Option (List ℕ) → List ℕ
 call_argument_with functions sight name None = []
 call_argument_with functions sight name (Some argument) = functions.value sight name argument
 
--- a head with a `(` is a function, and any other the name of a variable
+-- a head with a `(` is a function, and any other is the name of a variable
 abbrev pub head_by_with : FunctionTable → Sight → List ℕ → Option (List ℕ × List ℕ) → List ℕ
 head_by_with functions sight head None = sight.variable head
 head_by_with functions sight head (Some cut) = call_argument_with functions sight cut.0 (before_last 41 cut.1)
@@ -73,58 +74,58 @@ head_by_with functions sight head (Some cut) = call_argument_with functions sigh
 unfoldable pub head_value_with : FunctionTable → Sight → List ℕ → List ℕ
 head_value_with functions sight head = head_by_with functions sight head (cut_once 40 head)
 
--- the value of a body that is cut, or of one that is not
+-- the value of a body, which may be cut
 abbrev pub body_by_with : FunctionTable → Sight → List ℕ → Option (List ℕ × List ℕ) → List ℕ
 body_by_with functions sight body None = head_value_with functions sight body
 body_by_with functions sight body (Some cut) = part (asked_of (Some cut.1)) (head_value_with functions sight cut.0)
 
--- what an expression comes to where this is its value, by how the table reads it
+-- the result of an expression with this value, given how the table reads it
 abbrev pub value_read : ExpressionReading → List ℕ → List ℕ
 value_read readings.Value value = value
 value_read readings.Zero value = 48 ∷ []
 value_read readings.Unknown value = value
 
--- the value of the expanded body of a group: in braces what stands before the first `:` outside parentheses is a
--- variable or a function, and what stands after it asks for a part of the value; in brackets the body is an expression
+-- the value of the expanded body of a group: in braces the text before the first `:` outside parentheses is a variable
+-- or a function, and the text after it requests a part of the value; in brackets the body is an expression
 unfoldable pub group_value_with : FunctionTable → Sight → GroupKind → List ℕ → List ℕ
 group_value_with functions sight Braces body = body_by_with functions sight body (cut_outside 58 body)
 group_value_with functions sight Brackets body = value_read (functions.expression body) (expression_value body)
 
--- a reading with each group replaced by the value of its expanded body; values are not read again
+-- a reading with each group replaced with the value of its expanded body; values are not read again
 unfoldable pub expansion_of_with : FunctionTable → Sight → Reading → List ℕ
 expansion_of_with functions sight Over = []
 expansion_of_with functions sight (Plain byte rest) = byte ∷ expansion_of_with functions sight rest
 expansion_of_with functions sight (Group kind inside rest) =
     group_value_with functions sight kind (expansion_of_with functions sight inside) ++ expansion_of_with functions sight rest
 
--- the same of a text by its one reading
+-- the same for a text, given its one reading
 abbrev pub expansion_with : FunctionTable → Sight → List ℕ → List ℕ
 expansion_with functions sight text = expansion_of_with functions sight (reading_of text)
 
--- the value of an argument by the standard functions
+-- the value of an argument, with the standard functions
 abbrev pub call_argument : Sight → List ℕ → Option (List ℕ) → List ℕ
 call_argument = call_argument_with standard_functions
 
--- the value of a head that is cut at its `(`, by the standard functions
+-- the value of a head that may be cut at its `(`, with the standard functions
 abbrev pub head_by : Sight → List ℕ → Option (List ℕ × List ℕ) → List ℕ
 head_by = head_by_with standard_functions
 
--- the value of a head by the standard functions
+-- the value of a head, with the standard functions
 abbrev pub head_value : Sight → List ℕ → List ℕ
 head_value = head_value_with standard_functions
 
--- the value of a body that may be cut, by the standard functions
+-- the value of a body that may be cut, with the standard functions
 abbrev pub body_by : Sight → List ℕ → Option (List ℕ × List ℕ) → List ℕ
 body_by = body_by_with standard_functions
 
--- the value of a group by the standard functions
+-- the value of a group, with the standard functions
 abbrev pub group_value : Sight → GroupKind → List ℕ → List ℕ
 group_value = group_value_with standard_functions
 
--- a reading with its groups replaced, by the standard functions
+-- a reading with its groups replaced, with the standard functions
 abbrev pub expansion_of : Sight → Reading → List ℕ
 expansion_of = expansion_of_with standard_functions
 
--- a text with its groups replaced, by the standard functions
+-- a text with its groups replaced, with the standard functions
 abbrev pub expansion : Sight → List ℕ → List ℕ
 expansion = expansion_with standard_functions

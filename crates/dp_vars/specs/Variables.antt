@@ -1,4 +1,4 @@
--- Variables: finite maps from names to values, both of them bytes.
+-- Variables: finite maps from names to values, both of which are bytes.
 use Rattle.std.specs.Prelude.{ℕ, List, [], ◌∷◌, Option, None, map, fold, unwrap_or}
 use Rattle.std.specs.Option.{option_or}
 use Rattle.std.specs.Ordering.{nat_cmp}
@@ -12,16 +12,16 @@ use Rattle.dp_vars.specs.declared.local.Local.{Local}
 abbrev pub Named : Type 0
 Named = FinMap (slice_cmp nat_cmp) (List ℕ)
 
--- such a map is stored as its entries
+-- the stored form of such a map is its entries
 abbrev pub named_code : Coded Named
 named_code = code (coded_list coded_ℕ) (coded_list coded_ℕ)
 
--- the value that the first of the maps gives the name, where one gives it a value
+-- the value of the name in the first of the maps that contains it
 abbrev pub first_value : List Named → List ℕ → Option (List ℕ)
 first_value [] name = None
 first_value (m ∷ ms) name = option_or (get m name) (first_value ms name)
 
--- that value, and the empty text where none gives it one
+-- that value, or the empty text if there is none
 abbrev pub value_or_empty : List Named → List ℕ → List ℕ
 value_or_empty maps name = unwrap_or (first_value maps name) []
 
@@ -29,14 +29,14 @@ value_or_empty maps name = unwrap_or (first_value maps name) []
 abbrev pub map_with : Named → Local → Named
 map_with m local = insert m local.name local.value
 
--- the map of some locals; of two values of one name the later stands
+-- the map of some locals; of two values with one name the later one counts
 abbrev pub map_of : List Local → Named
 map_of locals = fold map_with empty locals
 
--- entries whose keys are read by their bytes
+-- entries with their keys as bytes
 abbrev pub by_bytes : {K X : Type 0} → (K → List ℕ) → List (K × X) → List (List ℕ × X)
 by_bytes bytes entries = map (λ e. (bytes e.0, e.1)) entries
 
--- the order of keys by their bytes
+-- the order of keys, by their bytes
 abbrev pub in_order : {K : Type 0} → (K → List ℕ) → K → K → Ordering
 in_order bytes a b = slice_cmp nat_cmp (bytes a) (bytes b)

@@ -1,4 +1,4 @@
-//! The values that one name has, in the channel and in frames.
+//! The values of one name, in the channel and in its frames.
 ghost use Rattle.std.specs.Prelude.{◌≡◌, ◌+◌, ◌<◌, ◌≤◌, [], OnErr, OnOk, IfOk, reverse, if◌then◌else◌, slice_get, vec_len, vec_capacity};
 ghost use Rattle.std.specs.Option.{option_map};
 ghost use Rattle.dp_vars.specs.steps.Bindings.{binding, with_binding, bound_below, innermost_value, is_at, rebound, unbound};
@@ -8,7 +8,7 @@ use dp_conf::{NoMemory, Text};
 use std::alloc::Global;
 use std::marker::Model;
 
-/// A value, and the depth at which it is bound: 0 is the channel, and k + 1 the frame at place k.
+/// A value, and the depth at which it is bound: 0 is the channel, and k + 1 is the frame at place k.
 #[derive(Drop)]
 pub(crate) struct Binding {
     pub(crate) depth: usize,
@@ -30,7 +30,7 @@ impl Model for BindingStack {
     ghost view = { λ stack. reverse stack.bindings.items };
 }
 
-/// Gives the last binding another value.
+/// Changes the value of the last binding.
 fn change_last(bindings: &mut Vec<Binding>, value: Text)
     requires { 0 < vec_len bindings.old }
     ensures value { reverse bindings.new.items ≡ rebound value (reverse bindings.old.items) }
@@ -43,7 +43,7 @@ fn change_last(bindings: &mut Vec<Binding>, value: Text)
     }
 }
 
-/// Gives the last binding another value, or binds one in the channel where there is none.
+/// Changes the value of the last binding, or binds the value in the channel if there is none.
 fn rebind_last(bindings: &mut Vec<Binding>, value: Text)
     requires { vec_len bindings.old ≡ 0 → 0 < vec_capacity bindings.old }
     ensures value { reverse bindings.new.items ≡ rebound value (reverse bindings.old.items) }
@@ -58,7 +58,7 @@ fn rebind_last(bindings: &mut Vec<Binding>, value: Text)
 }
 
 impl BindingStack {
-    /// One value, at a depth.
+    /// A single value, bound at a depth.
     pub(crate) fn of(alloc: Global, depth: usize, value: Text) -> Result<Self, NoMemory>
         ensures { IfOk result (λ stack. stack ≡ with_binding depth value []) }
     {
@@ -74,7 +74,7 @@ impl BindingStack {
         self.bindings.last()
     }
 
-    /// Whether the innermost binding stands at a depth.
+    /// Whether the innermost binding is at a depth.
     fn is_at(&self, depth: usize) -> bool
         ensures { result ≡ is_at depth self.now }
     {
@@ -94,7 +94,7 @@ impl BindingStack {
         }
     }
 
-    /// The value of the innermost binding, where that one stands at a depth.
+    /// The value of the innermost binding, if that is at a depth.
     pub(crate) fn value_at(&self, depth: usize) -> Option<&[u8]>
         ensures { option_map (λ value. value.now) result ≡ (if is_at depth self.now then innermost_value self.now else None) }
     {
@@ -105,15 +105,14 @@ impl BindingStack {
         }
     }
 
-    /// Takes all bindings away.
+    /// Removes all bindings.
     pub(crate) fn clear(&mut self)
         ensures { self.new ≡ [] }
     {
         self.bindings.clear();
     }
 
-    /// Binds a value at a depth, in the place of the innermost binding where that one stands there. After a refused growth
-    /// all is as before.
+    /// Binds a value at a depth, replacing the innermost binding if that is at the depth. If memory runs out nothing changes.
     pub(crate) fn bind(&mut self, depth: usize, value: Text) -> Result<(), NoMemory>
         ensures ok { OnOk result (self.new ≡ with_binding depth value self.old) }
         ensures err { OnErr result (self.new ≡ self.old) }
@@ -126,8 +125,8 @@ impl BindingStack {
         Ok(())
     }
 
-    /// Gives the innermost binding another value, or binds one in the channel where there is none, after this change. After
-    /// a refused growth all is as before.
+    /// Makes the change, and then changes the value of the innermost binding, or binds the value in the channel if there is none. If memory
+    /// runs out nothing changes.
     pub(crate) fn rebind_after<T, C: Change<T>>(
         &mut self,
         alloc: Global,
@@ -148,8 +147,8 @@ impl BindingStack {
         Ok(())
     }
 
-    /// Gives the innermost binding that stands at no such depth another value, or binds one in the channel where there is
-    /// none. After a refused growth all is as before.
+    /// Changes the value of the innermost binding that is not at the depth, or binds the value in the channel if there is none. If memory
+    /// runs out nothing changes.
     pub(crate) fn bind_below(&mut self, depth: usize, value: Text) -> Result<(), NoMemory>
         ensures ok { OnOk result (self.new ≡ bound_below depth value self.old) }
         ensures err { OnErr result (self.new ≡ self.old) }
@@ -167,7 +166,7 @@ impl BindingStack {
         Ok(())
     }
 
-    /// Takes the innermost binding away, where it stands at that depth.
+    /// Removes the innermost binding, if it is at that depth.
     pub(crate) fn unbind(&mut self, depth: usize)
         ensures { self.new ≡ unbound depth self.old }
     {

@@ -1,16 +1,14 @@
-//! The names of a store by their numbers, each with its values.
+//! The names of a store, numbered, each with its values.
 ghost use Rattle.std.specs.Prelude.{◌≡◌, None, [], length, nat_eq, fold, take, ◌-◌, OnErr, OnOk};
-ghost use Rattle.std.specs.BTreeMap.{get, insert_entry};
 ghost use Rattle.std.specs.Cmp.Lexicographic.{pointwise};
 ghost use Rattle.std.specs.Map.{lookup};
 ghost use Rattle.std.specs.Option.{option_map};
 ghost use Rattle.dp_vars.specs.steps.Bindings.{with_binding, bound_below, rebound};
 ghost use Rattle.dp_vars.specs.Stores.{slot as slot_of};
 ghost use Rattle.dp_vars.specs.steps.Tables.{cleared, names_of, stack_of, unbound_at, with_stack};
-ghost use Rattle.dp_vars.specs.Variables.{in_order};
 
 use crate::binding_stack::BindingStack;
-use crate::change::{Change, Nothing};
+use crate::change::Change;
 use crate::frame::NameNumbers;
 use dp_conf::{NoMemory, Text};
 use std::alloc::Global;
@@ -35,8 +33,8 @@ impl Model for NamedBindings {
 
 /// Names with their bindings. The number of a name is its place here.
 ///
-/// A map has the number of each name. It is ordered, so that a look-up costs the logarithm of how many names there are,
-/// whatever names a dialplan chooses.
+/// A map contains the number of each name. It is ordered, so that a look-up takes time logarithmic in the number of
+/// names, whatever names a dialplan chooses.
 #[derive(Drop)]
 pub(crate) struct BindingTable {
     entries: Vec<NamedBindings>,
@@ -54,34 +52,8 @@ impl Model for BindingTable {
     ghost invariant = { λ table. AreNumbered (by_bytes (λ name. name.items) table.numbers.entries) (names_of table.entries.items) };
 }
 
-/// Gives a name that had no number this one, once this change is made. After a refused growth all is as before.
-fn number_after<T, C: Change<T>>(
-    alloc: Global,
-    numbers: &mut BTreeMap<Vec<u8>, usize>,
-    name: Vec<u8>,
-    number: usize,
-    change: &C,
-    target: &mut T,
-) -> Result<(), NoMemory>
-    requires { get (in_order (λ key. key.items)) numbers.old name ≡ None }
-    ensures ok { OnOk result (numbers.new.entries
-        ≡ insert_entry (in_order (λ key. key.items)) numbers.old.entries name number) }
-    ensures changed { OnOk result (target.new ≡ C.after change.now target.old) }
-    ensures err { OnErr result (numbers.new.entries ≡ numbers.old.entries) }
-    ensures unchanged { OnErr result (target.new ≡ target.old) }
-{
-    // The entry has room for the number, and puts none where the change is refused.
-    let entry = numbers.entry(name)?;
-    let changed = change.run(alloc, target);
-    entry.or_try_insert_with(|| match changed {
-        Ok(()) => Ok(number),
-        Err(no_memory) => Err(no_memory),
-    })?;
-    Ok(())
-}
-
 impl BindingTable {
-    /// No names. It never allocates.
+    /// Without names. It never allocates.
     pub(crate) fn new(alloc: Global) -> Self
         ensures { result ≡ [] }
     {
@@ -91,7 +63,7 @@ impl BindingTable {
         }
     }
 
-    /// How many names there are.
+    /// The number of names.
     pub(crate) fn len(&self) -> usize
         ensures { result ≡ length self.now }
     {
@@ -119,47 +91,26 @@ impl BindingTable {
         Some(&entry.stack)
     }
 
-    /// Puts a new name with a value at a depth after the others, once this change is made. After a refused growth all is as
-    /// before.
-    fn add_after<T, C: Change<T>>(
-        &mut self,
-        alloc: Global,
-        name: &[u8],
-        depth: usize,
-        value: Text,
-        change: &C,
-        target: &mut T,
-    ) -> Result<(), NoMemory>
+    /// Adds a new name with a value at a depth. If memory runs out nothing changes.
+    fn add(&mut self, name: &[u8], depth: usize, value: Text) -> Result<(), NoMemory>
         requires { slot_of (names_of self.old) name.now ≡ None }
         ensures ok { OnOk result (self.new ≡ with_stack self.old name.now (with_binding depth value [])) }
-        ensures changed { OnOk result (target.new ≡ C.after change.now target.old) }
         ensures err { OnErr result (self.new ≡ self.old) }
-        ensures unchanged { OnErr result (target.new ≡ target.old) }
     {
+        let alloc = *self.entries.allocator();
         let key = Vec::from_slice(alloc, name)?;
         let name = Text::copy_of(alloc, name)?;
         let stack = BindingStack::of(alloc, depth, value)?;
         self.entries.reserve(1)?;
-        let number = self.entries.len();
-        number_after(alloc, &mut self.numbers, key, number, change, target)?;
+        self.numbers.insert(key, self.entries.len())?;
         self.entries.push_reserved(NamedBindings { name, stack });
         Ok(())
     }
 
-    /// Puts a new name with a value at a depth after the others. After a refused growth all is as before.
-    fn add(&mut self, alloc: Global, name: &[u8], depth: usize, value: Text) -> Result<(), NoMemory>
-        requires { slot_of (names_of self.old) name.now ≡ None }
-        ensures ok { OnOk result (self.new ≡ with_stack self.old name.now (with_binding depth value [])) }
-        ensures err { OnErr result (self.new ≡ self.old) }
-    {
-        self.add_after(alloc, name, depth, value, &Nothing, &mut ())
-    }
-
-    /// Binds a value at a depth for a name of this number, or for a new one where it has none yet, in the place of the
-    /// innermost binding where that one stands there. After a refused growth all is as before.
+    /// Binds a value at a depth for the name with this number, or for a new name if it has none yet, replacing the
+    /// innermost binding if that is at the depth. If memory runs out nothing changes.
     pub(crate) fn bind(
         &mut self,
-        alloc: Global,
         slot: Option<usize>,
         name: &[u8],
         depth: usize,
@@ -170,7 +121,7 @@ impl BindingTable {
         ensures err { OnErr result (self.new ≡ self.old) }
     {
         let Some(number) = slot else {
-            self.add(alloc, name, depth, value)?;
+            self.add(name, depth, value)?;
             return Ok(());
         };
         let entry = &mut self.entries[number];
@@ -178,24 +129,27 @@ impl BindingTable {
         Ok(())
     }
 
-    /// Gives the innermost binding of a name another value, or binds one in the channel where there is none, after this
-    /// change. After a refused growth all is as before.
+    /// Makes the change, and then changes the value of a name's innermost binding, or binds the value in the channel if
+    /// there is none. If memory runs out nothing changes.
     pub(crate) fn rebind_after<T, C: Change<T>>(
         &mut self,
-        alloc: Global,
         name: &[u8],
-        value: &[u8],
+        value: Text,
         change: &C,
         target: &mut T,
     ) -> Result<(), NoMemory>
-        ensures ok { OnOk result (self.new ≡ with_stack self.old name.now (rebound value.now (stack_of self.old name.now))) }
+        ensures ok { OnOk result (self.new ≡ with_stack self.old name.now (rebound value (stack_of self.old name.now))) }
         ensures changed { OnOk result (target.new ≡ C.after change.now target.old) }
         ensures err { OnErr result (self.new ≡ self.old) }
         ensures unchanged { OnErr result (target.new ≡ target.old) }
     {
-        let value = Text::copy_of(alloc, value)?;
+        let alloc = *self.entries.allocator();
         let Some(number) = self.slot(name) else {
-            self.add_after(alloc, name, 0, value, change, target)?;
+            self.add(name, 0, value)?;
+            if let Err(no_memory) = change.run(alloc, target) {
+                self.pop();
+                return Err(no_memory);
+            }
             return Ok(());
         };
         let entry = &mut self.entries[number];
@@ -203,20 +157,18 @@ impl BindingTable {
         Ok(())
     }
 
-    /// The same below the innermost binding, where that one stands at this depth.
+    /// The same below the innermost binding, if that is at this depth.
     pub(crate) fn bind_below(
         &mut self,
-        alloc: Global,
         name: &[u8],
         depth: usize,
-        value: &[u8],
+        value: Text,
     ) -> Result<(), NoMemory>
-        ensures ok { OnOk result (self.new ≡ with_stack self.old name.now (bound_below depth value.now (stack_of self.old name.now))) }
+        ensures ok { OnOk result (self.new ≡ with_stack self.old name.now (bound_below depth value (stack_of self.old name.now))) }
         ensures err { OnErr result (self.new ≡ self.old) }
     {
-        let value = Text::copy_of(alloc, value)?;
         let Some(number) = self.slot(name) else {
-            self.add(alloc, name, 0, value)?;
+            self.add(name, 0, value)?;
             return Ok(());
         };
         let entry = &mut self.entries[number];
@@ -224,7 +176,7 @@ impl BindingTable {
         Ok(())
     }
 
-    /// Takes all bindings of a name away, which keeps its number.
+    /// Removes all bindings of a name, which keeps its number.
     pub(crate) fn clear(&mut self, name: &[u8])
         ensures { self.new ≡ cleared self.old name.now }
     {
@@ -234,7 +186,7 @@ impl BindingTable {
         }
     }
 
-    /// Takes the binding at a depth away, where it is the innermost of the name of a number.
+    /// Removes the binding at a depth, if it is the innermost one of the name with a number.
     fn unbind(&mut self, depth: usize, number: usize)
         ensures { self.new ≡ unbound_at depth self.old number }
     {
@@ -244,7 +196,7 @@ impl BindingTable {
         }
     }
 
-    /// The same for each of some numbers.
+    /// The same for each of several numbers.
     pub(crate) fn unbind_all(&mut self, depth: usize, numbers: &NameNumbers)
         ensures { self.new ≡ fold (unbound_at depth) self.old numbers.now }
     {
@@ -253,7 +205,7 @@ impl BindingTable {
         }
     }
 
-    /// Takes the last name away.
+    /// Removes the last name.
     fn pop(&mut self)
         ensures { self.new ≡ take (length self.old - 1) self.old }
     {
@@ -262,7 +214,7 @@ impl BindingTable {
         }
     }
 
-    /// Keeps the first names alone, so many of them. It costs what it takes away.
+    /// Keeps only this many names, the first ones. The cost depends only on the removed names.
     pub(crate) fn truncate(&mut self, len: usize)
         ensures { self.new ≡ take len self.old }
     {

@@ -1,15 +1,15 @@
-//! Changes that are made between the growths of a setting and the setting itself.
+//! Changes that are made after a setting has allocated its memory and before it takes effect.
 ghost use Rattle.std.specs.Prelude.{◌≡◌, OnErr, OnOk};
 
 use dp_conf::NoMemory;
 use std::alloc::Global;
 
-/// A change of a target, which may be refused memory.
+/// A change of a target, which fails if memory runs out.
 pub trait Change<T> {
-    // What the target is after it.
+    // The target after the change.
     ghost after: { Self → T → T };
 
-    /// Changes the target. After a refused growth it is as before.
+    /// Changes the target. If memory runs out the target is as before.
     fn run(&self, alloc: Global, target: &mut T) -> Result<(), NoMemory>
         ensures ok { OnOk result (target.new ≡ after self.now target.old) }
         ensures err { OnErr result (target.new ≡ target.old) };

@@ -1,4 +1,4 @@
-//! A text on the way to its expansion, in one pass with no recursion.
+//! A text during its expansion, in one pass without recursion.
 ghost use Rattle.std.specs.Option.{option_map, option_or};
 ghost use Rattle.std.specs.Prelude.{◌≡◌, ◌+◌, ◌≤◌, [], ◌∷◌, ◌++◌, IfOk, OnOk, drop, length, take, vec_len};
 ghost use Rattle.dp_conf.specs.Groups as groups;
@@ -43,15 +43,15 @@ impl Default for WaitingOpening {
     }
 }
 
-/// An expanded text, and the first name, call or expression in it that is not known, as `DB(a/b)`, or the text before it is expanded
-/// where other groups are read in it.
+/// An expanded text, and the first name, call or expression in it that is not known, such as `DB(a/b)`, or the text before its expansion if
+/// it is read with other groups.
 #[derive(Drop)]
 pub struct Expanded {
     pub bytes: Vec<u8>,
     pub unknown: Option<Vec<u8>>,
 }
 
-/// The text, where the table reads other groups in it than this program does.
+/// The text, if the table reads other groups in it than this program does.
 #[inline(always)]
 fn read_otherwise<F: Functions>(alloc: Global, text: &[u8]) -> Result<Option<Vec<u8>>, NoMemory>
     ensures { IfOk result (λ otherwise. option_map (λ bytes. bytes.items) otherwise ≡ unknowns.read_otherwise F.table text.now) }
@@ -64,7 +64,7 @@ fn read_otherwise<F: Functions>(alloc: Global, text: &[u8]) -> Result<Option<Vec
 }
 
 impl Expanded {
-    /// What is expanded of this text, which itself is not known where the table reads other groups in it.
+    /// The expansion of this text. The text itself is not known if the table reads other groups in it.
     #[inline(always)]
     pub(crate) fn of<F: Functions>(self, alloc: Global, text: &[u8]) -> Result<Self, NoMemory>
         ensures bytes { IfOk result (λ expanded. expanded.bytes.items ≡ self.bytes.items) }
@@ -84,20 +84,20 @@ impl Expanded {
     }
 }
 
-/// Bytes, where there are any.
+/// The bytes, if there are any.
 fn any_text(bytes: Vec<u8>) -> Option<Vec<u8>>
     ensures { option_map (λ text. text.items) result ≡ any_text bytes.items }
 {
     if bytes.is_empty() { None } else { Some(bytes) }
 }
 
-/// What is written, and the openings in it that wait, of which two take no memory. What never closes stands there already as
-/// plain bytes.
+/// What is written so far, and the openings in it that wait, of which the first two need no memory on the heap. An opening that is never
+/// closed is already written as plain bytes.
 #[derive(Drop)]
 pub(crate) struct Expanding {
     bytes: Vec<u8>,
     waiting: SmallVec<WaitingOpening, 2>,
-    /// What is the first that is not known, or no bytes.
+    /// The first name, call or expression that is not known, or no bytes.
     unknown: Vec<u8>,
 }
 
@@ -114,8 +114,8 @@ impl Model for Expanding {
     } };
 }
 
-/// Puts the value of a body in braces in place of the group, and keeps the name that it refers to where that is not known and the
-/// first.
+/// Replaces the group with the value of a body in braces, and keeps the name to which the body refers if it is the first one that is not
+/// known.
 fn put_reference<F: Functions, B, C: Counts>(
     alloc: Global,
     scope: &Scope<'_, B, C>,
@@ -139,10 +139,10 @@ fn put_reference<F: Functions, B, C: Counts>(
     Ok(())
 }
 
-/// The value of the group in braces that has this body, and the name or the call in it that is not known. Groups that stand in the
-/// body are not expanded.
+/// The value of the group in braces with this body, and the name or the call in it that is not known. Groups within the body are not
+/// expanded.
 ///
-/// The error comes only where a growth was refused.
+/// It fails only if memory runs out.
 #[tactic(auto, unfolding(crate::specs::Unknown::unknown_group, crate::specs::Values::group_value_with))]
 pub fn group_value<F: Functions, B, C: Counts>(
     alloc: Global,
@@ -165,7 +165,7 @@ pub fn group_value<F: Functions, B, C: Counts>(
     Ok(Expanded { bytes, unknown })
 }
 
-/// Adds what an expression comes to, by its value and by how it is read.
+/// Adds the result of an expression, given its value and how the table reads it.
 fn push_expression(
     out: &mut Vec<u8>,
     value: &Value,
@@ -182,7 +182,7 @@ fn push_expression(
     }
 }
 
-/// Puts the value of a body in brackets in place of the group, and keeps the expression where it is not known and the first.
+/// Replaces the group with the value of a body in brackets, and keeps the expression if it is the first one that is not known.
 #[inline(always)]
 fn put_expression<F: Functions>(
     alloc: Global,
@@ -205,7 +205,7 @@ fn put_expression<F: Functions>(
     Ok(())
 }
 
-/// Puts the value of a group in its place, and keeps what in it is not known where that is the first.
+/// Replaces a group with its value, and keeps what is not known in it if that is the first.
 fn put_value<F: Functions, B, C: Counts>(
     alloc: Global,
     scope: &Scope<'_, B, C>,
@@ -235,7 +235,7 @@ fn opener(kind: GroupKind) -> u8
 }
 
 impl Expanding {
-    /// Nothing is written yet, and there is room for so many bytes.
+    /// An empty expansion with room for this many bytes.
     pub(crate) fn with_room(alloc: Global, room: usize) -> Result<Self, NoMemory>
         ensures { IfOk result (λ expanding. expanding ≡ blank) }
     {
@@ -247,7 +247,7 @@ impl Expanding {
         })
     }
 
-    /// The kind of the innermost opening that waits.
+    /// The kind of the innermost waiting opening.
     pub(crate) fn innermost(&self) -> Option<GroupKind>
         ensures { result ≡ first_of (steps_steps.kinds_of self.now.waiting) }
     {
@@ -273,7 +273,7 @@ impl Expanding {
         Ok(())
     }
 
-    /// Ends the innermost group.
+    /// Closes the innermost group.
     fn close<F: Functions, B, C: Counts>(
         &mut self,
         alloc: Global,
@@ -338,7 +338,7 @@ impl Expanding {
         note_head(alloc, &mut self.unknown, text, cut.head, is_known)
     }
 
-    /// Writes an expression, of which the value is there.
+    /// Writes an expression whose value is known.
     fn write_expression<F: Functions>(
         &mut self,
         alloc: Global,
@@ -394,7 +394,7 @@ impl Expanding {
         }
     }
 
-    /// What is written, where the text ends.
+    /// The expansion at the end of the text.
     pub(crate) fn finish(self) -> Expanded
         ensures bytes { result.bytes.items ≡ self.bytes }
         ensures unknown { option_map (λ bytes. bytes.items) result.unknown ≡ any_text self.unknown }

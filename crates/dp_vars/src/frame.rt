@@ -7,7 +7,7 @@ use smallvec::SmallVec;
 use std::alloc::Global;
 use std::marker::Model;
 
-/// The numbers of names, of which two take no memory.
+/// The numbers of names, of which the first two need no memory on the heap.
 #[derive(Drop)]
 pub(crate) struct NameNumbers {
     held: SmallVec<usize, 2>,
@@ -22,7 +22,7 @@ impl Model for NameNumbers {
 }
 
 impl NameNumbers {
-    /// No numbers. It never allocates.
+    /// Without numbers. It never allocates.
     pub(crate) fn new(alloc: Global) -> Self
         ensures { result ≡ [] }
     {
@@ -31,7 +31,7 @@ impl NameNumbers {
         }
     }
 
-    /// Adds a number after the others. After a refused growth all is as before.
+    /// Adds a number at the end. If memory runs out nothing changes.
     pub(crate) fn add(&mut self, number: usize) -> Result<(), NoMemory>
         ensures ok { OnOk result (self.new ≡ self.old ++ number ∷ []) }
         ensures err { OnErr result (self.new ≡ self.old) }
@@ -40,7 +40,7 @@ impl NameNumbers {
         Ok(())
     }
 
-    /// The numbers in the order in which they were added.
+    /// The numbers, in the order in which they were added.
     pub(crate) fn all(&self) -> &[usize]
         ensures { result.now ≡ self.now }
     {
@@ -48,14 +48,14 @@ impl NameNumbers {
     }
 }
 
-/// Where a subroutine goes back to, and the numbers of its locals, whose values a table has.
+/// The place to which a subroutine returns, and the numbers of its locals, whose values are in a table.
 #[derive(Drop)]
 pub(crate) struct HeldFrame<B> {
     pub(crate) back: B,
     pub(crate) numbers: NameNumbers,
 }
 
-/// Adds a number to those of the innermost frame, which is the last. After a refused growth all is as before.
+/// Adds a number to those of the innermost frame, which is the last. If memory runs out nothing changes.
 pub(crate) fn note<B>(frames: &mut Vec<HeldFrame<B>>, number: usize) -> Result<(), NoMemory>
     ensures ok { OnOk result (frames.new.items ≡ with_number number frames.old.items) }
     ensures err { OnErr result (frames.new.items ≡ frames.old.items) }

@@ -1,4 +1,4 @@
-//! The functions of a dialplan's texts, which stand in a table, after the Asterisk documentation's pages on functions.
+//! The functions in the texts of a dialplan, given by a table, after the Asterisk documentation's pages on functions.
 ghost use Rattle.std.specs.Prelude.{◌≡◌, IfOk};
 ghost use Rattle.dp_vars.specs.Functions.{FunctionTable, target_seen};
 ghost use Rattle.dp_vars.specs.Shown.{name_bytes, value_bytes};
@@ -11,7 +11,7 @@ use dp_conf::NoMemory;
 use dp_expr::ExpressionReading;
 use std::alloc::Global;
 
-/// The name of a function: one of the five that every table may read at once, or any other by its bytes.
+/// The name of a function: one of the five that every table can recognize at once, or any other as its bytes.
 #[derive(Clone, Copy)]
 pub enum FunctionName<'a> {
     Known(Function),
@@ -25,29 +25,28 @@ pub struct FunctionValue<'a> {
     pub is_known: bool,
 }
 
-/// What setting a name from outside sets.
+/// The target of setting a name from outside.
 #[derive(Clone, Copy)]
 pub enum Target<'a> {
-    /// The variable of this name.
+    /// The variable with this name.
     Variable(&'a [u8]),
-    /// The global of this name.
+    /// The global with this name.
     Global(&'a [u8]),
-    /// The local of this name, in the innermost frame.
+    /// The local with this name, in the innermost frame.
     Local(&'a [u8]),
     /// The number of the caller.
     Caller,
     Nothing,
 }
 
-/// A table of functions: their values by their names and arguments, how groups and expressions are read, and what setting a name
-/// sets.
+/// A table of functions: their values given names and arguments, how groups and expressions are read, and what setting a name sets.
 pub trait Functions {
-    // What the functions come to.
+    // The meaning of the functions.
     ghost table: { FunctionTable };
 
-    /// The value of a function of an argument, and whether the name and the argument are known.
+    /// The value of a function with an argument, and whether the name and the argument are known.
     ///
-    /// The error comes only where a growth was refused.
+    /// It fails only if memory runs out.
     fn value<'a, B, C: Counts>(
         alloc: Global,
         scope: &Scope<'a, B, C>,
@@ -63,23 +62,23 @@ pub trait Functions {
 
     /// Whether a text has the groups that this program reads in it.
     ///
-    /// The error comes only where a growth was refused.
+    /// It fails only if memory runs out.
     fn reads(alloc: Global, text: &[u8]) -> Result<bool, NoMemory>
         ensures { IfOk result (λ is. is ≡ table.reads text.now) };
 
-    /// What an expression comes to beside its value, by its body between the brackets.
+    /// How an expression is read, in addition to its value, given its body between the brackets.
     ///
-    /// The error comes only where a growth was refused.
+    /// It fails only if memory runs out.
     fn expression(alloc: Global, body: &[u8]) -> Result<ExpressionReading, NoMemory>
         ensures { IfOk result (λ reading. reading ≡ table.expression body.now) };
 
-    /// What setting this name from outside sets.
+    /// The target of setting this name from outside.
     fn target(name: &[u8]) -> Target<'_>
         ensures { target_seen result ≡ table.target name.now };
 }
 
 impl<'a> FunctionName<'a> {
-    /// The name that these bytes are.
+    /// The name with these bytes.
     pub fn of(name: &'a [u8]) -> Self
         ensures { name_bytes result ≡ name.now }
     {
@@ -99,7 +98,7 @@ impl<'a> FunctionName<'a> {
         }
     }
 
-    /// The function of this name among the five, or None where it is none of them.
+    /// The function with this name among the five, or None if it is none of them.
     pub fn known(self) -> Option<Function>
         ensures { result ≡ values.function_of (name_bytes self.entry) }
     {
@@ -110,8 +109,8 @@ impl<'a> FunctionName<'a> {
     }
 }
 
-/// The five functions that a dialplan has by itself. Any other name is empty, an expression has its value, and setting a name sets
-/// the variable.
+/// The five functions that a dialplan always has. Any other name is empty, an expression has its value, and setting a name sets the
+/// variable.
 pub struct StandardFunctions;
 
 impl Functions for StandardFunctions {

@@ -8,7 +8,7 @@ use dp_conf::NoMemory;
 use std::alloc::Global;
 use std::marker::Model;
 
-/// The global variables with their values, which a contract sees as a finite map from names to values.
+/// The global variables with their values. A contract sees them as a finite map from names to values.
 ///
 /// Names are case sensitive.
 pub struct Globals {
@@ -37,7 +37,7 @@ impl Model for Globals {
 }
 
 impl Globals {
-    /// No globals. It never allocates.
+    /// Without globals. It never allocates.
     pub fn new(alloc: Global) -> Self
         ensures { result ≡ finite.empty }
     {
@@ -46,7 +46,7 @@ impl Globals {
         }
     }
 
-    /// Gives the global of that name the value. After a refused growth all is as before.
+    /// Sets the value of the global with that name. If memory runs out nothing changes.
     pub fn put(&mut self, alloc: Global, name: &[u8], value: &[u8]) -> Result<(), NoMemory>
         ensures ok { OnOk result (self.new ≡ finite.insert self.old name.now value.now) }
         ensures err { OnErr result (self.new ≡ self.old) }
@@ -54,14 +54,14 @@ impl Globals {
         self.variables.insert(alloc, name, value)
     }
 
-    /// Whether there is a global of that name.
+    /// Whether there is a global with that name.
     pub fn has(&self, name: &[u8]) -> bool
         ensures { result ≡ is_some (first_value (self.now ∷ []) name.now) }
     {
         self.variables.get(name).is_some()
     }
 
-    /// The value of the global of that name; the empty text where there is none.
+    /// The value of the global with that name, or the empty text if there is none.
     pub fn at(&self, name: &[u8]) -> &[u8]
         ensures { result.now ≡ value_or_empty (self.now ∷ []) name.now }
     {

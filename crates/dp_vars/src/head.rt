@@ -1,4 +1,4 @@
-//! Variables and functions whose names are known before anything is expanded, so that they are read once.
+//! Variables and functions whose names are known before any expansion, so that they are read only once.
 ghost use Rattle.std.specs.Prelude.{◌≡◌, ◌++◌, IfOk, OnOk};
 ghost use Rattle.dp_conf.specs.Cut.{before_last};
 ghost use Rattle.dp_vars.specs.Functions.{FunctionTable};
@@ -19,20 +19,20 @@ use crate::value::{Function, function_name, function_of};
 use dp_conf::{NoMemory, before_last, cut_once};
 use std::alloc::Global;
 
-/// A variable or a function, by places in the text.
+/// A variable or a function, given by places in the text.
 #[derive(Clone, Copy)]
 pub(crate) enum Head {
-    /// The variable of the name that stands there.
+    /// The variable whose name is at this place.
     Name(Span),
-    /// The function of the argument that stands there.
+    /// The function whose argument is at this place.
     Call(Function, Span),
-    /// Another function, of the name and the argument that stand there.
+    /// Another function, whose name and argument are at these places.
     Other(Span, Span),
-    /// A function whose argument does not end.
+    /// A function whose argument has no end.
     Empty,
 }
 
-/// A part of the value of a head, with what stands after the cut.
+/// A part of the value of a head, with the text after the cut.
 #[derive(Clone, Copy)]
 pub(crate) struct CutPart {
     pub(crate) head: Head,
@@ -40,7 +40,7 @@ pub(crate) struct CutPart {
     pub(crate) asked: Selection,
 }
 
-/// The function of the name that stands there, with its argument in what stands after the `(`.
+/// The function whose name is at this place, with its argument from the text after the `(`.
 fn read_call(text: &[u8], name: Span, after: Span) -> Head
     ensures { (functions : FunctionTable) (sight : Sight) → spec.head_seen functions sight text.now result
         ≡ values.call_argument_with functions sight (text_at text.now name) (before_last 41 (text_at text.now after)) }
@@ -57,7 +57,7 @@ fn read_call(text: &[u8], name: Span, after: Span) -> Head
     }
 }
 
-/// The head that stands there.
+/// The head at this place.
 pub(crate) fn read_head(text: &[u8], place: Span) -> Head
     ensures { (functions : FunctionTable) (sight : Sight)
         → spec.head_seen functions sight text.now result ≡ values.head_value_with functions sight (text_at text.now place) }
@@ -72,7 +72,7 @@ pub(crate) fn read_head(text: &[u8], place: Span) -> Head
     }
 }
 
-/// The value that a head has now.
+/// The current value of a head.
 #[inline(always)]
 fn head_now<'a, F: Functions, B, C: Counts>(
     alloc: Global,
@@ -111,7 +111,7 @@ pub(crate) fn head_name_at(alloc: Global, text: &[u8], head: Head) -> Result<Vec
     }
 }
 
-/// Adds a part of the value of a head, and says whether the head is known.
+/// Adds a part of the value of a head, and returns whether the head is known.
 #[inline(always)]
 pub(crate) fn push_cut<F: Functions, B, C: Counts>(
     alloc: Global,
@@ -129,7 +129,7 @@ pub(crate) fn push_cut<F: Functions, B, C: Counts>(
     Ok(is_known)
 }
 
-/// Adds the whole value of a head, and says whether the head is known.
+/// Adds the whole value of a head, and returns whether the head is known.
 #[inline(always)]
 pub(crate) fn push_full<F: Functions, B, C: Counts>(
     alloc: Global,

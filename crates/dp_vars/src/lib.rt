@@ -1,9 +1,9 @@
-//! Variables of a dialplan and the texts in which they stand, after the Asterisk documentation's pages on variables.
+//! Variables of a dialplan and the texts that contain them, after the Asterisk documentation's pages on variables.
 //!
-//! A `Store` has the variables of a channel and its frames, `Globals` what all channels share. A `Template` is a text
-//! with groups, and `expand` puts the values of a `Scope` in their places; `Pieces` do so for a text that stands elsewhere,
-//! `expand_text` with a text that was not read before, and `value_of` is the value of one name. The functions that stand in
-//! groups are those of a table: `StandardFunctions`, or with `expand_with` those of any `Functions`.
+//! A `Store` has the variables of a channel and its frames, and `Globals` has those that all channels share. A `Template` is a text with
+//! groups, and `expand` replaces them with the values of a `Scope`. `Pieces` do the same for a text that is kept elsewhere, `expand_text`
+//! for a text that was not read before, and `value_of` gives the value of a single name. The functions in groups are those of a table:
+//! `StandardFunctions`, or with `expand_with` those of any `Functions`.
 #![tactic(auto)]
 
 mod binding_stack;

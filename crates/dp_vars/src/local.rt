@@ -1,9 +1,9 @@
-//! The locals with which a frame begins.
+//! The initial locals of a frame.
 
 use crate::local_name::LocalName;
 use dp_conf::Text;
 
-/// A local's name and its value.
+/// The name of a local and its value.
 #[derive(Drop)]
 pub struct Local {
     pub name: LocalName,

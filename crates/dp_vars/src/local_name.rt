@@ -6,7 +6,7 @@ use smallvec::SmallVec;
 use std::alloc::Global;
 use std::marker::Model;
 
-/// The name of a local, which is not allocated where it has few bytes, as `ARG1`.
+/// The name of a local, which is not allocated if it is short, such as `ARG1`.
 ///
 /// A contract sees it as its bytes.
 pub struct LocalName {
@@ -29,7 +29,7 @@ impl Model for LocalName {
 }
 
 impl LocalName {
-    /// A name of the same bytes. It allocates where there are more than 24.
+    /// A name with the same bytes. It allocates only if there are more than 24, and fails only if memory runs out.
     pub fn copy_of(alloc: Global, bytes: &[u8]) -> Result<Self, NoMemory>
         ensures { IfOk result (λ name. name ≡ bytes.now) }
     {
@@ -37,7 +37,7 @@ impl LocalName {
         Ok(LocalName { bytes })
     }
 
-    /// Adds bytes after the others. After a refused growth all is as before.
+    /// Adds bytes at the end. If memory runs out nothing changes.
     pub fn push_all(&mut self, bytes: &[u8]) -> Result<(), NoMemory>
         ensures ok { OnOk result (self.new ≡ self.old ++ bytes.now) }
         ensures err { OnErr result (self.new ≡ self.old) }

@@ -1,4 +1,4 @@
-//! The names of what is not known: of a variable, of a call, or of an expression, as it stands in a text.
+//! The names of what is not known: of a variable, of a call, or of an expression, as written in a text.
 ghost use Rattle.std.specs.Prelude.{◌≡◌, [], IfOk, OnOk, if◌then◌else◌};
 ghost use Rattle.dp_conf.specs.Cut.{before_last};
 ghost use Rattle.dp_conf.specs.Levels.{cut_outside};
@@ -10,7 +10,7 @@ use dp_conf::{NoMemory, before_last, cut_once, cut_outside};
 use dp_expr::ExpressionReading;
 use std::alloc::Global;
 
-/// A call as it stands in a text.
+/// A call as written in a text.
 pub(crate) fn call_text(alloc: Global, name: &[u8], argument: &[u8]) -> Result<Vec<u8>, NoMemory>
     ensures { IfOk result (λ text. text.items ≡ unknown.call_text name.now argument.now) }
 {
@@ -21,7 +21,7 @@ pub(crate) fn call_text(alloc: Global, name: &[u8], argument: &[u8]) -> Result<V
     Ok(text)
 }
 
-/// A call by its name and by what stands after the `(`.
+/// The name of a call, given the text after the `(`.
 fn call_name(alloc: Global, name: &[u8], after: &[u8]) -> Result<Vec<u8>, NoMemory>
     ensures { IfOk result (λ text. text.items ≡ told.call_name name.now (before_last 41 after.now)) }
 {
@@ -52,7 +52,7 @@ pub(crate) fn body_name(alloc: Global, body: &[u8]) -> Result<Vec<u8>, NoMemory>
     }
 }
 
-/// An expression as it stands in a text.
+/// An expression as written in a text.
 fn expression_text(alloc: Global, body: &[u8]) -> Result<Vec<u8>, NoMemory>
     ensures { IfOk result (λ text. text.items ≡ unknown.expression_text body.now) }
 {
@@ -62,7 +62,7 @@ fn expression_text(alloc: Global, body: &[u8]) -> Result<Vec<u8>, NoMemory>
     Ok(text)
 }
 
-/// Keeps what is not known, where it is the first.
+/// Keeps the name if it is the first that is not known.
 fn note(noted: &mut Vec<u8>, name: Vec<u8>)
     ensures { noted.new.items ≡ unknown.earlier noted.old.items name.items }
 {
@@ -71,7 +71,7 @@ fn note(noted: &mut Vec<u8>, name: Vec<u8>)
     }
 }
 
-/// Keeps the name of what a body refers to, where it is not known and the first.
+/// Keeps the name of what a body refers to, if it is the first that is not known.
 pub(crate) fn note_body(
     alloc: Global,
     noted: &mut Vec<u8>,
@@ -88,7 +88,7 @@ pub(crate) fn note_body(
     Ok(())
 }
 
-/// Keeps the name of a head in a text, where it is not known and the first.
+/// Keeps the name of a head in a text, if it is the first that is not known.
 #[inline(always)]
 pub(crate) fn note_head(
     alloc: Global,
@@ -107,7 +107,7 @@ pub(crate) fn note_head(
     Ok(())
 }
 
-/// Keeps an expression as it stands, where it is not known and the first.
+/// Keeps an expression as written, if it is the first that is not known.
 #[inline(always)]
 pub(crate) fn note_expression(
     alloc: Global,

@@ -1,4 +1,4 @@
-//! Texts in which nothing opens a group.
+//! Texts in which no group opens.
 ghost use Rattle.std.specs.Prelude.{◌≡◌, None, false};
 ghost use Rattle.std.specs.Option.{is_some};
 ghost use Rattle.dp_conf.specs.Groups.{opening};
@@ -8,7 +8,7 @@ ghost use Rattle.dp_vars.specs.Sights.{Sight};
 ghost use Rattle.dp_vars.specs.Unknown.{first_unknown};
 ghost use Rattle.dp_vars.specs.Values.{expansion, expansion_with};
 
-/// Whether a byte opens a group, by the bytes after it.
+/// Whether a byte opens a group, given the bytes after it.
 fn opens(byte: u8, after: &[u8]) -> bool
     ensures { result ≡ is_some (opening byte after.now) }
 {
@@ -18,7 +18,7 @@ fn opens(byte: u8, after: &[u8]) -> bool
     }
 }
 
-/// Whether an opening stands in the text.
+/// Whether the text contains an opening.
 #[tactic(auto, unfolding(crate::specs::Openings::has_opening))]
 fn holds_opening(text: &[u8]) -> bool
     ensures { result ≡ openings.has_opening text.now }
@@ -33,16 +33,16 @@ fn holds_opening(text: &[u8]) -> bool
     false
 }
 
-/// Whether `${` or `$[` stands in the text. Where nothing opens a group, the text is its own expansion.
+/// Whether the text contains `${` or `$[`. A text in which no group opens is its own expansion.
 ///
 /// It never allocates.
 pub fn has_opening(text: &[u8]) -> bool
     ensures opening { result ≡ openings.has_opening text.now }
-    // Whatever functions there are.
+    // This holds for any functions.
     ensures any { result ≡ false → (functions : FunctionTable) (sight : Sight) → expansion_with functions sight text.now ≡ text.now }
-    // And all in it is known.
+    // Everything in it is known.
     ensures known { result ≡ false → (functions : FunctionTable) (sight : Sight) → first_unknown functions sight text.now ≡ None }
-    // And so with the standard ones.
+    // The same for the standard functions.
     ensures same { result ≡ false → (sight : Sight) → expansion sight text.now ≡ text.now }
 {
     holds_opening(text)

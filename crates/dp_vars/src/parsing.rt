@@ -1,4 +1,4 @@
-//! A text on the way to its pieces, in one pass with no recursion.
+//! Reading a text into its pieces, in one pass without recursion.
 ghost use Rattle.std.specs.Prelude.{◌≡◌, ◌≤◌, [], ◌∷◌, ◌++◌, IfOk, OnOk, drop, reverse};
 ghost use Rattle.dp_conf.specs.GroupsRead.{first_of, outer_of};
 ghost use Rattle.dp_vars.specs.Functions.{FunctionTable};
@@ -35,7 +35,7 @@ impl Model for Parsing {
 }
 
 impl Parsing {
-    /// Nothing is read yet.
+    /// Nothing has been read yet.
     fn new(alloc: Global) -> Self
         ensures { result ≡ record { pieces = []; waiting = []; run = span_at 0 } }
     {
@@ -46,7 +46,7 @@ impl Parsing {
         }
     }
 
-    /// The kind of the innermost opening that waits.
+    /// The kind of the innermost waiting opening.
     fn innermost(&self) -> Option<GroupKind>
         ensures { result ≡ first_of self.now.waiting }
     {
@@ -56,7 +56,7 @@ impl Parsing {
         }
     }
 
-    /// The kind of the last piece, where that is an opening.
+    /// The kind of the last piece, if that is an opening.
     fn last_opening(&self) -> Option<GroupKind>
         ensures { result ≡ spec.opening_last self.now.pieces }
     {
@@ -66,7 +66,7 @@ impl Parsing {
         }
     }
 
-    /// Makes the plain bytes a piece, where there are any.
+    /// Makes a piece of the plain bytes, if there are any.
     fn end_run(&mut self) -> Result<(), NoMemory>
         ensures { OnOk result (self.new ≡ record self.old { pieces = spec.with_run self.old.run self.old.pieces }) }
     {
@@ -91,7 +91,7 @@ impl Parsing {
         Ok(())
     }
 
-    /// Puts the piece of a group that holds no group in place of its opening.
+    /// Replaces the opening with the piece of a group that contains no group.
     fn put_group(&mut self, piece: TextPiece) -> Result<(), NoMemory>
         ensures { OnOk result (self.new ≡ record self.old { pieces = piece ∷ spec.without_last self.old.pieces }) }
     {
@@ -100,7 +100,7 @@ impl Parsing {
         Ok(())
     }
 
-    /// Puts the end of a group that holds groups.
+    /// Adds the end of a group that contains groups.
     fn put_end(&mut self) -> Result<(), NoMemory>
         ensures { OnOk result (self.new ≡ record self.old { pieces = TextPiece.Ends ∷ spec.with_run self.old.run self.old.pieces }) }
     {
@@ -109,7 +109,7 @@ impl Parsing {
         Ok(())
     }
 
-    /// The innermost opening no longer waits, and no plain bytes stand after its group yet.
+    /// The innermost opening stops waiting, and there are no plain bytes after its group yet.
     fn go_out(&mut self, place: usize)
         ensures { self.new ≡ record self.old { waiting = outer_of self.old.waiting; run = span_at place } }
     {

@@ -1,8 +1,8 @@
 //! Parts of values, after the Asterisk documentation's page on variables.
 //!
-//! After a value stands nothing, `:offset` or `:offset:length`. A negative offset counts from the end, and a negative
-//! length leaves so many bytes out at the end. An empty offset is 0 and an empty length is none. Anything else gives the
-//! empty text (a choice of this program).
+//! After a value comes nothing, `:offset` or `:offset:length`. A negative offset counts from the end, and a negative length leaves out this
+//! many bytes at the end. An empty offset is 0, and an empty length means none. Anything else gives the empty text (a choice of this
+//! program).
 ghost use Rattle.std.specs.Prelude.{◌≡◌, ◌≤◌, Some};
 ghost use Rattle.std.specs.Option.{option_map};
 ghost use Rattle.dp_vars.specs.Parts as parts;
@@ -10,14 +10,14 @@ ghost use Rattle.dp_vars.specs.Far as far;
 
 use dp_conf::{cut_once, read_number};
 
-/// How far a part reaches: so many bytes ahead, or so many back from the end.
+/// An offset or a length: this many bytes forward, or this many back from the end.
 #[derive(Clone, Copy)]
 pub enum Reach {
     Ahead(usize),
     Back(usize),
 }
 
-/// What is asked for of a value.
+/// The requested part of a value.
 #[derive(Clone, Copy)]
 pub enum Selection {
     Whole,
@@ -25,14 +25,14 @@ pub enum Selection {
     Nothing,
 }
 
-/// A number as a size, where a number that is too large for one is as good as the greatest.
+/// A number as a size. A number that is too large for a size counts as the greatest one.
 fn size_of(number: u64) -> usize
     ensures { result ≡ number }
 {
     number as usize
 }
 
-/// So many bytes back; none back is none ahead.
+/// This many bytes back; zero back is zero forward.
 fn back(number: usize) -> Reach
     ensures { result ≡ parts.back number }
 {
@@ -84,7 +84,7 @@ fn read_length(text: &[u8]) -> Option<Option<Reach>>
     }
 }
 
-/// An offset and a length as what they ask for.
+/// An offset and a length as the requested part.
 fn part_from(offset: Option<Reach>, length: Option<Option<Reach>>) -> Selection
     ensures { result ≡ parts.part_from offset length }
 {
@@ -94,8 +94,8 @@ fn part_from(offset: Option<Reach>, length: Option<Option<Reach>>) -> Selection
     }
 }
 
-/// What is asked for by what stands after the first `:`: an offset, or an offset, a `:` and a length. A number above the greatest of 64
-/// bits counts as that one.
+/// The part that is requested by the text after the first `:`: an offset, or an offset, a `:` and a length. A number above the greatest of
+/// 64 bits counts as the greatest.
 pub fn read_asked(tail: &[u8]) -> Selection
     ensures { result ≡ far.asked_at_most (parts.asked_of (Some tail.now)) }
 {
@@ -105,7 +105,7 @@ pub fn read_asked(tail: &[u8]) -> Selection
     }
 }
 
-/// Where a part starts in a value of this size.
+/// The start of a part in a value of this size.
 fn start_of(offset: Reach, size: usize) -> usize
     ensures start { result ≡ parts.start_of offset size }
     ensures within { result ≤ size }
@@ -116,7 +116,7 @@ fn start_of(offset: Reach, size: usize) -> usize
     }
 }
 
-/// Where a part ends that starts here.
+/// The end of a part that begins here.
 fn end_of(length: Option<Reach>, start: usize, size: usize) -> usize
     requires { start ≤ size }
     ensures end { result ≡ parts.end_of length start size }
@@ -130,7 +130,7 @@ fn end_of(length: Option<Reach>, start: usize, size: usize) -> usize
     }
 }
 
-/// The part of a value that is asked for.
+/// The requested part of a value.
 pub(crate) fn part(value: &[u8], asked: Selection) -> &[u8]
     ensures { result.now ≡ parts.part asked value.now }
 {

@@ -1,4 +1,4 @@
-//! Texts that were read once, to be expanded often.
+//! Texts that are read once and expanded often.
 ghost use Rattle.std.specs.Option.{option_map};
 ghost use Rattle.std.specs.Prelude.{◌≡◌, IfOk};
 ghost use Rattle.dp_vars.specs.Pieces.{AreOf};
@@ -15,9 +15,10 @@ use dp_conf::NoMemory;
 use std::alloc::Global;
 use std::marker::Model;
 
-/// The pieces of a text that stands elsewhere, as in a dialplan, and the place after them, from which all bytes are plain.
+/// The pieces of a text that is kept elsewhere, such as in a dialplan, and the place after them, from which all bytes
+/// are plain.
 ///
-/// A contract says of which text they are; they are expanded with that text.
+/// A contract says to which text they belong; they are expanded with that text.
 pub struct Pieces {
     pieces: Vec<TextPiece>,
     tail: usize,
@@ -38,9 +39,9 @@ impl Model for Pieces {
 }
 
 impl Pieces {
-    /// The pieces of a text, however deep groups stand inside each other in it.
+    /// The pieces of a text, however deep its groups are nested.
     ///
-    /// The error comes only where a growth was refused.
+    /// It fails only if memory runs out.
     pub fn read(alloc: Global, text: &[u8]) -> Result<Self, NoMemory>
         ensures { IfOk result (AreOf text.now) }
     {
@@ -49,10 +50,10 @@ impl Pieces {
         Ok(Pieces { pieces, tail })
     }
 
-    /// The expansion of their text, where it is the one given: each group replaced by its value, as `expand_text` does.
-    /// With another text they come to bytes of which nothing is said.
+    /// The expansion of their text, if this is the one given: each group is replaced with its value, as `expand_text`
+    /// does. With another text the result is some bytes, about which nothing is claimed.
     ///
-    /// The error comes only where a growth was refused.
+    /// It fails only if memory runs out.
     pub fn expand<B, C: Counts>(
         &self,
         alloc: Global,
@@ -65,9 +66,9 @@ impl Pieces {
         self.expand_with::<StandardFunctions, B, C>(alloc, text, scope)
     }
 
-    /// The expansion of their text by the functions of a table, as `expand` by the standard ones.
+    /// The expansion of their text with the functions of a table, as `expand` does with the standard ones.
     ///
-    /// The error comes only where a growth was refused.
+    /// It fails only if memory runs out.
     pub fn expand_with<F: Functions, B, C: Counts>(
         &self,
         alloc: Global,
@@ -81,9 +82,9 @@ impl Pieces {
         Ok(expanded.bytes)
     }
 
-    /// The same, with what in the text is the first that is not known.
+    /// The same, with the first name, call or expression in the text that is not known.
     ///
-    /// The error comes only where a growth was refused.
+    /// It fails only if memory runs out.
     pub fn expand_checked<F: Functions, B, C: Counts>(
         &self,
         alloc: Global,
@@ -101,10 +102,10 @@ impl Pieces {
         Expanded { bytes, unknown }.of::<F>(alloc, text)
     }
 
-    /// The first name, call or expression in their text that is not known, in the order in which groups are expanded, with its
-    /// argument expanded, as `DB(a/b)`; the text itself, where other groups are read in it.
+    /// The first name, call or expression in their text that is not known, in the order in which groups are expanded,
+    /// with its argument expanded, such as `DB(a/b)`; or the text itself, if it is read with other groups.
     ///
-    /// The error comes only where a growth was refused.
+    /// It fails only if memory runs out.
     pub fn first_unknown<F: Functions, B, C: Counts>(
         &self,
         alloc: Global,

@@ -1,4 +1,4 @@
-//! The value that a body in braces stands for, after the Asterisk documentation's page on variables.
+//! The value of a body in braces, after the Asterisk documentation's page on variables.
 ghost use Rattle.std.specs.Prelude.{◌≡◌, [], ◌++◌, ◌<◌, ◌^◌, IfOk, OnOk, codes, length, true};
 ghost use Rattle.std.specs.String.{string_bytes};
 ghost use Rattle.std.specs.Fmt.{decimal};
@@ -25,14 +25,14 @@ pub(crate) struct Called<'a> {
     pub(crate) is_known: bool,
 }
 
-/// The value of a head, and which part of it is asked for.
+/// The value of a head, and the requested part of it.
 #[derive(Drop)]
 pub(crate) struct Reference<'a> {
     pub(crate) called: Called<'a>,
     pub(crate) asked: Selection,
 }
 
-/// The value of a function of an argument.
+/// The value of a function with an argument.
 #[inline(always)]
 pub(crate) fn called_value<'a, F: Functions, B, C: Counts>(
     alloc: Global,
@@ -64,7 +64,7 @@ pub(crate) fn named_value<'a, F: Functions, B, C: Counts>(
     }
 }
 
-/// The value of a call whose argument does not end: it is empty.
+/// The value of a call whose argument has no end: it is empty.
 #[inline(always)]
 pub(crate) fn no_value<'a>() -> Called<'a>
     ensures value { value_bytes result.value ≡ [] }
@@ -76,7 +76,7 @@ pub(crate) fn no_value<'a>() -> Called<'a>
     }
 }
 
-/// The value of a function by its name and by what stands after the `(`.
+/// The value of a function, given its name and the text after the `(`.
 fn call_value<'a, F: Functions, B, C: Counts>(
     alloc: Global,
     scope: &Scope<'a, B, C>,
@@ -94,7 +94,7 @@ fn call_value<'a, F: Functions, B, C: Counts>(
     }
 }
 
-/// The value of a variable, or of a function where there is a `(`.
+/// The value of a variable, or of a function if there is a `(`.
 #[tactic(auto, unfolding(crate::specs::Values::head_value_with, crate::specs::steps::Told::knows_head))]
 fn head_value<'a, F: Functions, B, C: Counts>(
     alloc: Global,
@@ -112,7 +112,7 @@ fn head_value<'a, F: Functions, B, C: Counts>(
     }
 }
 
-/// What a body in braces refers to.
+/// The reference of a body in braces.
 pub(crate) fn read_reference<'a, F: Functions, B, C: Counts>(
     alloc: Global,
     scope: &Scope<'a, B, C>,
@@ -142,7 +142,7 @@ pub(crate) fn read_reference<'a, F: Functions, B, C: Counts>(
     }
 }
 
-/// Adds bytes. Many runs of a text and many values are one byte, which goes in without a call that copies memory.
+/// Adds bytes. Many runs of a text and many values are a single byte, which is added without a call that copies memory.
 #[inline(always)]
 pub(crate) fn push_bytes(out: &mut Vec<u8>, bytes: &[u8]) -> Result<(), NoMemory>
     ensures { OnOk result (out.new.items ≡ out.old.items ++ bytes.now) }
@@ -156,7 +156,7 @@ pub(crate) fn push_bytes(out: &mut Vec<u8>, bytes: &[u8]) -> Result<(), NoMemory
     }
 }
 
-/// Adds the part that is asked for of some bytes.
+/// Adds the requested part of some bytes.
 #[inline(always)]
 fn push_part(out: &mut Vec<u8>, value: &[u8], asked: Selection) -> Result<(), NoMemory>
     ensures ok { OnOk result (out.new.items ≡ out.old.items ++ part asked value.now) }
@@ -165,7 +165,7 @@ fn push_part(out: &mut Vec<u8>, value: &[u8], asked: Selection) -> Result<(), No
     push_bytes(out, part(value, asked))
 }
 
-/// Adds the part that is asked for of a value. Most values are bytes that stand somewhere, so these take no call.
+/// Adds the requested part of a value. Most values are bytes that exist elsewhere, so these need no call.
 #[inline(always)]
 pub(crate) fn push_value(
     alloc: Global,
@@ -182,7 +182,7 @@ pub(crate) fn push_value(
     }
 }
 
-/// The same of a value that is made.
+/// The same for a value that is made.
 fn push_made(
     alloc: Global,
     out: &mut Vec<u8>,
@@ -206,10 +206,10 @@ fn push_made(
     }
 }
 
-/// The value of a name: what the channel gives, the local of the innermost frame that has the name as one, the
-/// channel's variable, or the global; the empty text where none of them has the name.
+/// The value of a name: what the channel gives, the local of the innermost frame that has one with the name, the
+/// channel's variable, or the global; the empty text if none of them has the name.
 ///
-/// The error comes only where a growth was refused.
+/// It fails only if memory runs out.
 pub fn value_of<B, C>(
     alloc: Global,
     scope: &Scope<'_, B, C>,

@@ -3,21 +3,21 @@ ghost use Rattle.std.specs.Prelude.{◌≡◌, ◌-◌, drop, min, take};
 ghost use Rattle.dp_vars.specs.Spans.{text_at};
 ghost use Rattle.dp_vars.specs.steps.Spans.{after_of, front_of};
 
-/// What stands in a text from a place up to another.
+/// A part of a text, from one place to another.
 #[derive(Clone, Copy)]
 pub(crate) struct Span {
     pub(crate) from: usize,
     pub(crate) to: usize,
 }
 
-/// No more than so many bytes of the front.
+/// At most this many bytes from the front.
 fn front(text: &[u8], size: usize) -> &[u8]
     ensures { result.now ≡ take size text.now }
 {
     text.split_at(size.min(text.len())).0
 }
 
-/// What stands after so many bytes.
+/// The text after this many bytes.
 fn after(text: &[u8], size: usize) -> &[u8]
     ensures { result.now ≡ drop size text.now }
 {
@@ -25,7 +25,7 @@ fn after(text: &[u8], size: usize) -> &[u8]
 }
 
 impl Span {
-    /// Nothing, at a place.
+    /// The empty span at a place.
     pub(crate) fn at(place: usize) -> Self
         ensures { result ≡ record { from = place; to = place } }
     {
@@ -35,7 +35,7 @@ impl Span {
         }
     }
 
-    /// The first so many bytes of it.
+    /// The first bytes of it, this many.
     pub(crate) fn front(self, size: usize) -> Self
         ensures { result ≡ front_of self size }
     {
@@ -45,7 +45,7 @@ impl Span {
         }
     }
 
-    /// What stands after those.
+    /// The rest after them.
     pub(crate) fn after(self, size: usize) -> Self
         ensures { result ≡ after_of self size }
     {
@@ -55,7 +55,7 @@ impl Span {
         }
     }
 
-    /// What stands there in the text, as far as the text goes.
+    /// The bytes of the span in the text, as far as the text goes.
     pub(crate) fn of(self, text: &[u8]) -> &[u8]
         ensures { result.now ≡ text_at text.now self }
     {

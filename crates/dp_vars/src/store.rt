@@ -13,11 +13,11 @@ use dp_conf::{NoMemory, Text};
 use std::alloc::Global;
 use std::marker::Model;
 
-/// The variables of a channel, and the frames above them, each with where it goes back to and with locals.
+/// The variables of a channel, and the frames above them, each with the place to which it returns and with locals.
 ///
-/// A contract sees the variables as a finite map, the frames as a list with the innermost last, and the names that were
-/// given to the store in the order of their numbers. Names are case sensitive. After a refused growth a call leaves all
-/// as before. A read and a `set` look at no frame, however many there are.
+/// A contract sees the variables as a finite map, the frames as a list with the innermost last, and the names that the
+/// store was given in the order of their numbers. Names are case sensitive. If memory runs out a call changes nothing.
+/// A read and a `set` look at no frame, however many there are.
 pub struct Store<B> {
     table: BindingTable,
     frames: Vec<HeldFrame<B>>,
@@ -49,7 +49,7 @@ impl<B> Model for Store<B> {
 }
 
 impl<B> Store<B> {
-    /// No variables and no frames. It never allocates.
+    /// Without variables and frames. It never allocates.
     pub fn new(alloc: Global) -> Self
         ensures { result ≡ stores.nothing }
     {
@@ -59,7 +59,7 @@ impl<B> Store<B> {
         }
     }
 
-    /// The value of a name: the local of the innermost frame that has it as one, else the channel's variable.
+    /// The value of a name: the local of the innermost frame that has one with the name, else the channel's variable.
     pub fn get(&self, name: &[u8]) -> Option<&[u8]>
         ensures { option_map (λ value. value.now) result ≡ stores.value_in self.now name.now }
     {
@@ -69,7 +69,7 @@ impl<B> Store<B> {
         }
     }
 
-    /// The value of a local of the innermost frame alone.
+    /// The value of a local of the innermost frame, and of no other.
     pub(crate) fn local(&self, name: &[u8]) -> Option<&[u8]>
         ensures { option_map (λ value. value.now) result ≡ stores.local_in self.now name.now }
     {
@@ -82,16 +82,16 @@ impl<B> Store<B> {
         }
     }
 
-    /// The number of a name: how many other names were given to the store before it, each to be set or as a local of a
-    /// frame; None for a name that was never given. It never allocates, and a name keeps its number.
+    /// The number of a name, which is the number of other names that the store was given before it, to be set or as a
+    /// local of a frame; None for a name that it was never given. It never allocates, and a name keeps its number.
     pub fn slot(&self, name: &[u8]) -> Option<usize>
         ensures { result ≡ stores.slot self.now.names name.now }
     {
         self.table.slot(name)
     }
 
-    /// Sets a name: the local of the innermost frame that has it as one, else the channel's variable (a choice of this
-    /// program).
+    /// Sets a name: the local of the innermost frame that has one with the name, else the channel's variable (a choice
+    /// of this program). If memory runs out nothing changes.
     pub fn set(&mut self, alloc: Global, name: &[u8], value: &[u8]) -> Result<(), NoMemory>
         ensures ok { OnOk result (self.new ≡ stores.set self.old name.now value.now) }
         ensures err { OnErr result (self.new ≡ self.old) }
@@ -99,8 +99,8 @@ impl<B> Store<B> {
         self.set_after(alloc, name, value, &Nothing, &mut ())
     }
 
-    /// Changes a target and then sets a name, as `set` does. All memory that setting the name takes is taken before the
-    /// change: after a refused growth, also one of the change, the store and the target are as before.
+    /// Changes a target and then sets a name, as `set` does. All memory for setting the name is allocated before the
+    /// change: if memory runs out, even during the change, the store and the target are as before.
     pub fn set_after<T, C: Change<T>>(
         &mut self,
         alloc: Global,
@@ -114,21 +114,22 @@ impl<B> Store<B> {
         ensures err { OnErr result (self.new ≡ self.old) }
         ensures unchanged { OnErr result (target.new ≡ target.old) }
     {
-        self.table.rebind_after(alloc, name, value, change, target)?;
+        let value = Text::copy_of(alloc, value)?;
+        self.table.rebind_after(name, value, change, target)?;
         Ok(())
     }
 
-    /// Takes the value of a name away, that of the channel and those of locals of all frames. It never allocates, and the name
-    /// keeps its number.
+    /// Removes the value of a name, both that of the channel and those of locals of all frames. It never allocates, and
+    /// the name keeps its number.
     pub fn unset(&mut self, name: &[u8])
         ensures { self.new ≡ stores.unset self.old name.now }
     {
         self.table.clear(name);
     }
 
-    /// Sets a local of the innermost frame to a value that is taken over.
+    /// Sets a local of the innermost frame to an owned value.
     #[inline(always)]
-    fn hold_local(&mut self, alloc: Global, name: &[u8], value: Text) -> Result<(), NoMemory>
+    fn hold_local(&mut self, name: &[u8], value: Text) -> Result<(), NoMemory>
         requires { 0 < length self.old.frames }
         ensures ok { OnOk result (self.new ≡ stores.set_local self.old name.now value) }
         ensures err { OnErr result (self.new ≡ self.old) }
@@ -137,11 +138,12 @@ impl<B> Store<B> {
         let number = slot.unwrap_or(self.table.len());
         frame::note(&mut self.frames, number)?;
         let depth = self.frames.len();
-        self.table.bind(alloc, slot, name, depth, value)?;
+        self.table.bind(slot, name, depth, value)?;
         Ok(())
     }
 
-    /// Sets a local of the innermost frame. With no frame it changes nothing and answers false.
+    /// Sets a local of the innermost frame. Without a frame it changes nothing and returns false. If memory runs out
+    /// nothing changes.
     pub fn set_local(&mut self, alloc: Global, name: &[u8], value: &[u8]) -> Result<bool, NoMemory>
         ensures ok { OnOk result (self.new ≡ stores.set_local self.old name.now value.now) }
         ensures done { IfOk result (λ done. done ≡ nat_lt 0 (length self.old.frames)) }
@@ -151,13 +153,12 @@ impl<B> Store<B> {
             return Ok(false);
         }
         let value = Text::copy_of(alloc, value)?;
-        self.hold_local(alloc, name, value)?;
+        self.hold_local(name, value)?;
         Ok(true)
     }
 
-    /// Sets locals of the innermost frame to values that are taken over, each after those before it. After a refused
-    /// growth some of them are set.
-    fn hold_locals(&mut self, alloc: Global, locals: Vec<Local>) -> Result<(), NoMemory>
+    /// Sets locals of the innermost frame to owned values, one after another. If memory runs out some of them are set.
+    fn hold_locals(&mut self, locals: Vec<Local>) -> Result<(), NoMemory>
         requires { 0 < length self.old.frames }
         ensures ok { (store : StoreOf B) (back : B) → self.old ≡ stores.with_frame store back []
             → OnOk result (self.new ≡ stores.with_frame store back locals.items) }
@@ -166,12 +167,12 @@ impl<B> Store<B> {
     {
         for local in locals {
             let Local { name, value } = local;
-            self.hold_local(alloc, name.bytes(), value)?;
+            self.hold_local(name.bytes(), value)?;
         }
         Ok(())
     }
 
-    /// Forgets the names after the first ones, where no map has one of them.
+    /// Forgets the names after the first ones, if no map contains one of them.
     fn forget(&mut self, known: usize)
         ensures { (before : StoreOf B) → HasNamed before → self.old ≡ record before { names = self.old.names }
             → take known self.old.names ≡ before.names → self.new ≡ before }
@@ -179,8 +180,8 @@ impl<B> Store<B> {
         self.table.truncate(known);
     }
 
-    /// Adds an innermost frame with these locals, whose values it takes over. Of two values of one name the later
-    /// stands.
+    /// Adds an innermost frame with these locals, whose values it owns. Of two values with one name the later one
+    /// counts. If memory runs out nothing changes.
     pub fn push_frame(&mut self, alloc: Global, back: B, locals: Vec<Local>) -> Result<(), NoMemory>
     where
         B: Drop,
@@ -190,7 +191,7 @@ impl<B> Store<B> {
         let known = self.table.len();
         let numbers = NameNumbers::new(alloc);
         self.frames.push(HeldFrame { back, numbers })?;
-        let held = self.hold_locals(alloc, locals);
+        let held = self.hold_locals(locals);
         if held.is_err() {
             let _back = self.pop_frame();
             self.forget(known);
@@ -199,7 +200,7 @@ impl<B> Store<B> {
         Ok(())
     }
 
-    /// Drops the innermost frame, and answers where it goes back to; None where there is no frame.
+    /// Drops the innermost frame, and gives the place to which it returns, or None if there is no frame.
     pub fn pop_frame(&mut self) -> Option<B>
         ensures back { result ≡ option_map (λ frame. frame.back) (stores.innermost self.old.frames) }
         ensures left { self.new ≡ stores.without_frame self.old }
@@ -211,8 +212,8 @@ impl<B> Store<B> {
         Some(back)
     }
 
-    /// Drops the innermost frame and then sets a name, as `pop_frame` and then `set` do, and answers where the frame goes
-    /// back to; None with no frame, where it changes nothing. After a refused growth all is as before.
+    /// Drops the innermost frame and then sets a name, as `pop_frame` and then `set` do, and gives the place to which
+    /// the frame returns; None without a frame, and then nothing changes. If memory runs out nothing changes.
     pub fn pop_frame_setting(
         &mut self,
         alloc: Global,
@@ -225,8 +226,8 @@ impl<B> Store<B> {
         if self.frames.is_empty() {
             return Ok(None);
         }
-        self.table
-            .bind_below(alloc, name, self.frames.len(), value)?;
+        let value = Text::copy_of(alloc, value)?;
+        self.table.bind_below(name, self.frames.len(), value)?;
         Ok(self.pop_frame())
     }
 }
@@ -242,7 +243,7 @@ impl<B: Drop> Store<B> {
 }
 
 impl<B: Clone> Clone for Store<B> {
-    // A copy of a store is that store, where a copy of a place to go back to is that place.
+    // A copy of a store equals that store, if a copy of a place to return to equals that place.
     ghost is_clone = { λ store copy. ((back same : B) → B.is_clone back same → same ≡ back) → copy ≡ store };
 
     fn clone(&self) -> Result<Self, NoMemory> {

@@ -1,4 +1,4 @@
-//! Texts that are expanded when they are used, after the Asterisk documentation's pages on variables.
+//! Texts that are expanded when used, after the Asterisk documentation's pages on variables.
 ghost use Rattle.std.specs.Prelude.{◌≡◌, ◌<◌, ◌≤◌, IfErr, IfOk};
 ghost use Rattle.std.specs.Option.{option_map};
 ghost use Rattle.dp_conf.specs.Groups.{Reading, IsReading};
@@ -16,12 +16,12 @@ use dp_conf::{MOST_NESTING, NoMemory, nesting, next_mark};
 use std::alloc::{AllocError, Global};
 use std::marker::Model;
 
-/// Why a text is no template.
+/// Why a text is not a template.
 #[derive(Clone, Copy, Debug, PartialEq, Eq)]
 pub enum TemplateFault {
-    /// More groups stand inside each other than may.
+    /// Groups are nested more deeply than allowed.
     TooDeep,
-    /// A growth was refused.
+    /// Memory ran out.
     NoMemory,
 }
 
@@ -33,7 +33,7 @@ impl From<AllocError> for TemplateFault {
     }
 }
 
-/// A text in which variables, functions and expressions stand in groups.
+/// A text with variables, functions and expressions in groups.
 ///
 /// A contract sees it as its text.
 pub struct Template {
@@ -60,7 +60,8 @@ impl Model for Template {
 }
 
 impl Template {
-    /// The template of a text, in which at most 32 groups stand inside each other.
+    /// The template of a text whose groups are nested at most 32 deep. It fails with `TooDeep` for any other text, and
+    /// with `NoMemory` if memory runs out.
     pub fn read(alloc: Global, text: &[u8]) -> Result<Self, TemplateFault>
         ensures ok { IfOk result (λ template. (template ≡ text.now) × (nesting_of text.now ≤ 32)) }
         ensures deep { IfErr result (λ fault. fault ≡ TemplateFault.TooDeep → 32 < nesting_of text.now) }
@@ -75,10 +76,10 @@ impl Template {
     }
 }
 
-/// A text with each group replaced by its value, as `expand` does with a template, however deep groups stand inside
-/// each other.
+/// A text with each group replaced with its value, as `expand` does with a template, however deep its groups are
+/// nested.
 ///
-/// The error comes only where a growth was refused.
+/// It fails only if memory runs out.
 pub fn expand_text<B, C: Counts>(
     alloc: Global,
     text: &[u8],
@@ -89,9 +90,9 @@ pub fn expand_text<B, C: Counts>(
     expand_text_with::<StandardFunctions, B, C>(alloc, text, scope)
 }
 
-/// A text with each group replaced by its value, by the functions of a table.
+/// A text with each group replaced with its value, using the functions of a table.
 ///
-/// The error comes only where a growth was refused.
+/// It fails only if memory runs out.
 pub fn expand_text_with<F: Functions, B, C: Counts>(
     alloc: Global,
     text: &[u8],
@@ -103,9 +104,9 @@ pub fn expand_text_with<F: Functions, B, C: Counts>(
     Ok(expanded.bytes)
 }
 
-/// The same, with what in the text is the first that is not known.
+/// The same, with the first name, call or expression in the text that is not known.
 ///
-/// The error comes only where a growth was refused.
+/// It fails only if memory runs out.
 pub fn expand_text_checked<F: Functions, B, C: Counts>(
     alloc: Global,
     text: &[u8],
@@ -124,38 +125,38 @@ pub fn expand_text_checked<F: Functions, B, C: Counts>(
     expanding.finish().of::<F>(alloc, text)
 }
 
-/// The template with each group replaced by its value.
+/// The template with each group replaced with its value.
 ///
 /// The body of a group is expanded first, and its value is not expanded again. `${..}` has the value of a variable or
-/// of a function, or a part of it; `$[..]` has the value of an expression. An opening without its end is plain.
+/// of a function, or a part of it; `$[..]` has the value of an expression. An opening without an end is plain.
 ///
-/// The error comes only where a growth was refused.
+/// It fails only if memory runs out.
 pub fn expand<B, C: Counts>(
     alloc: Global,
     template: &Template,
     scope: &Scope<'_, B, C>,
 ) -> Result<Vec<u8>, NoMemory>
-    // By the text's one reading.
+    // Given the text's one reading.
     ensures reading { (reading : Reading) → IsReading template.now reading
         → IfOk result (λ bytes. bytes.items ≡ expansion_of (sight_of C.count scope.now) reading) }
-    // The same by a function.
+    // The same, given by a function.
     ensures exact { IfOk result (λ bytes. bytes.items ≡ expansion (sight_of C.count scope.now) template.now) }
 {
     expand_with::<StandardFunctions, B, C>(alloc, template, scope)
 }
 
-/// The template with each group replaced by its value, as `expand` does, by the functions of a table.
+/// The template with each group replaced with its value, as `expand` does, using the functions of a table.
 ///
-/// The error comes only where a growth was refused.
+/// It fails only if memory runs out.
 pub fn expand_with<F: Functions, B, C: Counts>(
     alloc: Global,
     template: &Template,
     scope: &Scope<'_, B, C>,
 ) -> Result<Vec<u8>, NoMemory>
-    // By the text's one reading.
+    // Given the text's one reading.
     ensures reading { (reading : Reading) → IsReading template.now reading
         → IfOk result (λ bytes. bytes.items ≡ expansion_of_with F.table (sight_of C.count scope.now) reading) }
-    // The same by a function.
+    // The same, given by a function.
     ensures exact { IfOk result (λ bytes. bytes.items ≡ expansion_with F.table (sight_of C.count scope.now) template.now) }
 {
     let bytes = template

@@ -16,29 +16,29 @@ use dp_expr::evaluate;
 use std::alloc::Global;
 use std::mem::size_of;
 
-/// A function that is none of the five, by the places of its name and its argument.
+/// A function that is not one of the five, given by the places of its name and its argument.
 #[derive(Clone, Copy)]
 pub(crate) struct OtherCall {
     pub(crate) name: Span,
     pub(crate) argument: Span,
 }
 
-/// An expression in which no group stands, by the place of its body, with its value.
+/// An expression that contains no group, given by the place of its body, with its value.
 #[derive(Drop)]
 pub(crate) struct KnownExpression {
     pub(crate) body: Span,
     pub(crate) value: Vec<u8>,
 }
 
-/// A piece of a text: plain bytes, a group that holds no group, as what it stands for, or where another group begins or
-/// ends.
+/// A piece of a text: plain bytes, the meaning of a group that contains no group, or the beginning or the end of
+/// another group.
 #[derive(Drop)]
 pub(crate) enum TextPiece {
     /// Plain bytes.
     Run(Span),
-    /// The variable of the name that stands there.
+    /// The variable whose name is at this place.
     Name(Span),
-    /// The function of the argument that stands there.
+    /// The function whose argument is at this place.
     Call(Function, Span),
     /// Another function.
     Other(Box<OtherCall>),
@@ -48,13 +48,13 @@ pub(crate) enum TextPiece {
     Known(Box<KnownExpression>),
     /// A value that is always empty.
     Empty,
-    /// An opening. What never closes is plain.
+    /// An opening. One that is never closed is plain.
     Begins(GroupKind),
     /// The end of the innermost group.
     Ends,
 }
 
-// A dialplan has some for each of its lines, so their size counts.
+// A dialplan has some for each of its lines, so their size matters.
 const _: () = prove!(size_of::<TextPiece>() == 24);
 
 /// The whole value of a head.
@@ -73,7 +73,7 @@ fn full(alloc: Global, head: Head) -> Result<TextPiece, NoMemory>
     }
 }
 
-/// The group whose body stands there, in braces.
+/// The group in braces whose body is at this place.
 fn read_braces(alloc: Global, text: &[u8], place: Span) -> Result<TextPiece, NoMemory>
     ensures { IfOk result (IsGroup text.now GroupKind.Braces place) }
 {
@@ -105,7 +105,7 @@ fn read_constant(alloc: Global, body: &[u8]) -> Result<Vec<u8>, NoMemory>
     Ok(bytes)
 }
 
-/// The group whose body stands there, in brackets.
+/// The group in brackets whose body is at this place.
 fn read_brackets(alloc: Global, text: &[u8], place: Span) -> Result<TextPiece, NoMemory>
     ensures { IfOk result (IsGroup text.now GroupKind.Brackets place) }
 {
@@ -115,7 +115,7 @@ fn read_brackets(alloc: Global, text: &[u8], place: Span) -> Result<TextPiece, N
 }
 
 impl TextPiece {
-    /// The group of this kind whose body stands there, in which no group stands.
+    /// The group of this kind whose body is at this place and contains no group.
     pub(crate) fn read(
         alloc: Global,
         text: &[u8],

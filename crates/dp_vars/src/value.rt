@@ -12,14 +12,14 @@ ghost use Rattle.dp_vars.specs.Variables.{first_value, value_or_empty};
 use crate::scope::{ChannelSeen, Counts, Scope};
 use crate::store::Store;
 
-/// A value as it was found, of which no copy is made.
+/// A value as it was found, without a copy.
 #[derive(Drop)]
 pub enum FoundValue<'a> {
-    /// Bytes that stand elsewhere.
+    /// Bytes that exist elsewhere.
     Bytes(&'a [u8]),
-    /// A number, which is written in decimal.
+    /// A number, written in decimal.
     Number(u64),
-    /// The name of the channel of this number.
+    /// The name of the channel with this number.
     Channel(u32),
     /// Bytes that were made for this value.
     Owned(Vec<u8>),
@@ -34,7 +34,7 @@ pub(crate) enum GivenName {
     Channel,
 }
 
-/// A function that has a value.
+/// A function with a value.
 #[derive(Clone, Copy)]
 pub enum Function {
     Global,
@@ -61,7 +61,7 @@ fn given_of(name: &[u8]) -> Option<GivenName>
     }
 }
 
-/// The value of a name that a channel gives; empty where there is no channel.
+/// The value of a name that a channel gives; empty if there is no channel.
 fn given_value<'a>(channel: Option<ChannelSeen<'a>>, given: GivenName) -> FoundValue<'a>
     ensures { value_bytes result ≡ sights.given_value (option_map sights.view_of channel.entry) given }
 {
@@ -76,7 +76,7 @@ fn given_value<'a>(channel: Option<ChannelSeen<'a>>, given: GivenName) -> FoundV
     }
 }
 
-/// The value that a store has for a name, where there is a store.
+/// The value of a name in a store, if there is a store.
 fn stored_value<'a, B>(store: Option<&'a Store<B>>, name: &[u8]) -> Option<&'a [u8]>
     ensures { option_map (λ value. value.now) result
         ≡ first_value (sights.stored_maps (sights.after store.entry)) name.now }
@@ -100,7 +100,7 @@ pub fn is_set<B, C>(scope: &Scope<'_, B, C>, name: &[u8]) -> bool
     }
 }
 
-/// The value of a name, by what the channel gives and else by the variables and the globals; empty where it has none.
+/// The value of a name: what the channel gives, else that of the variables and the globals; empty if it has none.
 #[inline(always)]
 pub fn variable<'a, B, C>(scope: &Scope<'a, B, C>, name: &[u8]) -> FoundValue<'a>
     ensures { value_bytes result ≡ value_or_empty (sights.maps_of scope.now) name.now }
@@ -114,7 +114,7 @@ pub fn variable<'a, B, C>(scope: &Scope<'a, B, C>, name: &[u8]) -> FoundValue<'a
     }
 }
 
-/// The value of a local of the innermost frame alone, and the empty text where there is none.
+/// The value of a local of the innermost frame, and of no other, or the empty text if there is none.
 fn local<'a, B>(store: Option<&'a Store<B>>, name: &[u8]) -> &'a [u8]
     ensures { result.now ≡ sights.local_seen (sights.after store.entry) name.now }
 {
@@ -124,7 +124,7 @@ fn local<'a, B>(store: Option<&'a Store<B>>, name: &[u8]) -> &'a [u8]
     }
 }
 
-/// The number of the caller, where that is asked for.
+/// The number of the caller, if that is requested.
 fn caller<'a>(channel: Option<ChannelSeen<'a>>, argument: &[u8]) -> &'a [u8]
     ensures { result.now ≡ values.caller_value (sights.caller_of (option_map sights.view_of channel.entry)) argument.now }
 {
@@ -140,7 +140,7 @@ fn caller<'a>(channel: Option<ChannelSeen<'a>>, argument: &[u8]) -> &'a [u8]
     }
 }
 
-/// The function of a name, or None where a function of this name is always empty.
+/// The function with a name, or None if a function with this name is always empty.
 pub fn function_of(name: &[u8]) -> Option<Function>
     ensures { result ≡ values.function_of name.now }
 {
@@ -172,7 +172,7 @@ pub(crate) fn function_name<'a>(function: Function) -> &'a [u8]
     }
 }
 
-/// The value of a function of an argument.
+/// The value of a function with an argument.
 pub(crate) fn function_value<'a, B, C: Counts>(
     scope: &Scope<'a, B, C>,
     function: Function,

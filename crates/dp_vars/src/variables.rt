@@ -8,8 +8,8 @@ use std::alloc::Global;
 use std::collections::BTreeMap;
 use std::marker::Model;
 
-/// Variables with their values. Names are told apart by their bytes, and a look-up costs the logarithm of their number,
-/// whatever names a dialplan chooses.
+/// Variables with their values. Names are compared by their bytes, and a look-up takes time logarithmic in their
+/// number, whatever names a dialplan chooses.
 #[derive(Drop)]
 pub(crate) struct Variables {
     held: BTreeMap<Vec<u8>, Text>,
@@ -30,7 +30,7 @@ impl Model for Variables {
 }
 
 impl Variables {
-    /// No variables. It never allocates.
+    /// Without variables. It never allocates.
     pub(crate) fn new(alloc: Global) -> Self
         ensures { result ≡ finite.empty }
     {
@@ -39,7 +39,7 @@ impl Variables {
         }
     }
 
-    /// The value of a name, where it has one.
+    /// The value of a name, if it has one.
     pub(crate) fn get(&self, name: &[u8]) -> Option<&[u8]>
         ensures { option_map (λ value. value.now) result ≡ finite.get self.now name.now }
     {
@@ -49,7 +49,7 @@ impl Variables {
         }
     }
 
-    /// Gives a name the value. After a refused growth all is as before.
+    /// Sets the value of a name. If memory runs out nothing changes.
     pub(crate) fn insert(
         &mut self,
         alloc: Global,

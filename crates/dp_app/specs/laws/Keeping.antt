@@ -1,4 +1,4 @@
--- What is kept by rows that leave parts of a cell as they are, for the laws of applications.
+-- Facts about rows that do not change parts of a cell, for the laws of applications.
 use Rattle.std.specs.Prelude.{◌≡◌, ℕ, false, List, length, refl}
 use Rattle.std.proofs.Common.{ap, subst, ◌∙◌, rules}
 use Rattle.std.proofs.Math.Seq.{take-length}
@@ -13,37 +13,37 @@ use Rattle.dp_app.specs.declared.phase.Phase.{Phase}
 use Rattle.dp_app.specs.declared.place.Place.{Place}
 use Rattle.dp_app.specs.declared.touch.Touch.{Touch}
 
--- a store that stays as it is
+-- an unchanged store
 pub store_kept : (touch : Touch) (store : StoreOf Place) → KeepsStore touch store store
 store_kept touch store = search rules
 
--- queues that stay as they are
+-- unchanged queues
 pub queues_kept : (touch : Touch) (queues : QueuesOf) → KeepsQueues touch queues queues
 queues_kept touch queues = search (rules, take-length)
 
--- a cell that stays as it is
+-- an unchanged cell
 pub cell_kept : (touch : Touch) (cell : CellOf) → KeepsUntouched touch cell cell
 cell_kept touch cell = search (store_kept, queues_kept)
 
--- a move that parks the channel nowhere keeps the park law
+-- a move that does not park the channel keeps the park law
 pub going_parks : (count : ℕ) (going : Move) → ParksNowhere going → MayGo count going
 going_parks count Next g = tt
 going_parks count (Jump target) g = tt
 going_parks count (Park phase) g = absurd g
 going_parks count Hang g = tt
 
--- and leaves the waiting lists
+-- and does not change the waiting lists
 pub going_waits : (lists : List (List ℕ)) (number : ℕ) (going : Move) → ParksNowhere going → lists ≡ waiting_after lists number going
 going_waits lists number Next g = refl
 going_waits lists number (Jump target) g = refl
 going_waits lists number (Park phase) g = absurd g
 going_waits lists number Hang g = refl
 
--- such a move is no park
+-- such a move does not park
 pub not_parked : {X : Type 0} (going : Move) (phase : Phase) → ParksNowhere going → going ≡ Park phase → X
 not_parked going phase g parks = absurd (subst (λ move. ParksNowhere move) parks g)
 
--- a row that parks the channel nowhere and leaves the queues keeps the laws, if it keeps the touch law
+-- a row that does not park the channel and does not change the queues keeps the laws, if it keeps the touch law
 pub going_lawful : (touch : Touch) (row : Row)
     → ((arguments : List ℕ) (cell : CellOf) → KeepsUntouched touch cell (row arguments cell).cell)
     → ((arguments : List ℕ) (cell : CellOf) → (row arguments cell).cell.queues ≡ cell.queues)

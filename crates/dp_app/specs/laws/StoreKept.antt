@@ -1,4 +1,4 @@
--- What is kept of a store by a frame that is pushed or dropped, and by a name that is set.
+-- What pushing or dropping a frame, and setting a name, keeps of a store.
 use Rattle.std.specs.Prelude.{◌≡◌, ℕ, zero, suc, ◌-◌, Bool, true, false, List, [], ◌∷◌, Option, Some, None, length, map, refl}
 use Rattle.std.proofs.Common.{ap, sym, ◌∙◌}
 use Rattle.dp_vars.specs.Stores.{Frame, StoreOf, changed_at, holder, set, set_in, set_local, with_frame, with_local, without_frame}
@@ -38,14 +38,14 @@ dropped_kept touch store touches =
       names = no_false touch.frames touches;
     }
 
--- a local that is set leaves the places
+-- setting a local does not change the places
 changed-places : (name value : List ℕ) (place : ℕ) (frames : List (Frame Place))
     → map (λ f. f.back) (changed_at (with_local name value) place frames) ≡ map (λ f. f.back) frames
 changed-places name value place [] = refl
 changed-places name value zero (f ∷ fs) = refl
 changed-places name value (suc place) (f ∷ fs) = ap (λ rest. f.back ∷ rest) (changed-places name value place fs)
 
--- a store with the same places as one that is kept is kept, where variables are touched
+-- a store with the same places as one that keeps the law keeps it too, if variables are touched
 kept_by : (touch : Touch) (before after changed : StoreOf Place) → touch.variables ≡ true → KeepsStore touch before after
     → places_of changed ≡ places_of after → KeepsStore touch before changed
 kept_by touch before after changed touches kept places =
@@ -74,7 +74,7 @@ set_local_kept touch store name value touches =
     kept_by touch store store (set_local store name value) touches (store_kept touch store)
     (changed-places name value (length store.frames - 1) store.frames)
 
--- a cell of which the store alone changes is kept if the store is
+-- a cell in which only the store changes keeps the law if the store does
 pub with_store_kept : (touch : Touch) (cell : CellOf) (store : StoreOf Place) → KeepsStore touch cell.store store
     → KeepsUntouched touch cell (record cell { store = store })
 with_store_kept touch cell store kept = record {
@@ -87,7 +87,7 @@ with_store_kept touch cell store kept = record {
   queues = queues_kept touch cell.queues;
 }
 
--- a cell of which the globals alone change
+-- a cell in which only the globals change
 pub with_globals_kept : (touch : Touch) (cell : CellOf) (globals : Named) → touch.globals ≡ true → KeepsUntouched touch cell (record cell { globals = globals })
 with_globals_kept touch cell globals touches = record {
   number = refl;
@@ -99,7 +99,7 @@ with_globals_kept touch cell globals touches = record {
   queues = queues_kept touch cell.queues;
 }
 
--- a cell of which the caller's number alone changes
+-- a cell in which only the caller's number changes
 pub with_caller_kept : (touch : Touch) (cell : CellOf) (caller : List ℕ) → touch.caller ≡ true → KeepsUntouched touch cell (record cell { caller = caller })
 with_caller_kept touch cell caller touches = record {
   number = refl;

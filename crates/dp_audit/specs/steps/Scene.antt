@@ -10,7 +10,7 @@ use Rattle.dp_audit.specs.steps.Hiding.{AreHidden}
 use Rattle.dp_audit.specs.Labels.{IsNaming}
 use Rattle.dp_audit.specs.Orders.{order_at}
 use Rattle.dp_audit.specs.Unset.{AreSet}
-use Rattle.dp_audit.specs.declared.findings.Known.{Known}
+use Rattle.dp_audit.specs.declared.scene.Known.{Known}
 use Rattle.dp_audit.specs.declared.scene.Scene.{Scene}
 
 -- the scene belongs to the context with the number
@@ -20,8 +20,6 @@ pub record IsScene (plan : PlanOf) (number : ℕ) (scene : Scene) : Type 0 where
   pub lower : AreMarks (has_lower (entries_at plan number)) (entries_at plan number) scene.lower.now
   pub firsts : Adds (some_first plan (order_at plan number)) [] scene.firsts.now.keys
   pub context : scene.context.now ≡ context_name plan number
-  pub set : AreSet plan scene.set.now
-  pub hidden : AreHidden plan scene.hidden.now
 
 -- the records are what may name the labels of the dialplan, what it sets and what it hides
 pub record IsKnown (names : List ℕ → Bool) (plan : PlanOf) (known : Known) : Type 0 where

@@ -1,4 +1,4 @@
--- Texts whose items, parts and arguments are computed on the definitions themselves.
+-- Texts whose items, parts and arguments are computed from the definitions themselves.
 use Rattle.std.proofs.Common.{◌≡◌, [], ◌∷◌, ◌++◌, Ok, Err, Some, None, refl, false, true}
 use Rattle.std.specs.Prelude.{codes}
 use Rattle.dp_conf.specs.Blanks.{trim}
@@ -12,7 +12,7 @@ use Rattle.dp_conf.specs.declared.fault.LineKind.TheVariants.{NoSection, BadHead
 trimmed : trim (codes "  a b ") ≡ codes "a b"
 trimmed = refl
 
--- a line feed is no blank
+-- a line feed is not a blank
 trimmed-line_feed : trim (32 ∷ 10 ∷ 32 ∷ []) ≡ 10 ∷ []
 trimmed-line_feed = refl
 
@@ -43,7 +43,7 @@ lines-two : lines_of (codes "[ m ]" ++ 10 ∷ codes "a => b ; c") ≡ Ok (Header
 unfolding lines_of
 lines-two = refl
 
--- the mark is skipped, and the last line feed begins no line
+-- the mark is skipped, and the last line feed begins no new line
 lines-mark : lines_of (239 ∷ 187 ∷ 191 ∷ codes "[m]" ++ 10 ∷ []) ≡ Ok (Header 1 (codes "m") ∷ [])
 unfolding lines_of
 lines-mark = refl
@@ -73,12 +73,12 @@ lines-directive : lines_of (codes "#include x") ≡ Err (record { line = 1; kind
 unfolding lines_of
 lines-directive = refl
 
--- an opening without its end is plain, and reading goes on after it
+-- an opening without an end is plain, and reading goes on after it
 groups-unclosed : reading_of (codes "${a${b}") ≡ Plain 36 (Plain 123 (Plain 97 (Group Braces (Plain 98 Over) Over)))
 unfolding reading_of levels
 groups-unclosed = refl
 
--- an opening without its end keeps those around it open too
+-- an opening without an end also keeps those around it open
 groups-other_end : nesting_of (codes "${a$[b}") ≡ 0
 unfolding nesting_of reading_of levels depth_of
 groups-other_end = refl
@@ -91,7 +91,7 @@ groups-nesting : nesting_of (codes "${$[${a}]}${b}") ≡ 3
 unfolding nesting_of reading_of levels depth_of
 groups-nesting = refl
 
--- a byte is sought outside parentheses
+-- a byte is looked for outside parentheses
 outside-cut : cut_outside 58 (codes "LEN(a:b):1:2") ≡ Some (codes "LEN(a:b)", codes "1:2")
 unfolding cut_outside
 outside-cut = refl

@@ -1,4 +1,4 @@
--- Expressions, computed on the definitions themselves.
+-- Expressions, computed from the definitions themselves.
 use Rattle.std.proofs.Common.{◌≡◌, ◌≤◌, ℕ, zero, suc, [], ◌∷◌, Some, None, refl, codes, lit≤, arith}
 use Rattle.dp_expr.specs.declared.operator.Operator.TheVariants.{Or, And, Equal, NotEqual, AtMost, MoreThan, Plus, Minus, Times, Over, Remainder}
 use Rattle.dp_expr.specs.declared.operator.Prefix.TheVariants.{Negate}
@@ -8,7 +8,7 @@ use Rattle.std.specs.Fmt.{digits}
 use Rattle.dp_expr.specs.Numbers.{number_of, natural_of}
 use Rattle.dp_expr.specs.Values.{value_of, is_false, order_of}
 
--- the longest operator first, and two that meet are two
+-- the longest operator first, and two adjacent ones are two
 tokens_longest : tokens_of (codes "a<=b=>c!==d") ≡ Operand (codes "a") ∷ Sign AtMost ∷ Operand (codes "b") ∷ Sign Equal ∷ Sign MoreThan ∷ Operand (codes "c") ∷ Sign NotEqual ∷ Sign Equal ∷ Operand (codes "d") ∷ []
 unfolding tokens_of tokens_after cut_at mark_cut is_word_byte word_size quoted_size
 tokens_longest = refl
@@ -32,7 +32,7 @@ seven_halves-reads : IsTree (codes "-7 / 2") seven_halves
 unfolding tokens_of tokens_after cut_at mark_cut is_word_byte word_size quoted_size seven_halves
 seven_halves-reads = record { spelling = refl; grouped = (lit≤ tt, tt, tt); shallow = lit≤ tt }
 
--- cut toward zero
+-- truncated toward zero
 seven_halves-value : value_of seven_halves ≡ Some (codes "-3")
 unfolding seven_halves number_of natural_of digits is_false
 seven_halves-value = refl
@@ -55,7 +55,7 @@ least_remainder-value : value_of least_remainder ≡ Some (codes "0")
 unfolding least_remainder number_of natural_of digits is_false
 least_remainder-value = refl
 
--- `-9223372036854775808`, a minus before a text that is no number
+-- `-9223372036854775808`, a minus before a text that is not a number
 least_written : value_of (Before Negate (Leaf (codes "9223372036854775808"))) ≡ None
 unfolding number_of natural_of
 least_written = refl
@@ -85,7 +85,7 @@ empty_quotes : value_of (Between Or (Leaf (codes "\"\"")) (Leaf (codes "x"))) �
 unfolding number_of natural_of is_false
 empty_quotes = refl
 
--- `1 | a + 1`, a fault on the side that is not chosen
+-- `1 | a + 1`, with a fault on the side that is not chosen
 fault_not_chosen : value_of (Between Or (Leaf (codes "1")) (Between Plus (Leaf (codes "a")) (Leaf (codes "1")))) ≡ None
 unfolding number_of natural_of is_false
 fault_not_chosen = refl
@@ -113,11 +113,11 @@ differences-reads =
 differences-to_the_right : (a b c : Tree) → ¬ (IsGrouped expression_level (Between Minus a (Between Minus b c)))
 differences-to_the_right a b c = λ grouped. omega (arith, grouped.2.0)
 
--- `1 + 2 * 3` is no product
+-- `1 + 2 * 3` is not a product
 no_product : (a b c : Tree) → ¬ (IsGrouped expression_level (Between Times (Between Plus a b) c))
 no_product a b c = λ grouped. omega (arith, grouped.1.0)
 
--- a tree in that many parentheses
+-- a tree in this many parentheses
 in_parentheses : ℕ → Tree
 in_parentheses zero = Leaf (codes "1")
 in_parentheses (suc n) = Group (in_parentheses n)

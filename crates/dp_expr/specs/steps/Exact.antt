@@ -1,5 +1,5 @@
--- A step of the code: a walk over values that takes a quotient that is not whole for a fault. It has a value where the
--- tree has one and no such quotient (`has_cut_quotient` of Quotients).
+-- A step of the code: a walk over values in which a quotient that is not whole is a fault. It has a value if the tree
+-- has one and no such quotient (`has_cut_quotient` of Quotients).
 use Rattle.std.specs.Prelude.{Some, None, if◌then◌else◌}
 use Rattle.dp_expr.specs.declared.division.Division.{Division}
 use Rattle.dp_expr.specs.declared.division.Division.TheVariants.{Cut, Exact}
@@ -13,12 +13,12 @@ use Rattle.dp_expr.specs.Walk.{Making}
 abbrev pub exact_between : Operator → Outcome → Outcome → Outcome
 exact_between operator a b = if leaves_rest operator a b then None else value_between operator a b
 
--- the same by the division that is wanted
+-- the same with the given kind of division
 abbrev pub between_by : Division → Operator → Outcome → Outcome → Outcome
 between_by Cut = value_between
 between_by Exact = exact_between
 
--- the making of values by a division; that of `Cut` is `values` of Walk
+-- the making of values with a kind of division; for `Cut` it is `values` of Walk
 abbrev pub values_by : Division → Making Outcome
 values_by division =
     record { leaf = λ bytes. Some bytes; group = λ x. x; before = value_before; between = between_by division }

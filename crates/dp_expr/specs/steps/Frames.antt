@@ -1,4 +1,4 @@
--- A step of the code: how definitions see the frames of its stack, which are those of `walk` of Walk.
+-- A step of the code: the frames of its stack in terms of definitions. They are the frames of `walk` of Walk.
 use Rattle.std.specs.Prelude.{ℕ, Bool, false, List, [], ◌∷◌}
 use Rattle.dp_expr.specs.declared.frame.Frame.{Frame as OpenFrame}
 use Rattle.dp_expr.specs.declared.frame.Frame.TheVariants as open_frames
@@ -6,7 +6,7 @@ use Rattle.dp_expr.specs.steps.Texts.{value_seen}
 use Rattle.dp_expr.specs.Values.{Outcome}
 use Rattle.dp_expr.specs.Walk.{Frame, Left, Front, Paren, is_due}
 
--- a frame, with the value that it holds
+-- a frame, with its value
 abbrev pub frame_seen : OpenFrame → Frame Outcome
 frame_seen (open_frames.Left operator left) = Left operator (value_seen left)
 frame_seen (open_frames.Front prefix) = Front prefix

@@ -1,4 +1,4 @@
--- A step of the code: how definitions see where its walk is, which is a place of `walk` of Walk.
+-- A step of the code: the place of its walk in terms of definitions. It is a place of `walk` of Walk.
 use Rattle.std.specs.Prelude.{◌≡◌, ℕ, List}
 use Rattle.dp_expr.specs.declared.walk_place.WalkPlace.{WalkPlace}
 use Rattle.dp_expr.specs.declared.walk_place.WalkPlace.TheVariants as places
@@ -13,7 +13,7 @@ place_seen places.Wanting frames = Wanting frames
 place_seen (places.Holding value) frames = Holding frames (value_seen value)
 place_seen places.Failed frames = Failed
 
--- whatever is made, the walk makes of the tokens of the text what it makes where they end
+-- whatever is made, the walk over the tokens of the text makes the same as at their end
 unfoldable pub IsOver : WalkPlace → List ℕ → Type 0
 IsOver place text = (make : Making Outcome) (frames : List (Frame Outcome))
     → walk make (place_seen place frames) (tokens_of text) ≡ ending make (place_seen place frames)

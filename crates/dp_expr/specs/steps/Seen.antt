@@ -1,4 +1,4 @@
--- A step of the code: how definitions see its tokens, which are those of `tokens_of` of Tokens.
+-- A step of the code: its tokens in terms of definitions. They are those of `tokens_of` of Tokens.
 use Rattle.std.specs.Prelude.{◌≡◌, ℕ, ◌<◌, false, List, [], ◌∷◌, length, ⊤}
 use Rattle.dp_expr.specs.declared.token.Token.{Token as BorrowedToken}
 use Rattle.dp_expr.specs.declared.token.Token.TheVariants as borrowed
@@ -18,12 +18,12 @@ token_seen borrowed.Stray = Stray
 abbrev pub cut_seen : BorrowedCut → Cut
 cut_seen cut = record { token = token_seen cut.token; more = cut.more }
 
--- the text is empty, or begins with no blank
+-- the text is empty, or does not begin with a blank
 abbrev pub IsStart : List ℕ → Type 0
 IsStart [] = ⊤
 IsStart (b ∷ bytes) = is_blank b ≡ false
 
--- the token is the first of the text, and the rest, a shorter text, has the others
+-- the token is the first of the text, and the rest, which is shorter, has the others
 pub record IsNext (text : List ℕ) (token : Token) (rest : List ℕ) : Type 0 where
   pub tokens : tokens_of text ≡ token ∷ tokens_of rest
   pub shorter : length rest < length text

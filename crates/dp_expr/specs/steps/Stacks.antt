@@ -1,4 +1,4 @@
--- A step of the code: how definitions see its stack, which is the list of the frames of `walk` of Walk.
+-- A step of the code: its stack in terms of definitions. It is the list of the frames of `walk` of Walk.
 use Rattle.std.specs.Prelude.{List}
 use Rattle.dp_expr.specs.declared.stack.Stack.{Stack}
 use Rattle.dp_expr.specs.declared.walk_place.WalkPlace.{WalkPlace}

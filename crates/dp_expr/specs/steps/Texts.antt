@@ -1,5 +1,5 @@
--- A step of the code: how definitions see its values, written or computed; what they come to are the values of trees
--- (`value_of` of Values).
+-- A step of the code: its values in terms of definitions, written or computed. They are the values of trees (`value_of`
+-- of Values).
 use Rattle.std.specs.Prelude.{ℕ, List, Option, Some, None}
 use Rattle.std.specs.Fmt.{signed_decimal}
 use Rattle.dp_expr.specs.Values.{Outcome}

@@ -1,4 +1,4 @@
--- Lines with block comments, computed on the definition itself.
+-- Lines with block comments, computed from the definition itself.
 use Rattle.std.proofs.Common.{◌≡◌, [], ◌∷◌, ◌++◌, Some, None, refl}
 use Rattle.std.specs.Prelude.{codes}
 use Rattle.dp_files.specs.Comments.{uncovered, file_lines}
@@ -8,7 +8,7 @@ comment-inside : uncovered 1 [] (codes "a;--b--;c") ≡ record { text = codes "a
 unfolding uncovered
 comment-inside = refl
 
--- a `;` after a `\` begins no comment, and one with a third dash is a comment like any other
+-- a `;` after a `\` begins no comment, and a comment with a third dash is an ordinary one
 comment-escaped : uncovered 1 [] (codes "a" ++ 92 ∷ codes ";--b;---c") ≡ record { text = codes "a" ++ 92 ∷ codes ";--b;---c"; unclosed = [] }
 unfolding uncovered
 comment-escaped = refl
@@ -22,17 +22,17 @@ comment-nested : uncovered 4 [] (codes "a;--;--b--;c--;d ; e;--f") ≡ record { 
 unfolding uncovered
 comment-nested = refl
 
--- whether a `;` opens is asked before whether it closes
+-- it is checked whether a `;` opens a comment before whether it closes one
 comment-opens_first : uncovered 5 (4 ∷ []) (codes "b--;--c") ≡ record { text = []; unclosed = 5 ∷ 4 ∷ [] }
 unfolding uncovered
 comment-opens_first = refl
 
--- an end outside of all block comments is a comment
+-- an end outside all block comments is a comment
 comment-end_alone : uncovered 1 [] (codes "a--;b") ≡ record { text = codes "a--;b"; unclosed = [] }
 unfolding uncovered
 comment-end_alone = refl
 
--- parts stay parts, and the innermost of those that are open at the end is told
+-- parts stay parts, and the innermost of those open at the end is reported
 lines-open : file_lines (239 ∷ 187 ∷ 191 ∷ codes "a;--" ++ 10 ∷ codes "b;--" ++ 10 ∷ codes "--;c" ++ 10 ∷ codes ";--d") ≡ record { texts = codes "a" ∷ [] ∷ [] ∷ [] ∷ []; open_comment = Some 4 }
 unfolding file_lines uncovered
 lines-open = refl

@@ -1,4 +1,4 @@
--- Lines of contexts, computed on their definition.
+-- Lines of contexts, computed from their definition.
 use Rattle.std.proofs.Common.{◌≡◌, ℕ, ◌+◌, List, [], ◌∷◌, map, codes, decimal, refl, arith}
 use Rattle.std.proofs.lemmas.Fmt.{decimal_digit}
 use Rattle.dp_pattern.specs.Classes.{byte_count}
@@ -15,12 +15,12 @@ use Rattle.dp_files.specs.declared.remark.RemarkKind.TheVariants.{Fault, Note}
 use Rattle.dp_files.specs.declared.remark.Remark.{Remark}
 use Rattle.dp_files.specs.declared.source_line.MadeLine.{MadeLine}
 
--- lines at the places from this one on
+-- lines at places, beginning with this one
 abbrev at_places : ℕ → List (List ℕ) → List (ℕ × List ℕ)
 at_places place [] = []
 at_places place (line ∷ lines) = (place, line) ∷ at_places (place + 1) lines
 
--- the texts that are made of a section of these lines
+-- the texts made from a section with these lines
 abbrev texts : List (List ℕ) → List (List ℕ)
 texts lines = map (λ (line : MadeLine). line.text) (context_lines (at_places 0 lines))
 
@@ -44,13 +44,13 @@ seven = decimal_digit 7 (omega arith)
 one : decimal 1 ≡ codes "1"
 one = decimal_digit 1 (omega arith)
 
--- `n` is counted over all extensions of the section
+-- `n` counts across all extensions of the section
 numbers : texts (codes "exten => 100,1,A()" ∷ codes "exten => 200,n(go),B()" ∷ [])
     ≡ codes "exten => 100,1,A()" ∷ codes "exten => 200,2(go),B()" ∷ []
 unfolding context_lines line_reading context_line entry_reading numbered_reading extension_of is_old_form priority_of written_of label_within meaning_of spelling byte_count
 numbers = rw two refl
 
--- a line that is made anew has no comment
+-- a line that is rewritten has no comment
 next_of_same : texts (codes "exten => 1,2,A() ; first" ∷ codes "same => Next,B() ; done" ∷ [])
     ≡ codes "exten => 1,2,A() ; first" ∷ codes "same => 3,B()" ∷ []
 unfolding context_lines line_reading context_line entry_reading numbered_reading extension_of is_old_form priority_of written_of label_within meaning_of spelling byte_count
@@ -96,13 +96,13 @@ left_out_remarked : kinds (codes "ignorepat => 9" ∷ codes "Switch => IAX2/x" �
 unfolding context_remarks line_reading context_line entry_reading numbered_reading extension_of is_old_form priority_of written_of label_within meaning_of spelling byte_count
 left_out_remarked = refl
 
--- what the loader refuses stands, and says nothing to the lines behind it
+-- a line that the loader refuses is kept, and says nothing to the lines after it
 refused : texts (codes "same => 1,A()" ∷ codes "exten => 1,n,A()" ∷ codes "exten => 1,x,A()" ∷ codes "exten => 1,0,A()" ∷ codes "exten => 1,s,A()" ∷ [])
     ≡ codes "same => 1,A()" ∷ codes "exten => 1,n,A()" ∷ codes "exten => 1,x,A()" ∷ codes "exten => 1,0,A()" ∷ codes "exten => 1,s,A()" ∷ []
 unfolding context_lines line_reading context_line entry_reading numbered_reading extension_of is_old_form priority_of written_of label_within meaning_of spelling byte_count
 refused = refl
 
--- a semicolon that stood behind a `\` does so again
+-- a semicolon after a `\` is written this way again
 semicolon : texts (codes "exten => 1,1,A() ; as it stands" ∷ codes "same => n,B(a\\;b)" ∷ [])
     ≡ codes "exten => 1,1,A() ; as it stands" ∷ codes "same => 2,B(a\\;b)" ∷ []
 unfolding context_lines line_reading context_line entry_reading numbered_reading extension_of is_old_form priority_of written_of label_within meaning_of spelling byte_count

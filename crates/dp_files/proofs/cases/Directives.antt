@@ -1,4 +1,4 @@
--- Directives, computed on the definition itself.
+-- Directives, computed from the definition itself.
 use Rattle.std.proofs.Common.{◌≡◌, [], ◌∷◌, ◌++◌, Some, None, refl}
 use Rattle.std.specs.Prelude.{codes}
 use Rattle.dp_files.specs.Directives.{Include, TryInclude, Exec, Unknown, directive_of}

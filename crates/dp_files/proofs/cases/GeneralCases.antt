@@ -1,10 +1,10 @@
--- Lines of `[general]`, computed on their definition.
+-- Lines of `[general]`, computed from their definition.
 use Rattle.std.proofs.Common.{◌≡◌, ℕ, List, [], ◌∷◌, codes, refl}
 use Rattle.dp_files.specs.GeneralLines.{general_lines, general_made, general_remarks}
 use Rattle.dp_files.specs.declared.remark.Note.TheVariants.{AutoFallThrough}
 use Rattle.dp_files.specs.declared.remark.RemarkKind.TheVariants.{Note}
 
--- a section with the setting in two lines, of which the second says what holds without it
+-- a section with the setting in two lines, of which the second has the default value
 abbrev section : List (ℕ × List ℕ)
 section = (4, codes "AutoFallThrough = no ; not here") ∷ (6, codes "autofallthrough=Yes") ∷ (7, codes "static=no") ∷ []
 

@@ -1,4 +1,4 @@
--- Headers that are read on the definitions themselves.
+-- Headers, computed from the definitions themselves.
 use Rattle.std.proofs.Common.{◌≡◌, ℕ, List, [], ◌∷◌, ◌++◌, Ok, Err, Some, None, refl, false, true}
 use Rattle.std.specs.Prelude.{codes}
 use Rattle.dp_files.specs.Headers.{HeaderOf, header_of, makes_template, is_addition, parents_of, made_header}
@@ -55,6 +55,6 @@ made_plain = refl
 made_of_options : made_header (codes "[ a ](b) ; c") ≡ codes "[a]"
 made_of_options = refl
 
--- a `;` of the name stays one
+-- a `;` in the name is still there
 made_escaped : made_header (codes "[a" ++ 92 ∷ 59 ∷ codes "b](!)") ≡ codes "[a" ++ 92 ∷ 59 ∷ codes "b]"
 made_escaped = refl

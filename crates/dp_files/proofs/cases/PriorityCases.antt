@@ -1,12 +1,12 @@
--- Priorities, computed on their definition.
+-- Priorities, computed from their definition.
 use Rattle.std.proofs.Common.{◌≡◌, ℕ, List, None, Some, Option, codes, refl}
 use Rattle.dp_files.specs.Priorities.{Base, Number, Next, Same, Label, Hint, Counted, Priority, written_of, label_within, priority_of}
 
--- a base with this much added, and no label
+-- a base with this added number, and no label
 counts : Base → Option ℕ → Option Priority
 counts base more = Some (record { written = Counted base more; label = None })
 
--- a base with nothing added, and a label
+-- a base without an added number, and with a label
 named : Base → List ℕ → Option Priority
 named base label = Some (record { written = Counted base None; label = Some label })
 

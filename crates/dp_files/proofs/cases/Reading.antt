@@ -1,4 +1,4 @@
--- Files that include each other, computed on the definition itself.
+-- Files that include each other, computed from the definition itself.
 use Rattle.std.proofs.Common.{◌≡◌, List, Result, [], ◌∷◌, ◌++◌, Some, None, Ok, Err, refl, if◌then◌else◌}
 use Rattle.std.specs.Prelude.{codes}
 use Rattle.dp_conf.specs.Words.{same_text}
@@ -13,7 +13,7 @@ use Rattle.dp_files.specs.declared.remark.Note.TheVariants.{OpenComment, Exec}
 use Rattle.dp_files.specs.declared.remark.Remark.{Remark}
 use Rattle.dp_files.specs.declared.remark.RemarkKind.TheVariants.{Note, Fault}
 
--- two files, the first of which includes the second and one that is not there
+-- two files, the first of which includes the second and one that does not exist
 abbrev two : Files
 two = record {
   text = λ name.
@@ -23,7 +23,7 @@ two = record {
   names = λ pattern. [];
 }
 
--- the lines of a file stand after the line that includes it
+-- the lines of a file come after the line that includes it
 reading-two : reading_of two (codes "m") ≡ Ok (record {
   files = record { name = codes "m"; included_by = None } ∷ record { name = codes "a"; included_by = Some 0 } ∷ [];
   lines =
@@ -38,7 +38,7 @@ reading-none : reading_of two (codes "c") ≡ Err not_found_error
 unfolding reading_of
 reading-none = refl
 
--- what is told
+-- the remarks
 abbrev remarks_of : Result FilesOf ReadingFault → List Remark
 remarks_of (Ok read) = read.remarks
 remarks_of (Err fault) = []
@@ -50,12 +50,12 @@ own = record {
   names = λ pattern. [];
 }
 
--- ten stand inside each other
+-- ten are nested inside each other
 reading-own : remarks_of (reading_of own (codes "m")) ≡ record { source = 9; kind = Fault IncludeDepth } ∷ []
 unfolding reading_of including after_request after_name after_text file_lines uncovered after_line directive_of
 reading-own = refl
 
--- a file with names that stand for others, a command, and a block comment that is open at its end
+-- a file with names that match others, a command, and a block comment that is open at its end
 abbrev many : Files
 many = record {
   text = λ name.
@@ -65,7 +65,7 @@ many = record {
   names = λ pattern. if same_text pattern (codes "p/*") then codes "p/a" ∷ codes "p/b" ∷ [] else [];
 }
 
--- the note on a comment comes before what is told of the same line's files
+-- the note on a comment comes before the remarks on the same line's files
 reading-many : remarks_of (reading_of many (codes "m"))
     ≡ record { source = 0; kind = Fault NotFound } ∷ record { source = 2; kind = Note Exec } ∷ record { source = 3; kind = Note OpenComment } ∷ record { source = 3; kind = Fault NotFound } ∷ []
 unfolding reading_of including after_request after_name after_text file_lines uncovered after_line directive_of

@@ -1,4 +1,4 @@
--- Lines of files that are cut into sections on the definitions themselves.
+-- Sections in the lines of files, computed from the definitions themselves.
 use Rattle.std.proofs.Common.{◌≡◌, ℕ, Bool, List, [], ◌∷◌, Some, None, refl, false, true}
 use Rattle.std.specs.Prelude.{codes}
 use Rattle.dp_conf.specs.declared.fault.LineKind.{LineKind}
@@ -15,7 +15,7 @@ use Rattle.dp_files.specs.declared.source_line.SourceLine.{SourceLine}
 abbrev line : ℕ → List ℕ → SourceLine
 line file text = record { file = file; line = 1; text = text }
 
--- a file, and one that the line at a place includes
+-- a file, and one that is included by the line at a place
 abbrev first_file : SourceFile
 first_file = record { name = []; included_by = None }
 
@@ -37,7 +37,7 @@ fault place kind = fault_at place (Line kind)
 abbrev template_lines : List SourceLine
 template_lines = line 0 (codes "[a](!)") ∷ line 0 (codes "x=1") ∷ line 0 (codes "[b] (A, !)") ∷ line 0 (codes "y=2") ∷ line 0 (codes "[c](b,a)") ∷ []
 
--- the lines of a template stand in front, also those that it has of another
+-- the lines of a template come first, including those that it has from another
 template : (sections_of (first_file ∷ []) template_lines).sections
     ≡ nameless [] ∷ section 0 (codes "a") true (1 ∷ []) ∷ section 2 (codes "b") true (1 ∷ 3 ∷ []) ∷ section 4 (codes "c") false (1 ∷ 3 ∷ 1 ∷ []) ∷ []
 unfolding sections_of after_content after_named_header after_item sections_after with_copies copies_within opening_of section_of_next
@@ -47,7 +47,7 @@ abbrev include_lines : List SourceLine
 include_lines =
     line 0 (codes "[a]") ∷ line 0 (codes "#include f") ∷ line 1 (codes "x=1") ∷ line 1 (codes "[b]") ∷ line 1 (codes "y=1") ∷ line 0 (codes "z=1") ∷ []
 
--- an included file begins in the section that is open, and after it the including file goes on in its own
+-- an included file begins in the open section, and after it the including file goes on in its own
 include : (sections_of (first_file ∷ file_at 1 ∷ []) include_lines).sections
     ≡ nameless [] ∷ section 0 (codes "a") false (2 ∷ 5 ∷ []) ∷ section 3 (codes "b") false (4 ∷ []) ∷ []
 unfolding sections_of after_content after_named_header after_item sections_after with_copies copies_within opening_of section_of_next
@@ -71,7 +71,7 @@ abbrev addition_lines : List SourceLine
 addition_lines =
     line 0 (codes "[a]") ∷ line 0 (codes "x=1") ∷ line 0 (codes "[b]") ∷ line 0 (codes "y=1") ∷ line 0 (codes "[A](+,b)") ∷ line 0 (codes "z=1") ∷ line 0 (codes "[a]") ∷ line 0 (codes "w=1") ∷ []
 
--- `+` goes on with the first section of its name, after the lines that are there; without it a section of that name begins anew
+-- `+` extends the first section with its name, after the existing lines; without it a new section with that name begins
 addition : (sections_of (first_file ∷ []) addition_lines).sections
     ≡ nameless [] ∷ section 0 (codes "a") false (1 ∷ 3 ∷ 5 ∷ []) ∷ section 2 (codes "b") false (3 ∷ []) ∷ section 6 (codes "a") false (7 ∷ []) ∷ []
 unfolding sections_of after_content after_named_header after_item sections_after with_copies copies_within opening_of section_of_next

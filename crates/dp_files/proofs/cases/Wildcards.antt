@@ -1,4 +1,4 @@
--- Names with `*` and `?`, computed on the definition itself.
+-- Names with `*` and `?`, computed from the definition itself.
 use Rattle.std.proofs.Common.{◌≡◌, true, false, refl}
 use Rattle.std.specs.Prelude.{codes}
 use Rattle.dp_files.specs.Wildcards.{is_wildcard, stands_for, matches}
@@ -7,7 +7,7 @@ stands-star : stands_for (codes "parts/*.conf") (codes "parts/b.conf") ≡ true
 unfolding stands_for
 stands-star = refl
 
--- a `*` stands for nothing too, and never for a `/`
+-- a `*` may match no bytes, and never matches a `/`
 stands-other_folder : stands_for (codes "*.conf") (codes "parts/b.conf") ≡ false
 unfolding stands_for
 stands-other_folder = refl

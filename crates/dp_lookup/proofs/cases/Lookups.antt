@@ -1,4 +1,4 @@
--- Search orders, and what is found in them, computed on the definitions themselves.
+-- Search orders, and the entries found in them, computed from the definitions themselves.
 use Rattle.std.proofs.Common.{◌≡◌, ℕ, true, false, List, [], ◌∷◌, Option, Some, None, refl}
 use Rattle.std.specs.Prelude.{codes}
 use Rattle.dp_pattern.specs.Name.{Meaning, Plain, Pattern}
@@ -11,7 +11,7 @@ use Rattle.dp_plan.specs.declared.entry.EntryId.{EntryId}
 use Rattle.dp_lookup.specs.FoundEntry.{found_entry, found_label, goes_on_more}
 use Rattle.dp_lookup.specs.SearchOrder.{links_at, visit, search_order}
 
--- a context of this name that includes the contexts of these
+-- a context with this name that includes the contexts with these names
 abbrev including : List ℕ → List (List ℕ) → PlanContext
 including name includes = record { name = name; entries = []; includes = includes }
 
@@ -50,7 +50,7 @@ order-both_from_the_last : search_order both (codes "c") ≡ 2 ∷ 3 ∷ 1 ∷ [
 unfolding visit
 order-both_from_the_last = refl
 
--- `a` includes itself, `b` twice, and a context that there is not
+-- `a` includes itself, `b` twice, and an unknown context
 abbrev again : PlanOf
 again = plan_of (
     including (codes "a") (codes "a" ∷ codes "b" ∷ codes "x" ∷ codes "b" ∷ codes "c" ∷ [])
@@ -64,13 +64,13 @@ order-again : search_order again (codes "a") ≡ 0 ∷ 1 ∷ 2 ∷ []
 unfolding visit
 order-again = refl
 
--- ---- what is found
+-- ---- found entries
 
--- an entry of this name, priority and label
+-- an entry with this name, priority and label
 abbrev entry_of : Meaning → ℕ → Option (List ℕ) → Entry
 entry_of name priority label = record { name = name; priority = priority; label = label; application = codes "NoOp"; arguments = [] }
 
--- the entry of this number in the context of that one
+-- the entry with this number in the context with that number
 abbrev id_of : ℕ → ℕ → Option EntryId
 id_of context entry = Some (record { context = context; entry = entry })
 
@@ -95,7 +95,7 @@ office = plan_of (
 abbrev both_contexts : List ℕ
 both_contexts = 0 ∷ 1 ∷ []
 
--- the more specific name, wherever it stands in the file
+-- the more specific name, wherever it is in the file
 found-specific : found_entry office both_contexts (codes "1-2") 1 ≡ id_of 0 2
 unfolding found_entry name_cmp
 found-specific = refl
@@ -108,7 +108,7 @@ found-another_priority : found_entry office both_contexts (codes "12") 2 ≡ id_
 unfolding found_entry name_cmp
 found-another_priority = refl
 
--- the first context of the order that has one; a number that no context has finds nothing
+-- the first context in the order that has one; a number without a context finds nothing
 found-first_context : found_entry office both_contexts (codes "s") 1 ≡ id_of 0 0
 unfolding found_entry name_cmp
 found-first_context = refl
@@ -125,7 +125,7 @@ found-none : found_entry office both_contexts (codes "12") 4 ≡ None
 unfolding found_entry name_cmp
 found-none = refl
 
--- two entries of one name and priority, which no loaded dialplan has, and a name that no text means
+-- two entries with the same name and priority, which no loaded dialplan has, and a name that is not the meaning of a text
 abbrev doubled_plan : PlanOf
 doubled_plan = plan_of (
     (record {
@@ -139,12 +139,12 @@ doubled_plan = plan_of (
     ∷ (record { name = codes "no member"; entries = entry_of (Pattern ([] ∷ []) End) 1 None ∷ []; includes = [] })
     ∷ [])
 
--- of entries that tie, the first in the file
+-- of equal entries, the first in the file
 found-first_of_two : found_entry doubled_plan (0 ∷ []) (codes "7") 1 ≡ id_of 0 1
 unfolding found_entry name_cmp
 found-first_of_two = refl
 
--- of two labels of one name, the lower priority
+-- of two labels with the same name, the lower priority
 label-lowest : found_label office both_contexts (codes "12") (codes "out") ≡ Some 3
 unfolding found_label name_cmp
 label-lowest = refl
@@ -157,7 +157,7 @@ label-none : found_label office (0 ∷ []) (codes "12") (codes "out") ≡ None
 unfolding found_label name_cmp
 label-none = refl
 
--- any name goes on for ever, and `s` to its end; `12` has no priority 1 in the second context
+-- any name can go on forever, and `s` to its end; `12` has no priority 1 in the second context
 more-any : goes_on_more office both_contexts (codes "12") ≡ true
 unfolding goes_on_more name_cmp
 more-any = refl
@@ -174,7 +174,7 @@ more-no_priority_1 : goes_on_more office (1 ∷ []) (codes "1") ≡ false
 unfolding goes_on_more name_cmp
 more-no_priority_1 = refl
 
--- a class of no member is waited for, though no ending has a member of it: so the law asks for names that texts mean
+-- a class without members is waited for, although no ending has a member of it: so the law requires names that are meanings of texts
 more-no_member : goes_on_more doubled_plan (1 ∷ []) [] ≡ true
 unfolding goes_on_more name_cmp
 more-no_member = refl

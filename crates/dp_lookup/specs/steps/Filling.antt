@@ -1,24 +1,24 @@
--- A step of the code: how far the walk through a dialplan's contexts has come, with its marks and its frames. What it
--- comes to is `visit` of SearchOrder.
+-- A step of the code: the state of the walk through a dialplan's contexts, with its marks and its frames. Its result is
+-- `visit` of SearchOrder.
 use Rattle.std.specs.Prelude.{◌≡◌, ℕ, zero, suc, ◌+◌, ◌<◌, ◌≤◌, Bool, List, [], ◌∷◌, ◌++◌, length, drop, slice_get, Some, if◌then◌else◌}
 use Rattle.dp_plan.specs.Plan.{PlanOf}
 use Rattle.dp_lookup.specs.SearchOrder.{context_count, links_at, has, AreContexts}
 use Rattle.dp_lookup.specs.declared.visit.ContextVisit.{ContextVisit}
 
--- there is a mark for each number below some bound, and it says whether the order has the number
+-- there is a mark for each number below a bound, and it says whether the order contains the number
 abbrev pub IsMarked : List ℕ → List Bool → Type 0
 IsMarked order marks = (number : ℕ) → number < length marks → slice_get marks number ≡ Some (has order number)
 
--- the includes of a context that are still to come
+-- the remaining includes of a context
 abbrev pub links_left : PlanOf → ContextVisit → List ℕ
 links_left plan frame = drop frame.next (links_at plan frame.context)
 
--- all that are still to come; those of the last context come first
+-- all remaining includes; those of the last context come first
 abbrev pub pending : PlanOf → List ContextVisit → List ℕ
 pending plan [] = []
 pending plan (frame ∷ frames) = pending plan frames ++ links_left plan frame
 
--- the numbers below a bound that were not seen, each counted by its weight
+-- the numbers below a bound that were not seen, each counted with its weight
 abbrev pub unseen : (ℕ → ℕ) → ℕ → List ℕ → ℕ
 unseen weight zero seen = 0
 unseen weight (suc bound) seen = unseen weight bound seen + (if has seen bound then 0 else weight bound)
@@ -26,15 +26,15 @@ unseen weight (suc bound) seen = unseen weight bound seen + (if has seen bound t
 abbrev pub one : ℕ → ℕ
 one number = 1
 
--- how many includes a context has
+-- the number of includes of a context
 abbrev pub link_count : PlanOf → ℕ → ℕ
 link_count plan number = length (links_at plan number)
 
--- how many includes are still to be asked
+-- the number of includes still to be checked
 abbrev pub work : PlanOf → List ℕ → List ContextVisit → ℕ
 work plan order frames = unseen (link_count plan) (context_count plan) order + length (pending plan frames)
 
--- the marks are those of the order, which has no context twice; and each context that is gone through stands in it
+-- the marks are those of the order, which contains no context twice; and each context in progress is in it
 pub record IsFilling (plan : PlanOf) (order : List ℕ) (marks : List Bool) (frames : List ContextVisit) : Type 0 where
   pub marked : IsMarked order marks
   pub counted : unseen one (context_count plan) order + length order ≡ context_count plan

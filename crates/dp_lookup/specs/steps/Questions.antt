@@ -1,12 +1,12 @@
--- A step of the code: the three questions that a look-up asks of entries, by one function. With the tests of its
--- questions `found_by` comes to `found_entry`, `found_label` and `goes_on_more` of FoundEntry.
+-- A step of the code: the three conditions for entries in a look-up, as one function. With the tests of these
+-- conditions `found_by` gives `found_entry`, `found_label` and `goes_on_more` of FoundEntry.
 use Rattle.std.specs.Prelude.{ℕ, Bool, List}
 use Rattle.dp_plan.specs.declared.entry.Entry.{Entry}
 use Rattle.dp_lookup.specs.FoundEntry.{has_priority, has_label, begins_later}
 use Rattle.dp_lookup.specs.declared.look_up.LookUp.{LookUp}
 use Rattle.dp_lookup.specs.declared.look_up.LookUp.TheVariants.{Priority, Label, More}
 
--- whether the entry is one that the question asks for
+-- whether the entry meets the condition
 abbrev pub asks : LookUp → List ℕ → Entry → Bool
 asks (Priority number) text entry = has_priority text number entry
 asks (Label label) text entry = has_label text label.now entry

@@ -1,4 +1,4 @@
--- Matches, going on, the order and the spelling, computed on the definitions themselves.
+-- Matches, texts that go on, the order and the spelling, computed from the definitions themselves.
 use Rattle.std.proofs.Common.{◌≡◌, ℕ, zero, suc, ◌<◌, slice_index, [], ◌∷◌, Less, Greater, codes, true≢false, refl, sym, arith}
 use Rattle.dp_pattern.specs.Name.{Plain, Pattern}
 use Rattle.dp_pattern.specs.Matches.{Matches}
@@ -8,7 +8,7 @@ use Rattle.dp_pattern.specs.Spelling.{spelling}
 use Rattle.dp_pattern.specs.declared.tail.Tail.TheVariants.{End, Dot, Bang}
 use Rattle.dp_pattern.proofs.WalkLemmas.{matched}
 
--- `_1.` matches `1-2`, and not `1`
+-- `_1.` matches `1-2`, but not `1`
 takes_more : Matches (Pattern (codes "1" ∷ []) Dot) (codes "1-2")
 unfolding Matches
 takes_more = record {

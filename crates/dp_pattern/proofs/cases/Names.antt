@@ -1,4 +1,4 @@
--- Names, computed on the definition.
+-- Names, computed from the definition.
 use Rattle.std.proofs.Common.{◌≡◌, [], ◌∷◌, ◌++◌, Ok, Err, codes, refl}
 use Rattle.dp_pattern.specs.Classes.{byte_count}
 use Rattle.dp_pattern.specs.Name.{Plain, Pattern, meaning_of}

@@ -1,11 +1,11 @@
--- What is read so far, by what it is, and where the openings in it stand.
+-- What is read so far, as values of the definition, and the places of the openings in it.
 use Rattle.std.specs.Prelude.{ℕ, ◌+◌, ◌≤◌, List, [], ◌∷◌, map, reverse}
 use Rattle.dp_pieces.specs.Shown.{shown_all}
 use Rattle.dp_pieces.specs.declared.reader.Open.{Open}
 use Rattle.dp_pieces.specs.declared.reader.Reading.{Reading}
 use Rattle.dp_pieces.specs.steps.Reader as steps
 
--- an opening by its kind and its place
+-- an opening, with its kind and its place
 abbrev pub shown_open : Open → steps.Open
 shown_open o = record { kind = o.kind; start = o.start }
 
@@ -13,7 +13,7 @@ shown_open o = record { kind = o.kind; start = o.start }
 abbrev pub read_of : Reading → steps.Read
 read_of reading = record { pieces = shown_all reading.pieces.items; waiting = reverse (map shown_open reading.waiting.items) }
 
--- the openings stand in so many pieces, each before those inside of it
+-- the openings are within this many pieces, each before those inside it
 abbrev pub StandIn : List steps.Open → ℕ → Type 0
 StandIn [] size = Unit {0}
 StandIn (w ∷ waiting) size = (w.start + 2 ≤ size) × StandIn waiting w.start

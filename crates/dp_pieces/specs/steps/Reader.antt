@@ -1,4 +1,4 @@
--- A text on the way to its pieces: those so far, and the openings in them that wait for their ends.
+-- Reading a text into pieces: those so far, and the openings in them that wait for their ends.
 use Rattle.std.specs.Prelude.{ℕ, ◌+◌, List, [], ◌∷◌, ◌++◌, drop, length, map, take}
 use Rattle.dp_conf.specs.declared.groups.GroupKind.{GroupKind}
 use Rattle.dp_conf.specs.declared.groups.Mark.{Mark}
@@ -13,12 +13,12 @@ pub record Open : Type 0 where
   pub kind : GroupKind
   pub start : ℕ
 
--- the pieces, and the openings that wait, the innermost first
+-- the pieces, and the waiting openings, the innermost first
 pub record Read : Type 0 where
   pub pieces : List Piece
   pub waiting : List Open
 
--- the kinds of the openings that wait
+-- the kinds of the waiting openings
 abbrev pub kinds_of : List Open → List GroupKind
 kinds_of waiting = map (λ w. w.kind) waiting
 

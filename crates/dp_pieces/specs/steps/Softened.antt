@@ -1,4 +1,4 @@
--- Pieces on the way to those without blanks at their ends.
+-- Steps in removing the blanks at the ends of pieces.
 use Rattle.std.specs.Prelude.{Bool, false, ◌==◌, List, [], ◌∷◌, Option, None, Some, if◌then◌else◌}
 use Rattle.std.specs.Option.{option_map_or}
 use Rattle.dp_conf.specs.Blanks.{is_blank}
@@ -24,13 +24,13 @@ abbrev pub without_last : List Piece → List Piece
 without_last [] = []
 without_last (piece ∷ pieces) = before_last_kept piece (without_last pieces)
 
--- the bytes of a piece that may lose its blanks at the start
+-- the bytes of a piece that may lose blanks at the start
 abbrev pub losing_set : Piece → Option Bytes
 losing_set (Known byte) = None
 losing_set (OneOf set) = if has_blank set then Some set else None
 losing_set (AnyOf set) = Some set
 
--- the start of pieces of which the first is no known blank
+-- the start of pieces whose first one is not a known blank
 abbrev pub loosened_by : Option Bytes → Piece → List Piece → List Piece
 loosened_by None piece pieces = piece ∷ pieces
 loosened_by (Some set) piece pieces = loose_front set pieces
@@ -39,7 +39,7 @@ abbrev pub start_by : List Piece → List Piece
 start_by [] = []
 start_by (piece ∷ pieces) = loosened_by (losing_set piece) piece pieces
 
--- a piece before others that may lose their blanks: where its byte may be a blank, it may be lost too
+-- a piece before others that may lose their blanks: if its byte may be a blank, it may be lost too
 abbrev pub soft_piece : Piece → Piece
 soft_piece (Known byte) = if is_blank byte then AnyOf (λ b. b == byte) else Known byte
 soft_piece (OneOf set) = if has_blank set then AnyOf set else OneOf set

@@ -1,4 +1,4 @@
--- How pieces stand to a rule by which they are cut, one after another.
+-- The relation of pieces to a rule for cutting them, one after another.
 use Rattle.std.specs.Prelude.{ℕ, Bool, true, not, ◌&&◌, ◌==◌, List, [], ◌∷◌, if◌then◌else◌}
 use Rattle.dp_conf.specs.Levels.{next_level}
 use Rattle.dp_pieces.specs.Bytes.{Bytes}
@@ -9,7 +9,7 @@ use Rattle.dp_pieces.specs.declared.cuts.Rule.TheVariants.{First, Outside, Comma
 use Rattle.dp_pieces.specs.declared.cuts.Stand.{Stand}
 use Rattle.dp_pieces.specs.declared.cuts.Stand.TheVariants.{Here, Maybe, Apart}
 
--- a piece that is known, and one that is not
+-- the relation of a known piece, and of an unknown one
 abbrev pub here_if : Bool → Stand
 here_if is = if is then Here else Apart
 
@@ -37,13 +37,13 @@ level_after level (Known byte) = next_level level byte
 level_after level (OneOf set) = level
 level_after level (AnyOf set) = level
 
--- a piece that is not known parts no arguments and changes no level
+-- an unknown piece separates no arguments and changes no level
 abbrev pub is_clean_piece : ℕ → Piece → Bool
 is_clean_piece level (Known byte) = true
 is_clean_piece level (OneOf set) = not (may_cut 44 level set)
 is_clean_piece level (AnyOf set) = not (may_cut 44 level set)
 
--- the cut by the first piece, and by those after it
+-- the cut at the first piece, or in those after it
 abbrev pub cut_by : Stand → Piece → List Piece → Cutting → Cutting
 cut_by Here piece pieces later = At [] pieces
 cut_by Maybe piece pieces later = Unsure

@@ -9,7 +9,7 @@ use crate::byte_set::ByteSet;
 use crate::piece::{Piece, bytes_of};
 use crate::shapes::length::is_any;
 
-/// Whether the set has each byte of the text.
+/// Whether the set contains each byte of the text.
 fn has_all(set: &ByteSet, text: &[u8]) -> bool
     ensures { IsFalse result → Within (set_by set.now) text.now → ⊥ }
 {
@@ -21,8 +21,8 @@ fn has_all(set: &ByteSet, text: &[u8]) -> bool
     true
 }
 
-/// Whether the last byte of the shape is known, and the text ends with another. Names of contexts often begin alike, so this tells most
-/// of them apart at once.
+/// Whether the last byte of the shape is known, and the text ends with another one. Names of contexts often begin alike, so this
+/// distinguishes most of them at once.
 fn ends_apart(pieces: &[Piece], text: &[u8]) -> bool
     ensures { IsTrue result → Fits (shown_all pieces.now) text.now → ⊥ }
 {
@@ -38,7 +38,7 @@ fn ends_apart(pieces: &[Piece], text: &[u8]) -> bool
     }
 }
 
-/// Whether the text may be one of this shape: a false says that it is none.
+/// Whether the text may have this shape: if it returns false the text does not have it.
 pub fn may_fit(pieces: &[Piece], text: &[u8]) -> bool
     ensures { IsFalse result → Fits (shown_all pieces.now) text.now → ⊥ }
 {

@@ -1,4 +1,4 @@
-//! How long the texts of pieces are.
+//! The lengths of texts of pieces.
 ghost use Rattle.std.specs.Prelude.{◌≡◌, ◌≤◌, IsTrue, length};
 ghost use Rattle.dp_pieces.specs.ShapeSteps.{AreTextsOf, IsNothing, is_any, least_of};
 ghost use Rattle.dp_pieces.specs.Shown.{shown_piece, shown_all};
@@ -6,7 +6,7 @@ ghost use Rattle.dp_pieces.specs.Shown.{shown_piece, shown_all};
 use crate::piece::Piece;
 use crate::shapes::sets::is_none;
 
-/// Whether the piece is any bytes of a set, and not one.
+/// Whether the piece has any number of bytes of a set, rather than one.
 pub(crate) fn is_any(piece: &Piece) -> bool
     ensures { result ≡ is_any (shown_piece piece.now) }
 {
@@ -16,7 +16,7 @@ pub(crate) fn is_any(piece: &Piece) -> bool
     }
 }
 
-/// How many bytes a text of the pieces has at least.
+/// The smallest number of bytes in a text of the pieces.
 pub(crate) fn least_of(pieces: &[Piece]) -> usize
     ensures { result ≡ least_of (shown_all pieces.now) }
 {
@@ -29,7 +29,7 @@ pub(crate) fn least_of(pieces: &[Piece]) -> usize
     least
 }
 
-/// Whether the piece is any bytes of the empty set.
+/// Whether the piece has any number of bytes of the empty set.
 fn is_nothing(piece: &Piece) -> bool
     ensures { IsTrue result → IsNothing (shown_piece piece.now) }
 {
@@ -39,7 +39,7 @@ fn is_nothing(piece: &Piece) -> bool
     }
 }
 
-/// The pieces without the first ones that are any bytes of the empty set.
+/// The pieces without the first ones that have any number of bytes of the empty set.
 pub(crate) fn skip_nothing(pieces: &[Piece]) -> &[Piece]
     ensures same { AreTextsOf (shown_all result.now) (shown_all pieces.now) }
     ensures shorter { length result.now ≤ length pieces.now }

@@ -16,7 +16,7 @@ use crate::shapes::name_place::{all_be, all_stand, may_be, may_stand, next_place
 use crate::shapes::sets::is_none;
 use dp_pattern::{Name, Parts, Tail};
 
-/// Whether so many bytes of the set, or more, may be what the tail allows.
+/// Whether the tail may allow this many bytes of the set, or more.
 fn may_follow(set: &ByteSet, least: usize, tail: Tail) -> bool
     ensures { IsFalse result
         → (digits : List ℕ) → Within (set_by set.now) digits → least ≤ length digits → FitsTail tail digits → ⊥ }
@@ -28,7 +28,7 @@ fn may_follow(set: &ByteSet, least: usize, tail: Tail) -> bool
     }
 }
 
-/// Whether so many bytes of the set, or more, may match.
+/// Whether this many bytes of the set, or more, may match.
 fn may_hold(set: &ByteSet, least: usize, parts: Parts<'_>) -> bool
     requires { AreAllBytes (classes_of (parts_meaning parts)) }
     ensures { IsFalse result
@@ -46,7 +46,7 @@ fn may_hold(set: &ByteSet, least: usize, parts: Parts<'_>) -> bool
     may_follow(set, more, tail_of(rest))
 }
 
-/// Whether a text of the pieces may match, where a dash counts as any byte does.
+/// Whether a text of the pieces may match, with a dash treated like any other byte.
 fn may_meet(pieces: &[Piece], parts: Parts<'_>) -> bool
     requires { AreAllBytes (classes_of (parts_meaning parts)) }
     ensures { IsFalse result
@@ -70,9 +70,9 @@ fn may_meet(pieces: &[Piece], parts: Parts<'_>) -> bool
     may_follow(&bytes_of(left), least_of(left), tail_of(rest))
 }
 
-/// Whether a text of this shape may match the name of an extension: a false says that none does.
+/// Whether a text of this shape may match the name of an extension: if it returns false none does.
 ///
-/// Dashes do not count for a match, so a shape that may have one is looked at as any bytes of its set.
+/// Dashes are ignored in a match, so a shape that may contain one is treated as any number of bytes of its set.
 pub fn may_match(pieces: &[Piece], name: &Name) -> bool
     ensures { IsFalse result → (text : List ℕ) → Fits (shown_all pieces.now) text → Matches name.now text → ⊥ }
 {
@@ -82,7 +82,7 @@ pub fn may_match(pieces: &[Piece], name: &Name) -> bool
     may_meet(pieces, name.parts())
 }
 
-/// Whether any so many bytes of the set, or more, are what the tail allows.
+/// Whether the tail allows any text of this many bytes of the set, or more.
 fn all_follow(set: &ByteSet, least: usize, tail: Tail) -> bool
     ensures { IsTrue result → (digits : List ℕ) → Within (set_by set.now) digits → least ≤ length digits → FitsTail tail digits }
 {
@@ -93,7 +93,7 @@ fn all_follow(set: &ByteSet, least: usize, tail: Tail) -> bool
     }
 }
 
-/// Whether any so many bytes of the set, or more, match.
+/// Whether any text of this many bytes of the set, or more, matches.
 fn all_hold(set: &ByteSet, least: usize, parts: Parts<'_>) -> bool
     requires { AreAllBytes (classes_of (parts_meaning parts)) }
     ensures { IsTrue result
@@ -111,7 +111,7 @@ fn all_hold(set: &ByteSet, least: usize, parts: Parts<'_>) -> bool
     all_follow(set, more, tail_of(rest))
 }
 
-/// Whether each text of the pieces matches, where a dash counts as any byte does.
+/// Whether each text of the pieces matches, with a dash treated like any other byte.
 fn all_meet(pieces: &[Piece], parts: Parts<'_>) -> bool
     requires { AreAllBytes (classes_of (parts_meaning parts)) }
     ensures { IsTrue result
@@ -135,12 +135,12 @@ fn all_meet(pieces: &[Piece], parts: Parts<'_>) -> bool
     all_follow(&bytes_of(left), least_of(left), tail_of(rest))
 }
 
-/// Whether each text of this shape is seen to match the name of an extension: a true says that each does.
+/// Whether each text of this shape is seen to match the name of an extension: if it returns true each does.
 ///
-/// Of a shape that may have a dash this is not seen.
+/// For a shape that may contain a dash it returns false.
 pub fn covers(pieces: &[Piece], name: &Name) -> bool
     ensures { IsTrue result → (text : List ℕ) → Fits (shown_all pieces.now) text → Matches name.now text }
 {
-    // Most names are told apart at their first place.
+    // Most names differ at their first place.
     all_meet(pieces, name.parts()) && !may_have(pieces, b'-')
 }

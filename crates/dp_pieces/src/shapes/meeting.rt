@@ -14,7 +14,7 @@ use dp_conf::NoMemory;
 use dp_pattern::{Class, Name, Parts, Tail};
 use std::alloc::Global;
 
-/// Any bytes of a set met with the classes of a pattern, after other pieces.
+/// Adds any bytes of a set, met with the classes of a pattern, at the end.
 fn push_any(
     pieces: &mut Vec<Piece>,
     set: &ByteSet,
@@ -35,7 +35,7 @@ fn push_any(
     Ok(())
 }
 
-/// A piece that is one byte, met with the class of this.
+/// A piece with one byte, met with the class of that byte.
 fn meet_one(piece: &Piece, class: &Class) -> Option<Piece>
     requires { AreBytes class.now }
     ensures { MatchOption result (is_any (shown_piece piece.now) ≡ true) (λ met. IsMet (shown_piece piece.now) class.now (shown_piece met)) }
@@ -47,7 +47,7 @@ fn meet_one(piece: &Piece, class: &Class) -> Option<Piece>
     }
 }
 
-/// Pieces met with the classes of a pattern, after others.
+/// Adds pieces, met with the classes of a pattern, at the end.
 fn push_met(
     met: &mut Vec<Piece>,
     pieces: &[Piece],
@@ -78,7 +78,7 @@ fn push_met(
     }
 }
 
-/// The pieces of a known text, after others.
+/// Adds the pieces of a known text at the end.
 fn push_text(pieces: &mut Vec<Piece>, text: &[u8]) -> Result<(), NoMemory>
     ensures { OnOk result (shown_all pieces.new.items ≡ shown_all pieces.old.items ++ exactly text.now) }
 {
@@ -88,7 +88,7 @@ fn push_text(pieces: &mut Vec<Piece>, text: &[u8]) -> Result<(), NoMemory>
     Ok(())
 }
 
-/// How many pieces a shape that is met with the name has at most.
+/// The greatest number of pieces in a shape that is met with the name.
 fn most_pieces(pieces: &[Piece], name: &Name) -> usize {
     let places = match name.parts() {
         Parts::Plain(plain) => plain.len(),
@@ -97,9 +97,9 @@ fn most_pieces(pieces: &[Piece], name: &Name) -> usize {
     places.saturating_add(pieces.len())
 }
 
-/// What is known of a text of this shape that has matched the name of an extension. It fails only when out of memory.
+/// What is known of a text of this shape that matches the name of an extension. It fails only if memory runs out.
 ///
-/// Dashes do not count for a match, so a shape that may have one stays as it is.
+/// Dashes are ignored in a match, so a shape that may contain one is unchanged.
 pub fn matched(alloc: Global, pieces: &[Piece], name: &Name) -> Result<Vec<Piece>, NoMemory>
     ensures { IfOk result (λ met. shown_all met.items ≡ after_match (shown_all pieces.now) name.now) }
 {

@@ -1,4 +1,4 @@
-//! The places of a name, and which bytes may stand there.
+//! The places of a name, and the bytes allowed there.
 ghost use Rattle.std.specs.Prelude.{◌≡◌, ℕ, [], ◌∷◌, IsFalse, IsTrue, MatchOption};
 ghost use Rattle.dp_pattern.specs.Kept.{parts_meaning};
 ghost use Rattle.dp_pattern.specs.Walk.{classes_of, tail_of};
@@ -13,7 +13,7 @@ use crate::piece::Piece;
 use crate::shapes::sets::is_none;
 use dp_pattern::{Class, Parts, Tail};
 
-/// A place of a name: a byte of a plain one, or a class.
+/// A place of a name: a byte of a plain name, or a class.
 #[derive(Clone, Copy)]
 pub(crate) enum NamePlace<'a> {
     Byte(u8),
@@ -21,7 +21,7 @@ pub(crate) enum NamePlace<'a> {
 }
 
 impl NamePlace<'_> {
-    /// Whether the byte may stand there.
+    /// Whether the byte is allowed there.
     pub(crate) fn has(self, byte: u8) -> bool
         ensures { result ≡ bytes_in (class_at self.entry) byte }
     {
@@ -32,7 +32,7 @@ impl NamePlace<'_> {
     }
 }
 
-/// The first place of a name, and the name after it.
+/// The first place of a name, and the rest of the name.
 pub(crate) fn next_place<'a>(parts: Parts<'a>) -> Option<(NamePlace<'a>, Parts<'a>)>
     ensures { MatchOption result (classes_of (parts_meaning parts.entry) ≡ [])
         (λ x. (classes_of (parts_meaning parts.entry) ≡ class_at x.0 ∷ classes_of (parts_meaning x.1))
@@ -60,7 +60,7 @@ pub(crate) fn tail_of(parts: Parts<'_>) -> Tail
     }
 }
 
-/// The set of the bytes that may stand at the place.
+/// The set of the bytes that are allowed at the place.
 fn set_at(place: NamePlace<'_>) -> ByteSet
     requires { AreBytes (class_at place) }
     ensures { (b : ℕ) → set_by result b ≡ bytes_in (class_at place.entry) b }
@@ -71,7 +71,7 @@ fn set_at(place: NamePlace<'_>) -> ByteSet
     }
 }
 
-/// The bytes of the set that may stand at the place.
+/// The bytes of the set that are allowed at the place.
 pub(crate) fn meet(set: &ByteSet, place: NamePlace<'_>) -> ByteSet
     requires { AreBytes (class_at place) }
     ensures { (b : ℕ) → set_by result b ≡ both (set_by set.now) (bytes_in (class_at place.entry)) b }
@@ -79,7 +79,7 @@ pub(crate) fn meet(set: &ByteSet, place: NamePlace<'_>) -> ByteSet
     set.common(&set_at(place))
 }
 
-/// Whether a byte of the set may stand at the place.
+/// Whether a byte of the set is allowed at the place.
 pub(crate) fn may_stand(set: &ByteSet, place: NamePlace<'_>) -> bool
     requires { AreBytes (class_at place) }
     ensures { IsFalse result → Lacks (set_by set.now) (class_at place.entry) }
@@ -87,7 +87,7 @@ pub(crate) fn may_stand(set: &ByteSet, place: NamePlace<'_>) -> bool
     !is_none(&meet(set, place))
 }
 
-/// Whether a byte of the piece may stand at the place.
+/// Whether a byte of the piece is allowed at the place.
 pub(crate) fn may_be(piece: &Piece, place: NamePlace<'_>) -> bool
     requires { AreBytes (class_at place) }
     ensures { IsFalse result → Lacks (piece_set (shown_piece piece.now)) (class_at place.entry) }
@@ -98,7 +98,7 @@ pub(crate) fn may_be(piece: &Piece, place: NamePlace<'_>) -> bool
     }
 }
 
-/// Whether each byte of the set may stand at the place.
+/// Whether each byte of the set is allowed at the place.
 pub(crate) fn all_stand(set: &ByteSet, place: NamePlace<'_>) -> bool
     requires { AreBytes (class_at place) }
     ensures { IsTrue result → IsPart (set_by set.now) (bytes_in (class_at place.entry)) }
@@ -106,7 +106,7 @@ pub(crate) fn all_stand(set: &ByteSet, place: NamePlace<'_>) -> bool
     set.is_part(&meet(set, place))
 }
 
-/// Whether each byte of the piece may stand at the place.
+/// Whether each byte of the piece is allowed at the place.
 pub(crate) fn all_be(piece: &Piece, place: NamePlace<'_>) -> bool
     requires { AreBytes (class_at place) }
     ensures { IsTrue result → IsPart (piece_set (shown_piece piece.now)) (bytes_in (class_at place.entry)) }

@@ -1,4 +1,4 @@
-//! Sets that have no byte, and pieces after others.
+//! Empty sets, and adding pieces.
 ghost use Rattle.std.specs.Prelude.{◌≡◌, ◌++◌, IsTrue, OnOk};
 ghost use Rattle.dp_pieces.specs.Bytes.{IsPart, none};
 ghost use Rattle.dp_pieces.specs.Sets.{set_by};
@@ -8,7 +8,7 @@ use crate::byte_set::ByteSet;
 use crate::piece::Piece;
 use dp_conf::NoMemory;
 
-/// Pieces after others.
+/// Adds pieces at the end.
 pub(crate) fn push_all(pieces: &mut Vec<Piece>, more: &[Piece]) -> Result<(), NoMemory>
     ensures { OnOk result (shown_all pieces.new.items ≡ shown_all pieces.old.items ++ shown_all more.now) }
 {
@@ -16,7 +16,7 @@ pub(crate) fn push_all(pieces: &mut Vec<Piece>, more: &[Piece]) -> Result<(), No
     Ok(())
 }
 
-/// Whether the set has no byte.
+/// Whether the set is empty.
 pub(crate) fn is_none(set: &ByteSet) -> bool
     ensures { IsTrue result → IsPart (set_by set.now) none }
 {

@@ -1,4 +1,4 @@
-//! Shapes whose texts are all texts of another.
+//! Shapes whose texts all have another shape.
 ghost use Rattle.std.specs.Prelude.{◌≡◌, ℕ, List, ◌∷◌, IfSome, IsTrue};
 ghost use Rattle.dp_pieces.specs.Pieces.{Fits, any_bytes_of};
 ghost use Rattle.dp_pieces.specs.Sets.{set_by};
@@ -9,7 +9,7 @@ use crate::byte_set::ByteSet;
 use crate::piece::{Piece, bytes_of};
 use crate::shapes::length::skip_nothing;
 
-/// Whether each text of the one piece is one of the other, and both are one byte or both any bytes.
+/// Whether each text of the one piece is one of the other, where both have one byte or both any number.
 fn is_within_piece(piece: &Piece, wide: &Piece) -> bool
     ensures { IsTrue result → IsWithinPiece (shown_piece piece.now) (shown_piece wide.now) }
 {
@@ -24,7 +24,7 @@ fn is_within_piece(piece: &Piece, wide: &Piece) -> bool
     }
 }
 
-/// The set of a shape that is any bytes of one, by its first piece and those after it.
+/// The set of a shape with any number of bytes of a single set, given its first piece and those after it.
 fn only_set<'a>(first: &'a Piece, after: &[Piece]) -> Option<&'a ByteSet>
     ensures { IfSome result (λ set. shown_all (first.now ∷ after.now) ≡ any_bytes_of (set_by set.now)) }
 {
@@ -34,7 +34,7 @@ fn only_set<'a>(first: &'a Piece, after: &[Piece]) -> Option<&'a ByteSet>
     }
 }
 
-/// Whether each text of the one shape is seen to be one of the other: a true says that each is.
+/// Whether each text of the one shape is seen to have the other shape: if it returns true each does.
 pub fn is_within(pieces: &[Piece], other: &[Piece]) -> bool
     ensures { IsTrue result → (text : List ℕ) → Fits (shown_all pieces.now) text → Fits (shown_all other.now) text }
 {

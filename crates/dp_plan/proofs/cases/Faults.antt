@@ -1,4 +1,4 @@
--- Every fault of a text, computed on the definitions themselves.
+-- All faults of a text, computed from the definitions themselves.
 use Rattle.std.proofs.Common.{◌≡◌, ℕ, zero, suc, List, [], ◌∷◌, ◌++◌, Ok, Err, refl}
 use Rattle.std.specs.Prelude.{codes}
 use Rattle.dp_conf.specs.Groups.{depth_of}
@@ -30,18 +30,18 @@ faults_of-kinds : faults_of (codes "[m]" ++ 10 ∷ codes "exten=s,0,A" ++ 10 ∷
 unfolding faults_of lines_of exten_entry same_entry name_of meaning_of spelling written_priority application_of context_item nesting_of reading_of levels depth_of
 faults_of-kinds = refl
 
--- a `same` behind a faulty `exten` goes on with the extension before that
+-- a `same` after a faulty `exten` continues the extension before that
 faults_of-same : faults_of (codes "[m]" ++ 10 ∷ codes "exten=s,2147483646,A" ++ 10 ∷ codes "exten=t,0,B" ++ 10 ∷ codes "same=n,C" ++ 10 ∷ codes "same=n,D")
     ≡ Ok (Plan 3 BadPriority ∷ Plan 5 PriorityLimit ∷ [])
 unfolding faults_of lines_of exten_entry same_entry name_of meaning_of spelling written_priority application_of context_item nesting_of reading_of levels depth_of
 faults_of-same = refl
 
--- where there is none before it, it has a fault too
+-- if there is none before it, it has a fault too
 faults_of-same_first : faults_of (codes "[m]" ++ 10 ∷ codes "exten=t,0,B" ++ 10 ∷ codes "same=n,C") ≡ Ok (Plan 2 BadPriority ∷ Plan 3 NoExten ∷ [])
 unfolding faults_of lines_of exten_entry same_entry name_of meaning_of spelling written_priority application_of context_item nesting_of reading_of levels depth_of
 faults_of-same_first = refl
 
--- an `n` behind a line with a fault counts on from the line before that
+-- an `n` after a line with a fault counts on from the line before that
 faults_of-next : faults_of (codes "[m]" ++ 10 ∷ codes "exten=s,2147483646,A" ++ 10 ∷ codes "exten=s,2147483647(),B" ++ 10 ∷ codes "exten=s,n,C" ++ 10 ∷ codes "exten=s,n,D")
     ≡ Ok (Plan 3 BadLabel ∷ Plan 5 PriorityLimit ∷ [])
 unfolding faults_of lines_of exten_entry same_entry name_of meaning_of spelling written_priority application_of context_item nesting_of reading_of levels depth_of
@@ -51,7 +51,7 @@ faults_of-next_first : faults_of (codes "[m]" ++ 10 ∷ codes "exten=s,0,A" ++ 1
 unfolding faults_of lines_of exten_entry same_entry name_of meaning_of spelling written_priority application_of context_item nesting_of reading_of levels depth_of
 faults_of-next_first = refl
 
--- as many groups inside each other
+-- this many groups inside each other
 nested : ℕ → List ℕ
 nested zero = []
 nested (suc depth) = codes "${" ++ (nested depth ++ codes "}")
@@ -60,7 +60,7 @@ faults_of-globals : faults_of (codes "[globals]" ++ 10 ∷ codes "A=" ++ nested 
 unfolding faults_of lines_of context_item nesting_of reading_of levels depth_of nested
 faults_of-globals = refl
 
--- a fault of the text stands alone
+-- a fault of the text is the only one
 faults_of-text : faults_of (codes "[m]" ++ 10 ∷ codes "exten=s,0,A" ++ 10 ∷ codes "abc" ++ 10 ∷ codes "exten=s,0,B") ≡ Err (Conf (At 3 NoEquals))
 unfolding faults_of lines_of context_item
 faults_of-text = refl

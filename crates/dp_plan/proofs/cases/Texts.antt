@@ -1,4 +1,4 @@
--- Texts, lines, names, priorities and applications whose answers are computed on the definitions themselves.
+-- Texts, lines, names, priorities and applications with results that are computed from the definitions themselves.
 use Rattle.std.proofs.Common.{◌≡◌, ℕ, zero, suc, List, [], ◌∷◌, ◌++◌, Some, None, Ok, Err, refl}
 use Rattle.std.specs.Prelude.{codes}
 use Rattle.dp_conf.specs.Groups.{depth_of}
@@ -59,7 +59,7 @@ priority-label : written_priority (codes "n ( a b )") ≡ Ok (Next, Some (codes 
 unfolding written_priority
 priority-label = refl
 
--- the sign is left out before the label alone
+-- the sign is refused only before the label
 priority-sum_in_a_label : written_priority (codes "1(a+b)") ≡ Ok (Number 1, Some (codes "a+b"))
 unfolding written_priority
 priority-sum_in_a_label = refl
@@ -97,12 +97,12 @@ plan_and_notes-empty : plan_and_notes [] ≡ Ok (record { globals = []; contexts
 unfolding plan_and_notes lines_of plan_of notes_of context_item
 plan_and_notes-empty = refl
 
--- as many groups inside each other
+-- this many groups inside each other
 nested : ℕ → List ℕ
 nested zero = []
 nested (suc depth) = codes "${" ++ (nested depth ++ codes "}")
 
--- 33 groups inside each other are too deep, 32 are not
+-- groups nested 33 deep are too deep, 32 are not
 plan_and_notes-too_deep : plan_and_notes (codes "[globals]" ++ 10 ∷ codes "A=" ++ nested 33) ≡ Err (Plan 2 TooDeep)
 unfolding plan_and_notes lines_of context_item nesting_of reading_of levels depth_of nested
 plan_and_notes-too_deep = refl
@@ -112,22 +112,22 @@ plan_and_notes-deep : plan_and_notes (codes "[globals]" ++ 10 ∷ codes "A=" ++ 
 unfolding plan_and_notes lines_of plan_of notes_of context_item nesting_of reading_of levels depth_of nested
 plan_and_notes-deep = refl
 
--- a malformed application has no arguments of which the depth could be asked
+-- a malformed application has no arguments whose depth could be checked
 plan_and_notes-bad_application : plan_and_notes (codes "[m]" ++ 10 ∷ codes "exten=s,1,A(" ++ nested 33) ≡ Err (Plan 2 BadApplication)
 unfolding plan_and_notes lines_of exten_entry name_of meaning_of spelling written_priority application_of context_item nesting_of reading_of levels depth_of nested
 plan_and_notes-bad_application = refl
 
--- a line with one comma is short, whatever its name
+-- a line with one comma is too short, whatever its name
 plan_and_notes-short : plan_and_notes (codes "[m]" ++ 10 ∷ codes "exten=a b,1") ≡ Err (Plan 2 ShortLine)
 unfolding plan_and_notes lines_of exten_entry context_item
 plan_and_notes-short = refl
 
--- a line that repeats no extension, though it is short
+-- a line that continues no extension, although it is too short
 plan_and_notes-no_exten : plan_and_notes (codes "[m]" ++ 10 ∷ codes "same=1") ≡ Err (Plan 2 NoExten)
 unfolding plan_and_notes lines_of same_entry context_item
 plan_and_notes-no_exten = refl
 
--- the first line of a place stands, also over the sections of a context
+-- the first line at a place counts, even across the sections of a context
 plan_and_notes-double : plan_and_notes (codes "[a]" ++ 10 ∷ codes "exten=s,1,A" ++ 10 ∷ codes "[b]" ++ 10 ∷ codes "x=" ++ 10 ∷ codes "[a]" ++ 10 ∷ codes "exten=-s,1,B")
     ≡ Ok (
       record {
@@ -141,7 +141,7 @@ plan_and_notes-double : plan_and_notes (codes "[a]" ++ 10 ∷ codes "exten=s,1,A
 unfolding plan_and_notes lines_of plan_of notes_of exten_entry name_of meaning_of spelling written_priority application_of context_item nesting_of reading_of levels depth_of
 plan_and_notes-double = refl
 
--- `n` counts on after a line that is dropped; a label is taken once; an include of a context that comes later is known
+-- `n` counts on after a dropped line; a label is taken only once; an include of a later context is known
 plan_and_notes-next : plan_and_notes (codes "[a]" ++ 10 ∷ codes "exten=s,1(x),A" ++ 10 ∷ codes "same=n(x),B" ++ 10 ∷ codes "same=n,C" ++ 10 ∷ codes "include=b" ++ 10 ∷ codes "include=c" ++ 10 ∷ codes "[b]")
     ≡ Ok (
       record {

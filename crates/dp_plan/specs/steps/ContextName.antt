@@ -1,4 +1,4 @@
--- A step of the code: the hash of a context's name, by which its extensions are found in a table.
+-- A step of the code: the hash of a context's name, used to find its extensions in a table.
 use Rattle.std.specs.Prelude.{ℕ, List}
 use Rattle.std.specs.Hash.DefaultHasher as sip
 

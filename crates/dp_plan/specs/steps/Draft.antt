@@ -1,5 +1,5 @@
--- A step of the code: a dialplan in the making, and what one more item makes of it. What all items make, one after
--- another, is `plan_of`, `notes_of` and `entry_lines_of` of Plan.
+-- A step of the code: a dialplan under construction, and the effect of one more item. The result of all items, one
+-- after another, is `plan_of`, `notes_of` and `entry_lines_of` of Plan.
 use Rattle.std.specs.Prelude.{ℕ, Bool, false, ◌&&◌, ◌==◌, List, [], ◌∷◌, ◌++◌, Option, Some, None, if◌then◌else◌}
 use Rattle.std.specs.List.{list_any, position_or_len}
 use Rattle.std.specs.Option.{option_to_list, option_map}
@@ -24,8 +24,8 @@ use Rattle.dp_plan.specs.declared.section.Section.{Section}
 use Rattle.dp_plan.specs.declared.section.Section.TheVariants.{General, Globals, Context}
 use Rattle.dp_plan.specs.Item.{Item, Begins, Sets, Adds, Includes, Unknown}
 
--- the global variables, the contexts with their names, with the numbers of their entries' extensions and with their entries'
--- lines, the places and labels that are taken, and the remarks so far
+-- the global variables, the contexts with their names, the numbers of their entries' extensions and the lines of their
+-- entries, the taken places and labels, and the remarks so far
 pub record Drafted : Type 0 where
   pub globals : List GlobalVariable
   pub names : List (List ℕ)
@@ -40,27 +40,27 @@ pub record Drafted : Type 0 where
 abbrev pub nothing : Drafted
 nothing = record { globals = []; names = []; contexts = []; numbers = []; lines = []; taken = []; labels = []; remarks = [] }
 
--- two labels are the same one of the same extension
+-- two labels are the same, of the same extension
 abbrev pub same_marked : Label → Label → Bool
 same_marked a b = a.extension == b.extension && same_text a.label b.label
 
--- the place that an entry takes, by the number of its extension
+-- the place that an entry takes, given the number of its extension
 abbrev pub slot_of : ℕ → Entry → Slot
 slot_of number entry = record { extension = number; priority = entry.priority }
 
--- a label, by the number of its extension
+-- a label, given the number of its extension
 abbrev pub label_in : ℕ → List ℕ → Label
 label_in number label = record { extension = number; label = label }
 
--- the label that an entry takes, where it has one
+-- the label that an entry takes, if it has one
 abbrev pub label_of : ℕ → Entry → Option Label
 label_of number entry = option_map (label_in number) entry.label
 
--- the context of a name, with nothing in it
+-- an empty context with a name
 abbrev pub empty_context : List ℕ → PlanContext
 empty_context name = record { name = name; entries = []; includes = [] }
 
--- the draft with the context, which is new or there already
+-- the draft with the context, which is new or exists already
 abbrev pub with_context : Drafted → List ℕ → Drafted
 with_context d name =
     if is_named d.names name then d
@@ -80,7 +80,7 @@ abbrev pub is_marked : Drafted → Option Label → Bool
 is_marked d None = false
 is_marked d (Some label) = list_any (same_marked label) d.labels
 
--- the draft with the label taken, where there is one and it is free
+-- the draft with the label taken, if there is one and it is free
 abbrev pub with_label : Drafted → Option Label → Drafted
 with_label d label = if is_marked d label then d else record d { labels = d.labels ++ option_to_list label }
 
@@ -88,7 +88,7 @@ with_label d label = if is_marked d label then d else record d { labels = d.labe
 abbrev pub with_note : Drafted → ℕ → NoteKind → Drafted
 with_note d line kind = record d { remarks = d.remarks ++ Noted (record { line = line; kind = kind }) ∷ [] }
 
--- what an entry is noted for, where its place or its label is taken
+-- the note on an entry whose place or label is taken
 abbrev pub double_kind : Drafted → Slot → Option Label → Option NoteKind
 double_kind d slot label =
     if is_slot_taken d slot then Some DoublePriority else if is_marked d label then Some DoubleLabel else None
@@ -100,7 +100,7 @@ take_place d slot label =
     else if is_marked d label then d
     else record d { taken = d.taken ++ slot ∷ []; labels = d.labels ++ option_to_list label }
 
--- the draft with the entry in the context of the place, unless its place or its label is taken
+-- the draft with the entry in the context at the place, unless its place or its label is taken
 abbrev pub with_addition : Drafted → ℕ → ℕ → ℕ → Entry → Drafted
 with_addition d line place number entry =
     if is_slot_taken d (slot_of number entry) then with_note d line DoublePriority
@@ -113,31 +113,31 @@ with_addition d line place number entry =
       labels = d.labels ++ option_to_list (label_of number entry);
     }
 
--- the draft with the include in the context of the place; whether its name is known shows in the end
+-- the draft with the include in the context at the place; only at the end is it known whether a context has the name
 abbrev pub with_inclusion : Drafted → ℕ → ℕ → List ℕ → Drafted
 with_inclusion d line place name = record d {
   contexts = changed_at (with_include name) place d.contexts;
   remarks = d.remarks ++ Asks line name ∷ [];
 }
 
--- the draft with the context of a section, where it is one
+-- the draft with the context of a section, if it is one of a context
 abbrev pub with_section : Drafted → Section → Drafted
 with_section d General = d
 with_section d Globals = d
 with_section d (Context name) = with_context d name
 
--- the place of the context of a name, which is there already
+-- the place of the context with a name, which exists already
 abbrev pub place_of : Drafted → List ℕ → ℕ
 place_of d name = position_or_len (same_text name) d.names
 
--- the draft with one more entry, or one more include, in the context of a name, which is there already
+-- the draft with one more entry, or one more include, in the context with a name, which exists already
 abbrev pub with_entry_of : Drafted → ℕ → List ℕ → ℕ → Entry → Drafted
 with_entry_of d line context number entry = with_addition d line (place_of d context) number entry
 
 abbrev pub with_include_of : Drafted → ℕ → List ℕ → List ℕ → Drafted
 with_include_of d line context name = with_inclusion d line (place_of d context) name
 
--- the draft with one more item, where the extensions of the items before it have their numbers
+-- the draft with one more item, given the numbers of the extensions of the items before it
 abbrev pub with_item : Drafted → Table → Item → Drafted
 with_item d table (Begins section) = with_section d section
 with_item d table (Sets global) = record d { globals = d.globals ++ global ∷ [] }
@@ -146,7 +146,7 @@ with_item d table (Adds line context entry) =
 with_item d table (Includes line context name) = with_include_of (with_context d context) line context name
 with_item d table (Unknown line) = with_note d line UnknownKey
 
--- the note of a remark, by the names of all contexts
+-- the note of a remark, given the names of all contexts
 abbrev pub remark_notes : List (List ℕ) → Remark → List Note
 remark_notes names (Noted note) = note ∷ []
 remark_notes names (Asks line name) = include_note line names name

@@ -1,4 +1,4 @@
--- A step of the code: why a line has no item.
+-- A step of the code: the reason why a line has no item.
 use Rattle.std.specs.Prelude.{Option, Result, Ok, Err}
 use Rattle.dp_conf.specs.FirstFaults.{line_reason}
 use Rattle.dp_conf.specs.declared.first_fault.TakeFault.{TakeFault}
@@ -7,11 +7,11 @@ use Rattle.dp_plan.specs.Faults.{fault_of_line}
 use Rattle.dp_plan.specs.declared.fault.ItemKind.{ItemKind}
 use Rattle.dp_plan.specs.declared.fault.LoadFault.{LoadFault}
 
--- why a line has no item; out of memory is no reason
+-- the reason why a line has no item; out-of-memory has no reason
 abbrev pub item_reason : TakeFault ItemKind → Option LoadFault
 item_reason = line_reason fault_of_line
 
--- what holds where a line was refused
+-- if a line was refused the condition holds
 abbrev pub AtRefusal : {X : Type 0} → Type 0 → Result X (TakeFault ItemKind) → Type 0
 AtRefusal Holds (Ok x) = Unit {0}
 AtRefusal Holds (Err (Line fault)) = Holds

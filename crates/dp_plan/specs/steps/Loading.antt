@@ -1,5 +1,5 @@
--- A step of the code: what the lines so far leave for the next one and have made, line by line. What all lines of a text
--- make is `loaded` of Loaded.
+-- A step of the code: the result of the lines so far and what they leave for the next one, line by line. The result of all lines of a text
+-- is `plan_and_notes` and `lines_loaded` of Loaded.
 use Rattle.std.specs.Prelude.{ℕ, List, fold, Option, Result, Ok}
 use Rattle.dp_conf.specs.Answers.{◌>>=◌}
 use Rattle.dp_conf.specs.FirstFaults.{made_or_fault}
@@ -16,12 +16,12 @@ use Rattle.dp_plan.specs.declared.fault.ItemKind.{ItemKind}
 use Rattle.dp_plan.specs.declared.fault.LoadFault.{LoadFault}
 use Rattle.dp_plan.specs.Item.{Item}
 
--- what the lines so far leave for the next one, and the dialplan in the making
+-- what the lines so far leave for the next one, and the dialplan under construction
 pub record MadeOf : Type 0 where
   pub reading : Reading
   pub draft : Drafted
 
--- what the lines have made, where the section is open
+-- the result of the lines, given the open section
 abbrev pub made_in : OpenSection → Lines → MadeOf
 made_in opened lines = record { reading = reading_in opened lines.reader; draft = lines.draft }
 
@@ -40,7 +40,7 @@ after_item made item = record {
 abbrev pub after_read : MadeOf → Result Item LoadFault → Result MadeOf LoadFault
 after_read made read = read >>= λ item. Ok (after_item made item)
 
--- after the item of one more line, where it has one, or the line's fault
+-- after the item of one more line, if it has one, or the line's fault
 abbrev pub after_items : MadeOf → Result (List Item) LoadFault → Result MadeOf LoadFault
 after_items made read = read >>= λ items. Ok (fold after_item made items)
 
@@ -48,18 +48,18 @@ after_items made read = read >>= λ items. Ok (fold after_item made items)
 abbrev pub after_line : MadeOf → LineOf → Result MadeOf LoadFault
 after_line made line = after_items made (line_item (history_in made.reading) line)
 
--- the same, where a line before it may have a fault, which is kept aside
+-- the same, if a line before it may have a fault, which is kept
 abbrev pub after_one : Result MadeOf LoadFault → LineOf → Result MadeOf LoadFault
 after_one state line = state >>= λ made. after_line made line
 
--- what was made, or the fault that is kept aside
+-- the result, or the fault that was kept
 abbrev pub outcome : Option (FaultyLine ItemKind) → MadeOf → Result MadeOf LoadFault
 outcome = made_or_fault fault_of_line
 
--- the draft of what was made
+-- the draft in the result
 abbrev pub draft_made : Result MadeOf LoadFault → Result Drafted LoadFault
 draft_made state = state >>= λ made. Ok made.draft
 
--- what all lines of a text make: a fault of the text comes before those of a context
+-- the result of all lines of a text: a fault of the text comes before those of a context
 unfoldable pub drafted_of : List ℕ → Result Drafted LoadFault
 drafted_of text = text_fault (lines_of text) >>= λ lines. draft_made (fold after_one (Ok unmade) lines)

@@ -1,5 +1,5 @@
--- A step of the code: a number for each entry of a context. It is that of the entry's extension, by which entries of one name
--- are known without a look at the name, or that of the entry's line.
+-- A step of the code: a number for each entry of a context. It is that of the entry's extension, which identifies entries with one name
+-- without comparing names, or that of the entry's line.
 use Rattle.std.specs.Prelude.{◌≡◌, ℕ, Bool, true, false, ◌==◌, List, [], ◌∷◌, ◌++◌, length, slice_get, Option, Some, None}
 use Rattle.dp_plan.specs.Contexts.{PlanContext}
 use Rattle.dp_plan.specs.Extensions.{same_name}
@@ -15,11 +15,11 @@ is_same_found None right = false
 is_same_found (Some left) None = false
 is_same_found (Some left) (Some right) = left == right
 
--- the numbers of the two places are the same
+-- the numbers at the two places are the same
 abbrev pub are_one : List ℕ → ℕ → ℕ → Bool
 are_one numbers left right = is_same_found (slice_get numbers left) (slice_get numbers right)
 
--- entries of one number have one name
+-- entries with one number have one name
 abbrev pub AreNumbered : List Entry → List ℕ → Type 0
 AreNumbered entries numbers =
     (i j : ℕ) (a b : Entry) → slice_get entries i ≡ Some a → slice_get entries j ≡ Some b → are_one numbers i j ≡ true → same_name a.name b.name ≡ true

@@ -1,4 +1,4 @@
--- A step of the code: the section that is open, with the place of its context in the draft and the number of its last extension.
+-- A step of the code: the open section, with the place of its context in the draft and the number of its last extension.
 use Rattle.std.specs.Prelude.{ℕ, List, Option, None, IfSome}
 use Rattle.std.specs.Option.{option_map}
 use Rattle.dp_conf.specs.Words.{same_text}
@@ -13,7 +13,7 @@ use Rattle.dp_plan.specs.declared.section.OpenSection.TheVariants.{Settings, Var
 use Rattle.dp_plan.specs.declared.section.Section.{Section}
 use Rattle.dp_plan.specs.declared.section.Section.TheVariants.{General, Globals, Context}
 
--- the section, as its header says it
+-- the section that its header names
 abbrev pub section_of : OpenSection → Section
 section_of Settings = General
 section_of Variables = Globals
@@ -28,11 +28,11 @@ last_of Settings = None
 last_of Variables = None
 last_of (Entries opened) = last_name opened
 
--- what the lines so far leave for the next one, where the section is open
+-- what the lines so far leave for the next one, given the open section
 abbrev pub reading_in : OpenSection → Table → Reading
 reading_in opened table = record { section = section_of opened; name = last_of opened; extensions = table }
 
--- what a line of the context is read with
+-- the history with which a line of the context is read
 abbrev pub history_at : OpenContext → Table → History
 history_at opened table = history_in (reading_in (Entries opened) table)
 
@@ -40,12 +40,12 @@ history_at opened table = history_in (reading_in (Entries opened) table)
 abbrev pub IsLast : Table → OpenContext → Type 0
 IsLast table opened = IfSome opened.last (λ last. HasNumber table (extension_of opened.name last.name) last.number)
 
--- the context stands at its place among the names, and its last extension has its number
+-- the context is at its place among the names, and its last extension has its number
 pub record IsOpen (names : List (List ℕ)) (table : Table) (opened : OpenContext) : Type 0 where
   pub place : StandsAt (same_text opened.name) names opened.place
   pub last : IsLast table opened
 
--- where the section is that of a context
+-- the same, if the section is that of a context
 abbrev pub IsOpenSection : List (List ℕ) → Table → OpenSection → Type 0
 IsOpenSection names table Settings = Unit {0}
 IsOpenSection names table Variables = Unit {0}

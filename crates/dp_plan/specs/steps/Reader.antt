@@ -49,6 +49,6 @@ after reading (Unknown line) = reading
 abbrev pub last_priority : Table → List ℕ → Meaning → Option ℕ
 last_priority table context name = lookup (same_extension (extension_of context name)) table
 
--- what is kept, as the history that it stands for
+-- the history that this reading represents
 abbrev pub history_in : Reading → History
 history_in reading = record { section = reading.section; name = reading.name; priority = last_priority reading.extensions }

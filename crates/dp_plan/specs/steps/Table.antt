@@ -6,7 +6,7 @@ use Rattle.std.specs.Map.{keys_of}
 use Rattle.dp_plan.specs.Extensions.{same_extension}
 use Rattle.dp_plan.specs.declared.extension.Extension.{Extension}
 
--- an element passes the test, and the first one that does stands at the place
+-- an element passes the test, and the first one that does is at the place
 pub record StandsAt {X : Type 0} (test : X → Bool) (xs : List X) (place : ℕ) : Type 0 where
   pub there : list_any test xs ≡ true
   pub at : place ≡ position_or_len test xs
@@ -15,7 +15,7 @@ pub record StandsAt {X : Type 0} (test : X → Bool) (xs : List X) (place : ℕ)
 abbrev pub Table : Type 0
 Table = List (Extension × ℕ)
 
--- the number of an extension, which is the count of all where it is not among them
+-- the number of an extension, which is the number of all extensions if it is not among them
 abbrev pub number_in : Table → Extension → ℕ
 number_in table extension = position_or_len (same_extension extension) (keys_of table)
 
@@ -23,6 +23,6 @@ number_in table extension = position_or_len (same_extension extension) (keys_of 
 abbrev pub HasNumber : Table → Extension → ℕ → Type 0
 HasNumber table extension = StandsAt (same_extension extension) (keys_of table)
 
--- the last priority of the extension of the number, where there is one
+-- the last priority of the extension with the number, if there is one
 abbrev pub priority_at : Table → Option ℕ → Option ℕ
 priority_at table number = option_and_then (λ n. option_map (λ entry. entry.1) (slice_get table n)) number

@@ -418,6 +418,47 @@ sample/office/phones.conf:8: note Hint
 sample/office/outgoing.conf:4: note IgnorePat
 ok 7 contexts 40 entries
 ? 0
+$ pbx match --asterisk sample/office/extensions.conf phones 95551234567
+outgoing,_9XXXXXX.,1 Dial
+? 0
+$ pbx audit --asterisk sample/office/extensions.conf
+ok 0 findings
+? 0
+@ sample/office/queues.conf
+[helpdesk]
+strategy = rrmemory
+timeout = 15
+member => SIP/101
+member => SIP/102
+@
+@ office.script
+clock mon 2026-11-30 09:30
+assume DB
+start incoming 5550100
+step 1 5
+digit 1 1
+step 1 2
+@
+$ pbx run --asterisk --verbose --queues sample/office/queues.conf sample/office/extensions.conf office.script
+ok
+ok
+started 1
+  sample/office/incoming.conf:4 Answer()
+ran 1 incoming,5550100,1 Answer -> ready incoming,5550100,2
+  sample/office/incoming.conf:5 GotoIf(0?night,s,1)
+ran 1 incoming,5550100,2 GotoIf -> ready incoming,5550100,3
+  sample/office/incoming.conf:6 GotoIfTime(08:00-18:00,mon-fri,*,*?menu,s,1)
+ran 1 incoming,5550100,3 GotoIfTime -> ready menu,s,1
+  sample/office/incoming.conf:10 Set(TRIES=0)
+ran 1 menu,s,1 Set -> ready menu,s,2
+  sample/office/incoming.conf:11 Background(office/welcome)
+ran 1 menu,s,2 Background -> digits
+ok 1 -> ready menu,1,1
+  sample/office/incoming.conf:15 Goto(helpdesk,s,1)
+ran 1 menu,1,1 Goto -> ready helpdesk,s,1
+  sample/office/helpdesk.conf:4 Queue(helpdesk,,,,60)
+ran 1 helpdesk,s,1 Queue -> queued helpdesk
+? 0
 @ sample/faulty.conf
 ; The menu of a shop, with mistakes that no load tells.
 [globals]

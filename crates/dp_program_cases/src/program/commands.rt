@@ -56,6 +56,14 @@ check --queues @strategy @missing→1→→fault 7 ReadFailed¶
 
 /// `list`.
 const LISTS: &str = "\
+# With the files that it includes: nothing is listed where a line has a fault.
+list --asterisk @pieces→0→[main]¶exten => 100,1,NoOp(hello)¶exten => 100,2,Hangup()¶exten => s,1,Goto(100,1)¶→
+list @pieces→1→→fault 5 Directive line 2¶
+list --asterisk @parted→1→→@inner:2: fault 23 BadApplication¶@parted:4: fault 20 BadPriority¶@parted:5: fault 7 ReadFailed nowhere.conf¶
+list --asterisk @switched→0→[main]¶→
+list --asterisk @missing→1→→fault 7 ReadFailed¶
+list --asterisk @long→1→→fault 8 TooLong¶
+list --explain --asterisk @missing→1→→fault 7 ReadFailed¶  @missing¶  a file could not be opened or read¶
 list @usual→0→[globals]¶TRUNK => Line/9¶[main]¶exten => _NXXXXXX,1,Answer()¶exten => _NXXXXXX,2,Playback(hello-world)¶exten => _NXXXXXX,3(q),Queue(support,c)¶exten => _NXXXXXX,4,Hangup()¶include => out¶→
 list @empty→0→→
 list @cycle→0→[a]¶include => b¶[b]¶include => a¶→
@@ -143,6 +151,15 @@ match @help help s→0→none¶→pbx: @help has no entry: is it a dialplan?¶
 match --all @queues main s→0→none¶→pbx: @queues has no entry: is it a dialplan?¶
 match @cycle c 77→0→none¶→pbx: @cycle has no context `c`¶
 match --all @specific mian 123→0→none¶→pbx: @specific has no context `mian`¶
+# With the files that it includes: nothing is looked up where a line has a fault, or what this program cannot follow.
+match --asterisk @pieces main 100 2→0→main,100,2 Hangup¶→
+match --all --asterisk @pieces main s→0→main,s,1 Goto¶main,s,1 Goto: answers¶→
+match --asterisk @pieces out 100→0→none¶→pbx: @pieces has no context `out`¶
+match --asterisk @faulty main s→1→→@faulty:2: fault 4 NoEquals¶
+match --asterisk @switched main s→1→→@switched:2: note Switch¶
+match --asterisk @slash main s→1→→@slash:2: note CallerId¶
+match --asterisk @through main s→1→→@through:2: note AutoFallThrough¶
+match --asterisk @missing main s→1→→fault 7 ReadFailed¶
 # All that match.
 match --all @specific main 123→0→main,123,1 NoOp¶main,123,1 NoOp: answers¶main,_1XX,1 NoOp: less specific¶main,_X.,1 NoOp: less specific¶→
 match @priorities main 123 2 --all→0→main,_X.,2 NoOp¶main,123,2: no such priority¶main,_X.,2 NoOp: answers¶→
@@ -178,7 +195,10 @@ audit @circling --ignore loop,noapplication,nofunction,fallsthrough --asterisk�
 # What is told beside it, and faults, are as without them.
 audit --asterisk @empty→0→ok 0 findings¶→pbx: @empty has no context: is it a dialplan?¶
 audit --only Gap @help→0→ok 0 findings¶→pbx: @help has no entry: is it a dialplan?¶
-audit --asterisk @faulty→1→→fault 4 NoEquals line 2¶
+audit --asterisk @faulty→1→→@faulty:2: fault 4 NoEquals¶
+audit --asterisk @pieces→0→ok 0 findings¶→
+audit --asterisk @parted→1→→@inner:2: fault 23 BadApplication¶@parted:4: fault 20 BadPriority¶@parted:5: fault 7 ReadFailed nowhere.conf¶
+audit --asterisk @missing→1→→fault 7 ReadFailed¶
 audit --only Gap --explain @faulty→1→→fault 4 NoEquals line 2¶  @faulty:2¶  abc¶  a line of a section with no `=`¶
 audit --ignore Gap @missing→1→→fault 7 ReadFailed¶
 audit --asterisk @long→1→→fault 8 TooLong¶
@@ -358,15 +378,25 @@ run --asterisk @asking @telling.script --verbose→0→started 1¶ok 1 -> ready 
 run --verbose --asterisk @first @refused.script→1→  40 NoChannel¶  no channel has the number¶  example: `step 1` as the first line¶refused 40 NoChannel¶started 1¶  @first:2 NoOp(hello)¶ran 1 main,100,1 NoOp -> ready main,100,2¶→
 run --asterisk --verbose --queues @help @callers @callers.script→0→started 1¶  @callers:2 Queue(help,,,,30)¶ran 1 main,s,1 Queue -> queued help¶ok 1 -> ready main,s,2¶  @callers:3 Hangup()¶ran 1 main,s,2 Hangup -> ended¶→
 run --asterisk --verbose --reload @changed @changing @changing.script→0→started 1¶  @changing:5 NoOp(a)¶ran 1 main,100,1 NoOp -> ready main,100,2¶ok¶X=12¶Y=5¶  @changed:4 Hangup()¶ran 1 main,_1XX,2 Hangup -> ended¶→
-run --asterisk --verbose @faulty @untold.script→1→→fault 4 NoEquals line 2¶
+run --asterisk --verbose @faulty @untold.script→1→→@faulty:2: fault 4 NoEquals¶
 run --asterisk --verbose @first @missing→1→→fault 7 ReadFailed¶
+# Each dialplan is read with the files that it includes, and the lines of its entries are those of these files. Where it has a fault, or what
+# this program cannot follow, nothing runs.
+run --asterisk @pieces @pieces.script→0→started 1¶ran 1 main,s,1 Goto -> ready main,100,1¶ran 1 main,100,1 NoOp -> ready main,100,2¶ran 1 main,100,2 Hangup -> ended¶→
+run --asterisk --verbose @pieces @pieces.script→0→started 1¶  @pieces:3 Goto(100,1)¶ran 1 main,s,1 Goto -> ready main,100,1¶  @inner.piece:3 NoOp(hello)¶ran 1 main,100,1 NoOp -> ready main,100,2¶  @inner.piece:4 Hangup()¶ran 1 main,100,2 Hangup -> ended¶→
+run --asterisk --verbose --reload @pieces @changing @changing.script→0→started 1¶  @changing:5 NoOp(a)¶ran 1 main,100,1 NoOp -> ready main,100,2¶ok¶X=1¶Y=5¶  @inner.piece:4 Hangup()¶ran 1 main,100,2 Hangup -> ended¶→
+run --asterisk @parted @pieces.script→1→→@inner:2: fault 23 BadApplication¶@parted:4: fault 20 BadPriority¶@parted:5: fault 7 ReadFailed nowhere.conf¶
+run --asterisk @switched @pieces.script→1→→@switched:2: note Switch¶
+run --asterisk --reload @slash @pieces @pieces.script→1→→@slash:2: note CallerId¶
 # Faults of its files, and of its script.
 run --asterisk @first @missing→1→→fault 7 ReadFailed¶
 run --asterisk @missing @untold.script→1→→fault 7 ReadFailed¶
 run --asterisk --queues @faulty @first @untold.script→1→→fault 4 NoEquals line 2¶
-run --asterisk --reload @long @faulty @untold.script→1→→fault 8 TooLong¶
+run --asterisk --reload @long @faulty @untold.script→1→→@faulty:2: fault 4 NoEquals¶
+run --asterisk --reload @long @first @untold.script→1→→fault 8 TooLong¶
+run --asterisk --reload @faulty @first @first.script→1→→@faulty:2: fault 4 NoEquals¶
 run --asterisk @first @untold.script→1→→fault 70 BadScript line 2¶
-run --asterisk --explain @faulty @untold.script→1→→fault 4 NoEquals line 2¶  @faulty:2¶  abc¶  a line of a section with no `=`¶
+run --asterisk --explain @faulty @untold.script→1→→@faulty:2: fault 4 NoEquals¶
 run --asterisk --explain --reload @missing @first @untold.script→1→→fault 7 ReadFailed¶  @missing¶  a file could not be opened or read¶
 ";
 

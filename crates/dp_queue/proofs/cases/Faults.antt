@@ -1,4 +1,4 @@
--- Every fault of a file of queues, computed on the definitions themselves.
+-- All faults of a file of queues, computed from the definitions themselves.
 use Rattle.std.proofs.Common.{◌≡◌, [], ◌∷◌, ◌++◌, Ok, Err, refl}
 use Rattle.std.specs.Prelude.{codes}
 use Rattle.dp_conf.specs.Levels.{parts_of}
@@ -24,7 +24,7 @@ faults_in-members : faults_in (codes "[q]" ++ 10 ∷ codes "member=A,x" ++ 10 �
 unfolding faults_in lines_of setting_of parts_of
 faults_in-members = refl
 
--- the pairs behind a second header of one name are those of the section before it
+-- the pairs after a second header with one name are those of the section before it
 faults_in-double : faults_in (codes "[q]" ++ 10 ∷ codes "[q]" ++ 10 ∷ codes "maxlen=x") ≡ Ok (Queue 2 DoubleQueue ∷ Queue 3 BadNumber ∷ [])
 unfolding faults_in lines_of setting_of
 faults_in-double = refl
@@ -33,7 +33,7 @@ faults_in-double_general : faults_in (codes "[q]" ++ 10 ∷ codes "[general]" ++
 unfolding faults_in lines_of setting_of
 faults_in-double_general = refl
 
--- a fault of the text stands alone
+-- a fault of the text is the only one
 faults_in-text : faults_in (codes "[q]" ++ 10 ∷ codes "maxlen=x" ++ 10 ∷ codes "abc") ≡ Err (Conf (At 3 NoEquals))
 unfolding faults_in lines_of
 faults_in-text = refl

@@ -1,4 +1,4 @@
--- A text on the way to its pieces.
+-- Reading a text into its pieces.
 use Rattle.std.specs.Prelude.{◌≡◌, ℕ, ◌≤◌, List, [], ◌∷◌, ◌++◌, Option, Some, None, if◌then◌else◌, nat_lt}
 use Rattle.dp_conf.specs.GroupsRead.{outer_of}
 use Rattle.dp_conf.specs.declared.groups.GroupKind.{GroupKind}
@@ -15,25 +15,25 @@ use Rattle.dp_vars.specs.declared.text_piece.TextPiece.{TextPiece}
 use Rattle.dp_vars.specs.declared.text_piece.TextPiece.TheVariants.{Run, Name, Call, Other, Part, Known, Empty, Begins, Ends}
 use Rattle.dp_vars.specs.declared.span.Span.{Span}
 
--- what is written with a group of this kind and this body
+-- the written text with a group of this kind and this body
 abbrev pub with_group : FunctionTable → Sight → GroupKind → Written → List ℕ → Written
 with_group functions sight kind written body =
     with_found written (group_value_with functions sight kind body) (unknown_group functions sight kind body)
 
--- the piece stands for the group of this kind whose body stands there, whatever is seen
+-- the piece is the group of this kind whose body is at this place, whatever is seen
 abbrev pub IsGroup : List ℕ → GroupKind → Span → TextPiece → Type 0
 IsGroup text kind body piece =
     (functions : FunctionTable) (sight : Sight) (written : Written)
     → past functions sight text written piece ≡ with_group functions sight kind written (text_at text body)
 
--- a text on the way to its pieces: those so far, the last one first, the kinds of the openings that wait, the innermost
--- first, and the plain bytes after the last piece
+-- a text that is being read into pieces: those so far, the last one first, the kinds of the waiting openings, the
+-- innermost first, and the plain bytes after the last piece
 pub record ReadSoFar : Type 0 where
   pub pieces : List TextPiece
   pub waiting : List GroupKind
   pub run : Span
 
--- after pieces of which the last stands first
+-- after pieces, of which the last comes first
 abbrev pub past_last : FunctionTable → Sight → List ℕ → List TextPiece → Written
 past_last functions sight text [] = blank
 past_last functions sight text (piece ∷ pieces) = past functions sight text (past_last functions sight text pieces) piece
@@ -42,26 +42,26 @@ past_last functions sight text (piece ∷ pieces) = past functions sight text (p
 abbrev pub written_in : FunctionTable → Sight → List ℕ → ReadSoFar → Written
 written_in functions sight text so_far = with_bytes (past_last functions sight text so_far.pieces) (text_at text so_far.run)
 
--- the openings that wait after a mark
+-- the waiting openings after a mark
 abbrev pub waiting_after : Mark → List GroupKind → List GroupKind
 waiting_after End waiting = outer_of waiting
 waiting_after (Opening kind) waiting = kind ∷ waiting
 waiting_after (Byte byte) waiting = waiting
 
--- a mark that is a plain byte stands after these bytes, and ends at this place
+-- a mark that is a plain byte comes after these bytes, and ends at this place
 abbrev pub StandsAfter : List ℕ → Span → Mark → ℕ → Type 0
 StandsAfter text run End place = Unit {0}
 StandsAfter text run (Opening kind) place = Unit {0}
 StandsAfter text run (Byte byte) place = text_at text (record { from = run.from; to = place }) ≡ text_at text run ++ byte ∷ []
 
--- what is read goes after a mark that ends at this place, whatever is seen
+-- the reading continues after a mark that ends at this place, whatever is seen
 pub record GoesAfter (text : List ℕ) (mark : Mark) (place : ℕ) (old new : ReadSoFar) : Type 0 where
   pub written : (functions : FunctionTable) (sight : Sight) → written_in functions sight text new ≡ after functions sight mark (written_in functions sight text old)
   pub waiting : new.waiting ≡ waiting_after mark old.waiting
   pub ends : new.run.to ≡ place
   pub begins : new.run.from ≤ place
 
--- the pieces with plain bytes after them, where there are any
+-- the pieces with plain bytes after them, if there are any
 abbrev pub with_run : Span → List TextPiece → List TextPiece
 with_run run pieces = if nat_lt run.from run.to then Run run ∷ pieces else pieces
 
@@ -77,7 +77,7 @@ opening_of (Known value) = None
 opening_of Empty = None
 opening_of Ends = None
 
--- the kind of the last piece, where that is an opening
+-- the kind of the last piece, if that is an opening
 abbrev pub opening_last : List TextPiece → Option GroupKind
 opening_last [] = None
 opening_last (piece ∷ pieces) = opening_of piece

@@ -1,4 +1,4 @@
--- Names with their bindings, in the order of their numbers, and what a store with frames above them is.
+-- Names with their bindings, in the order of their numbers, and the store that they are together with the frames above them.
 use Rattle.std.specs.Prelude.{ℕ, zero, suc, ◌≡◌, ◌⊎◌, List, [], ◌∷◌, ◌++◌, Option, Some, None, length, map, nat_eq, slice_get, if◌then◌else◌}
 use Rattle.std.specs.Cmp.Lexicographic.{pointwise}
 use Rattle.std.specs.List.{IsDistinct}
@@ -19,7 +19,7 @@ Entries = List (List ℕ × List Binding)
 abbrev pub names_of : Entries → List (List ℕ)
 names_of entries = map (λ e. e.0) entries
 
--- each of the names has its number among these, and none stands twice
+-- each of the names has its number among these, and none occurs twice
 pub record AreNumbered (numbers : List (List ℕ × ℕ)) (names : List (List ℕ)) : Type 0 where
   pub slots : (name : List ℕ) → lookup (pointwise nat_eq name) numbers ≡ slot names name
   pub distinct : IsDistinct (pointwise nat_eq) names
@@ -29,23 +29,23 @@ abbrev pub stack_of : Entries → List ℕ → List Binding
 stack_of [] name = []
 stack_of (e ∷ es) name = if pointwise nat_eq name e.0 then e.1 else stack_of es name
 
--- the entries with other bindings for a name, which goes after the others where it is new
+-- the entries with other bindings for a name, which is added at the end if it is new
 abbrev pub with_stack : Entries → List ℕ → List Binding → Entries
 with_stack [] name bs = (name, bs) ∷ []
 with_stack (e ∷ es) name bs = if pointwise nat_eq name e.0 then (e.0, bs) ∷ es else e ∷ with_stack es name bs
 
--- the entries with no bindings for a name; a name that is not there is not added
+-- the entries without bindings for a name; a name that is not in them is not added
 abbrev pub cleared : Entries → List ℕ → Entries
 cleared [] name = []
 cleared (e ∷ es) name = if pointwise nat_eq name e.0 then (e.0, []) ∷ es else e ∷ cleared es name
 
--- the bindings of the name of a number
+-- the bindings of the name with a number
 abbrev pub stack_at : Entries → ℕ → List Binding
 stack_at [] number = []
 stack_at (e ∷ es) zero = e.1
 stack_at (e ∷ es) (suc number) = stack_at es number
 
--- the entries without the binding at a depth, where it is the innermost of the name of a number
+-- the entries without the binding at a depth, if it is the innermost one of the name with a number
 abbrev pub unbound_at : ℕ → Entries → ℕ → Entries
 unbound_at depth [] number = []
 unbound_at depth (e ∷ es) zero = (e.0, unbound depth e.1) ∷ es
@@ -61,7 +61,7 @@ abbrev pub map_at : ℕ → Entries → Named
 map_at depth [] = empty
 map_at depth (e ∷ es) = put_value (map_at depth es) e.0 (find depth e.1)
 
--- a number is among these
+-- a number is one of these
 abbrev pub IsAmong : ℕ → List ℕ → Type 0
 IsAmong number [] = ⊥
 IsAmong number (n ∷ ns) = (n ≡ number) ⊎ IsAmong number ns
@@ -80,7 +80,7 @@ module _ {B : Type 0} where
     names = names_of entries;
   }
 
-  -- the frames, of which the last knows one number more
+  -- the frames, of which the last has one more number
   abbrev pub with_number : ℕ → List (HeldFrame B) → List (HeldFrame B)
   with_number number [] = []
   with_number number (h ∷ []) = record { back = h.back; numbers = h.numbers ++ number ∷ [] } ∷ []
@@ -95,13 +95,13 @@ module _ {B : Type 0} where
     pub variables : (name : List ℕ) → slot store.names name ≡ None → get store.variables name ≡ None
     pub locals : (place : ℕ) (name : List ℕ) → slot store.names name ≡ None → local_at store.frames place name ≡ None
 
-  -- the numbers that the frame at a place holds
+  -- the numbers in the frame at a place
   abbrev pub numbers_at : List (HeldFrame B) → ℕ → List ℕ
   numbers_at [] place = []
   numbers_at (h ∷ hs) zero = h.numbers
   numbers_at (h ∷ hs) (suc place) = numbers_at hs place
 
-  -- what is bound in a frame is known there by its number
+  -- a frame has the number of each name that is bound in it
   abbrev pub IsHeld : List (HeldFrame B) → ℕ → ℕ → Type 0
   IsHeld held number zero = Unit {0}
   IsHeld held number (suc place) = IsAmong number (numbers_at held place)
@@ -110,7 +110,8 @@ module _ {B : Type 0} where
   AreHeld held number [] = Unit {0}
   AreHeld held number (b ∷ bs) = IsHeld held number b.depth × AreHeld held number bs
 
-  -- each name's bindings go outwards from the innermost frame or from further out, and frames know what is bound in them
+  -- the bindings of each name go outwards from the innermost frame or from further out, and frames have the numbers of the names that are
+  -- bound in them
   pub record IsBound (entries : Entries) (frames : List (HeldFrame B)) : Type 0 where
     pub falls : (number : ℕ) → Falls (suc (length frames)) (stack_at entries number)
     pub held : (number : ℕ) → AreHeld frames number (stack_at entries number)

@@ -18,6 +18,4 @@ push_of_entries-requires-clause-scene g c = rw c.firsts.ensures.same (record {
       subst (λ (order : List ℕ). Adds (some_first c.args.finder.now order) [] c.in_ok-firsts.firsts.keys)
       c.requires.order c.in_ok-firsts.ensures.firsts;
   context = c.requires.context;
-  set = c.requires.known.set;
-  hidden = c.requires.known.hidden;
 })

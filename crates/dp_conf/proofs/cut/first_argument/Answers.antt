@@ -1,4 +1,4 @@
--- The parts of a text go by its first cut.
+-- The parts of a text follow from its first cut.
 use Rattle.std.proofs.Common.{ap, ◌∙◌}
 use Rattle.dp_conf.proofs.LevelLemmas.{parts_by, parts_of-cut}
 use Rattle.dp_conf.proofs.cut.first_argument.Goals as goal

@@ -12,7 +12,7 @@ returns-then-is_foreign_mark c =
     ∙ sym (has_foreign_mark-cut c.in-Some.first.now c.in-Some.others.now)
     ∙ sym (ap has_foreign_mark c.in-Some.ensures.cases.0) ∙ c.loop-first.invariant
 
--- it is none, and its token is left out
+-- the byte is not such a mark, and its token is skipped
 pub loop-first-preserved : goal.loop-first-preserved
 loop-first-preserved c =
     let others = c.in-Some.others.now in

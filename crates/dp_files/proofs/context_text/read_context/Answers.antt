@@ -6,7 +6,7 @@ use Rattle.dp_files.specs.ContextSteps.{all_made_after, history_in}
 use Rattle.dp_files.proofs.HistoryLemmas.{made_by_history}
 use Rattle.dp_files.proofs.context_text.read_context.Goals as goal
 
--- before the first line nothing is told, and the history is that of no lines
+-- before the first line there is no result, and the history is that of no lines
 pub loop-place-init : goal.loop-place-init
 unfolding context_lines context_remarks
 loop-place-init c =

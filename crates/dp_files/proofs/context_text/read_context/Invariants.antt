@@ -3,7 +3,7 @@ use Rattle.dp_files.specs.ContextLines.{context_lines, context_remarks, section_
 use Rattle.dp_files.specs.ToldSteps.{told}
 use Rattle.dp_files.proofs.context_text.read_context.Given as goal
 
--- what is told so far, with what is told of the lines that are left, is what is told of all
+-- the results so far, with those of the remaining lines, are those of all lines
 abbrev pub invariant-loop-place : goal.invariant-loop-place
 invariant-loop-place l =
     told l.reader (section_lines l.lines (drop l.place-index l.places))

@@ -3,7 +3,7 @@ use Rattle.std.proofs.lemmas.Option.{slice_get_past}
 use Rattle.dp_files.specs.DialplanText as spec
 use Rattle.dp_files.proofs.dialplan_text.push_standing.Goals as goal
 
--- no line is there
+-- there is no line
 pub returns-in-None : goal.returns-in-None
 returns-in-None c =
     sym (append-nil c.args.made.now.items)

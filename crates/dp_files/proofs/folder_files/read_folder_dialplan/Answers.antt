@@ -2,7 +2,7 @@ use Rattle.dp_files.specs.FolderFiles.{MayTell}
 use Rattle.dp_files.proofs.FolderFilesLemmas.{may_know-weaker}
 use Rattle.dp_files.proofs.folder_files.read_folder_dialplan.Goals as goal
 
--- what is known in the end, which is what could be told in the beginning
+-- what is known at the end, which may be reported at the beginning
 pub returns : goal.returns
 returns g c =
     let source = c.read_dialplan-read.new.source in (

@@ -4,7 +4,7 @@ use Rattle.dp_files.specs.GeneralLines.{general_lines, general_remarks}
 use Rattle.dp_files.specs.GeneralSteps.{told}
 use Rattle.dp_files.proofs.general_text.read_general.Given as goal
 
--- what is told so far, with what is told of the lines that are left, is what is told of all
+-- the results so far, with those of the remaining lines, are those of all lines
 abbrev pub invariant-loop-place : goal.invariant-loop-place
 invariant-loop-place l =
     told l.text (section_lines l.lines (drop l.place-index l.places))

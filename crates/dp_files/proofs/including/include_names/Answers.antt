@@ -4,7 +4,7 @@ use Rattle.dp_files.specs.Reading.{after_name, request_now}
 use Rattle.dp_files.proofs.ReadingLemmas.{fold_over, after_names_some}
 use Rattle.dp_files.proofs.including.include_names.Goals as goal
 
--- each of some names was gone after
+-- each of some names was read
 pub returns-clause-read : goal.returns-clause-read
 returns-clause-read g c has agrees =
     let names = c.args.names.now in

@@ -2,7 +2,7 @@ use Rattle.std.proofs.Common.{None, ap, ◌∙◌}
 use Rattle.dp_files.specs.Reading.{after_file, including, including_first, files_of}
 use Rattle.dp_files.proofs.reading.read_first.Goals as goal
 
--- files stand inside the first as deep as the type says
+-- files are nested in the first as deep as the type says
 pub returns-clause-read : goal.returns-clause-read
 unfolding including
 returns-clause-read g c has agrees =

@@ -6,8 +6,8 @@ use Rattle.dp_machine.specs.Seen.{arguments_seen}
 use Rattle.dp_machine.proofs.LookupLemmas.{ahead_located, ahead_stands}
 use Rattle.dp_machine.proofs.ahead.arguments_ahead_of.Goals as goal
 
-pub entry-entry-requires : goal.entry-entry-requires
-entry-entry-requires g c =
+pub prepared_entry-prepared-requires : goal.prepared_entry-prepared-requires
+prepared_entry-prepared-requires g c =
     subst (λ plan. IsSome (entry_at plan c.in-Some.id)) (sym c.in-Some.ensures.same)
     (ahead_stands c.args.channel.now.phase c.args.exchange.now.plan c.args.channel.now c.in-Some.id c.in-Some.ensures.entry)
 
@@ -16,5 +16,5 @@ pub returns-clause-arguments : goal.returns-clause-arguments
 returns-clause-arguments g c channels =
     ap Some c.in_ok-text.ensures
     ∙ sym (ap (option_map (λ (found : Located). arguments_seen g.F.Functions.table c.args.exchange.now.shared c.args.number c.args.channel.now found.entry.arguments))
-    (ahead_located c.args.channel.now.phase c.args.exchange.now.plan c.args.channel.now c.in-Some.id c.entry-entry.result.now c.in-Some.ensures.entry
-    (c.entry-entry.ensures ∙ ap (λ plan. entry_at plan c.in-Some.id) c.in-Some.ensures.same)))
+    (ahead_located c.args.channel.now.phase c.args.exchange.now.plan c.args.channel.now c.in-Some.id c.prepared_entry-prepared.result.entry.now c.in-Some.ensures.entry
+    (c.prepared_entry-prepared.ensures.entry ∙ ap (λ plan. entry_at plan c.in-Some.id) c.in-Some.ensures.same)))

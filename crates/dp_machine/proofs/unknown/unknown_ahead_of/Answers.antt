@@ -7,8 +7,8 @@ use Rattle.dp_machine.specs.Unknown.{unknown_of_entry}
 use Rattle.dp_machine.proofs.LookupLemmas.{ahead_located, ahead_stands}
 use Rattle.dp_machine.proofs.unknown.unknown_ahead_of.Goals as goal
 
-pub entry-entry-requires : goal.entry-entry-requires
-entry-entry-requires g c =
+pub prepared_entry-prepared-requires : goal.prepared_entry-prepared-requires
+prepared_entry-prepared-requires g c =
     subst (λ plan. IsSome (entry_at plan c.in-Some.id)) (sym c.in-Some.ensures.same)
     (ahead_stands c.args.channel.now.phase c.args.exchange.now.plan c.args.channel.now c.in-Some.id c.in-Some.ensures.entry)
 
@@ -18,5 +18,5 @@ returns-clause-unknown g c channels =
     c.in_ok-unknown.ensures
     ∙ sym (ap (option_and_then (λ (found : Located).
     unknown_of_entry (with_functions g.T.AppTable.rows g.T.Functions.Functions.table) g.T.KnownTable.knowledge c.args.exchange.now.shared c.args.number c.args.channel.now found.entry))
-    (ahead_located c.args.channel.now.phase c.args.exchange.now.plan c.args.channel.now c.in-Some.id c.entry-entry.result.now c.in-Some.ensures.entry
-    (c.entry-entry.ensures ∙ ap (λ plan. entry_at plan c.in-Some.id) c.in-Some.ensures.same)))
+    (ahead_located c.args.channel.now.phase c.args.exchange.now.plan c.args.channel.now c.in-Some.id c.prepared_entry-prepared.result.entry.now c.in-Some.ensures.entry
+    (c.prepared_entry-prepared.ensures.entry ∙ ap (λ plan. entry_at plan c.in-Some.id) c.in-Some.ensures.same)))

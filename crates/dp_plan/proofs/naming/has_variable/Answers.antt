@@ -4,7 +4,7 @@ use Rattle.dp_conf.specs.Cut.{begins_with}
 use Rattle.dp_plan.specs.EntryLine.{has_variable}
 use Rattle.dp_plan.proofs.naming.has_variable.Goals as goal
 
--- a text with no `$` has no variable
+-- a text without a `$` has no variable
 has_variable-none : (text : List ℕ) → list_any (λ b. eqb b 36) text ≡ false → has_variable text ≡ false
 has_variable-none [] e = refl
 has_variable-none (b ∷ text) e = by (eqb b 36) (has_variable-none text) e

@@ -5,7 +5,7 @@ use Rattle.dp_queue.specs.Offers.{with_choice, all_ringing, chosen_in}
 use Rattle.dp_queue.proofs.ChangeLemmas.{changed_at-same}
 use Rattle.dp_queue.proofs.offer.ring_at.Goals as goal
 
--- the queue that is asked
+-- the requested queue
 asked : (c : goal.After-set_last) → slice_get c.args.queues.now c.args.asked.queue ≡ Some c.index-list-asked.result
 asked c =
     let list = c.list.result.now in

@@ -1,4 +1,4 @@
--- The last frame is the one that is changed.
+-- The last frame is the changed one.
 use Rattle.std.proofs.Common.{◌≡◌, ◌<◌, ◌-◌, suc, ◌∙◌, ap, length, vec_len, set as set_item, refl, arith}
 use Rattle.dp_vars.proofs.BoundLemmas.{with_number-set}
 use Rattle.dp_vars.proofs.frame.note.Goals as goal

@@ -1,4 +1,4 @@
--- A text in which nothing opens a group is its own expansion.
+-- A text in which no group opens is its own expansion.
 use Rattle.std.proofs.Common.{sym, ◌∙◌}
 use Rattle.dp_vars.specs.Values.{standard_functions}
 use Rattle.dp_vars.proofs.OpeningsLemmas.{expansion-same, unknown-none}

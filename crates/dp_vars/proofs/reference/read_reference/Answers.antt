@@ -1,4 +1,4 @@
--- The value of the head is parted as the tail asks.
+-- The value of the head is cut as the tail requests.
 use Rattle.std.proofs.Common.{ap, ◌∙◌, sym, Some}
 use Rattle.dp_vars.specs.Parts.{part, asked_of}
 use Rattle.dp_vars.specs.Shown.{value_bytes}

@@ -1,4 +1,4 @@
--- The text of a template has one reading, and its pieces are those of its text.
+-- The text of a template has one reading, and the pieces of the template are those of its text.
 use Rattle.std.proofs.Common.{ap, ◌∙◌, subst, sym}
 use Rattle.dp_conf.proofs.GroupsLemmas.{one_reading}
 use Rattle.dp_vars.specs.Pieces.{AreOf}

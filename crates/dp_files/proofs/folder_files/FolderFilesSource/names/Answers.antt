@@ -7,7 +7,7 @@ use Rattle.dp_files.specs.Sources.{NamesOf}
 use Rattle.dp_files.proofs.FolderFilesLemmas.{agrees-before_names, may_know-names}
 use Rattle.dp_files.proofs.folder_files.FolderFilesSource.names.Goals as goal
 
--- what was told of the names is what the system may give
+-- the names that were reported are what the system may give
 pub invariant_of-self-2 : goal.invariant_of-self-2
 invariant_of-self-2 g c =
     let inside = c.self.inside in

@@ -6,7 +6,7 @@ use Rattle.dp_files.specs.FolderFiles.{MayBe, MayFit, MayTell, path_of}
 use Rattle.dp_files.proofs.FolderFilesLemmas.{agrees-before_text, may_know-text}
 use Rattle.dp_files.proofs.folder_files.FolderFilesSource.read.Goals as goal
 
--- what was told of the file is what the system may give
+-- what was reported of the file is what the system may give
 pub invariant_of-self-2 : goal.invariant_of-self-2
 invariant_of-self-2 g c =
     let inside = c.self.inside in

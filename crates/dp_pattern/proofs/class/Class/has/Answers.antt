@@ -6,7 +6,7 @@ use Rattle.std.proofs.lemmas.Bool.Decides.{Decides-at}
 use Rattle.dp_pattern.proofs.WalkLemmas.{member}
 use Rattle.dp_pattern.proofs.class.Class.has.Goals as goal
 
--- the test of a byte is that of the members
+-- the test of a byte gives the same as its members
 tested : (c : goal.After-has) → c.has.result ≡ is_one_of c.args.self.now c.args.byte
 tested c =
     c.has.ensures

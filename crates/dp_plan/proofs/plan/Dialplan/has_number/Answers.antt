@@ -6,7 +6,7 @@ use Rattle.dp_plan.specs.Lookup.{number_of}
 use Rattle.dp_plan.proofs.PositionLemmas.{found_at, same_at}
 use Rattle.dp_plan.proofs.plan.Dialplan.has_number.Goals as goal
 
--- the names stand as the contexts do, and are distinct
+-- the names are in the order of the contexts, and are distinct
 pub returns-in-Some : goal.returns-in-Some
 returns-in-Some c =
     let within : c.args.number < length c.self.inside.names.keys = search rules in

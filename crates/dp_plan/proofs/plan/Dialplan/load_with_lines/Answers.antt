@@ -23,7 +23,7 @@ into_plan-requires-clause-apart c = (drafted-fit c.args.text.now c.in_ok-draft.d
 pub into_plan-requires-clause-numbered : goal.into_plan-requires-clause-numbered
 into_plan-requires-clause-numbered c = (drafted-fit c.args.text.now c.in_ok-draft.draft c.in_ok-draft.ensures).numbered
 
--- the text itself is one that loads as the dialplan
+-- the text itself loads as the dialplan
 pub into_plan-requires-clause-loaded : goal.into_plan-requires-clause-loaded
 into_plan-requires-clause-loaded c = record {
   text = c.args.text.now;

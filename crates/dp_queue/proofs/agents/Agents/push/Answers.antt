@@ -7,7 +7,7 @@ use Rattle.dp_queue.specs.declared.agent.AgentState.TheVariants.{Idle}
 use Rattle.dp_queue.proofs.NameLemmas.{numbered-push}
 use Rattle.dp_queue.proofs.agents.Agents.push.Goals as goal
 
--- the list after the one push that cannot fail
+-- the list after the push that cannot fail
 more : (c : goal.After-unwrap) → c.push.new.self.items ≡ c.self.inside.list.items ++ record { name = c.args.name.now; state = Idle } ∷ []
 more c =
     let pushed : Agent = record { name = c.in_ok-text.text; state = Idle } in

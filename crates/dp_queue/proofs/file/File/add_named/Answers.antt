@@ -9,7 +9,7 @@ use Rattle.dp_queue.proofs.MemberLemmas.{members-added}
 use Rattle.dp_queue.proofs.RestLemmas.{within-same}
 use Rattle.dp_queue.proofs.file.File.add_named.Goals as goal
 
--- where neither holds, the second does not
+-- if neither holds, the second does not hold
 not_either : (a b : Bool) → (a || b) ≡ false → b ≡ false
 not_either true b none = absurd (cc)
 not_either false b none = none

@@ -7,7 +7,7 @@ use Rattle.dp_queue.specs.steps.Loading.{line_read}
 use Rattle.dp_queue.specs.declared.fault.QueueKind.{QueueKind}
 use Rattle.dp_queue.proofs.file.File.take_arguments.Goals as goal
 
--- a line with no fault
+-- a line without a fault
 line_read-ok : (line : ℕ) (r : Result ℕ QueueKind) (n : ℕ) → Ok n ≡ line_read line r → r ≡ Ok n
 line_read-ok line (Ok m) n e = ap (λ (s : Result ℕ (TakeFault QueueKind)). value s m) (sym e)
   where

@@ -7,7 +7,7 @@ use Rattle.dp_queue.proofs.ChangeLemmas.{remove-at_position, without-no_position
 use Rattle.dp_queue.proofs.HeldLemmas.{held-without}
 use Rattle.dp_queue.proofs.members.Members.remove.Goals as goal
 
--- the members that are left
+-- the remaining members
 gone : (c : goal.After-remove-rank) → c.remove-member.new.self.items ≡ without (is_agent c.args.agent) c.self.inside.list.items
 gone c =
     c.remove-member.ensures.items

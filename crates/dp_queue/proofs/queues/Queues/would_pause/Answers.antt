@@ -1,4 +1,4 @@
--- The member of the queue that the name finds is the one that is asked for.
+-- The member of the queue that is found by the name is the requested one.
 use Rattle.std.proofs.Common.{ap, sym, ◌∙◌, Some}
 use Rattle.std.specs.Option.{option_copied}
 use Rattle.dp_queue.specs.Agents.{agent_number}

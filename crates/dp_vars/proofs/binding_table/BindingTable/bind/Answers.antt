@@ -1,4 +1,4 @@
--- What the stack is changed to stands for the name.
+-- The changed stack belongs to the name.
 use Rattle.std.proofs.Common.{◌∙◌, sym}
 use Rattle.dp_vars.specs.steps.Bindings.{with_binding}
 use Rattle.dp_vars.specs.Variables.{by_bytes}

@@ -1,7 +1,6 @@
--- What the stack is changed to stands for the name.
-use Rattle.std.proofs.Common.{◌∙◌, [], ap, sym}
+-- The changed stack belongs to the name.
+use Rattle.std.proofs.Common.{◌∙◌, sym}
 use Rattle.dp_vars.specs.steps.Bindings.{bound_below}
-use Rattle.dp_vars.specs.steps.Tables.{with_stack}
 use Rattle.dp_vars.specs.Variables.{by_bytes}
 use Rattle.dp_vars.proofs.TablesLemmas.{changed-at, changed-new, numbered-at}
 use Rattle.dp_vars.proofs.binding_table.BindingTable.bind_below.Goals as goal
@@ -9,8 +8,7 @@ use Rattle.dp_vars.proofs.binding_table.BindingTable.bind_below.Goals as goal
 pub returns-in_default-clause-ok : goal.returns-in_default-clause-ok
 returns-in_default-clause-ok c =
     c.in_ok-add.ensures.ok
-    ∙ ap (λ value. with_stack c.args.self.now c.args.name.now (bound_below c.args.depth value [])) c.in_ok-value.ensures
-    ∙ changed-new c.args.self.now c.args.name.now (bound_below c.args.depth c.args.value.now) (sym c.in_default.ensures)
+    ∙ changed-new c.args.self.now c.args.name.now (bound_below c.args.depth c.args.value) (sym c.in_default.ensures)
 
 pub invariant_of-self-2 : goal.invariant_of-self-2
 invariant_of-self-2 c = numbered-at c.self.inside.entries.items c.in-Some.number c.index_mut-entry.result.now c.entry.inside.name
@@ -20,5 +18,5 @@ invariant_of-self-2 c = numbered-at c.self.inside.entries.items c.in-Some.number
 pub returns-clause-ok : goal.returns-clause-ok
 returns-clause-ok c = changed-at c.self.inside.entries.items c.in-Some.number c.index_mut-entry.result.now c.entry.inside.name
     c.entry.inside.stack c.entry.view_is c.index_mut-entry.ensures.value c.args.self.now c.self.view_is c.args.name.now
-    (bound_below c.args.depth c.args.value.now) c.bind_below.new.self (sym c.in-Some.ensures)
-    (c.in_ok-bind_below.ensures.ok ∙ ap (λ value. bound_below c.args.depth value c.entry.inside.stack) c.in_ok-value.ensures)
+    (bound_below c.args.depth c.args.value) c.bind_below.new.self (sym c.in-Some.ensures)
+    c.in_ok-bind_below.ensures.ok

@@ -1,4 +1,4 @@
--- No bindings stand at the number of the name.
+-- There are no bindings at the number of the name.
 use Rattle.std.proofs.Common.{◌∙◌, [], sym}
 use Rattle.dp_vars.specs.Variables.{by_bytes}
 use Rattle.dp_vars.proofs.ClearedLemmas.{cleared-is, cleared-unknown}

@@ -1,4 +1,4 @@
--- What stands at the number of the name.
+-- The stack at the number of the name.
 use Rattle.std.proofs.Common.{◌≡◌, ◌∙◌, Some, ap, nat_eq, sym}
 use Rattle.std.specs.Cmp.Lexicographic.{pointwise}
 use Rattle.std.specs.Map.{lookup}

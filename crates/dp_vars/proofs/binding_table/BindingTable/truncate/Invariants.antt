@@ -1,7 +1,7 @@
 use Rattle.std.proofs.Common.{◌≡◌, length, take}
 use Rattle.dp_vars.proofs.binding_table.BindingTable.truncate.Given as goal
 
--- what is left is a beginning of the names, and as long as is wanted where all of it is
+-- the rest is a prefix of the names, with at least the wanted length if there are enough
 abbrev pub invariant-loop-self : goal.invariant-loop-self
 invariant-loop-self l = take l.len l.self ≡ take l.len l.fn.self
 

@@ -1,4 +1,4 @@
--- What the stack is changed to stands at the number.
+-- The changed stack is at the number.
 use Rattle.std.proofs.Common.{◌≤◌, ap, sym, length, arith}
 use Rattle.dp_vars.specs.Variables.{by_bytes}
 use Rattle.dp_vars.proofs.TablesLemmas.{numbered-at, unbound-at, unbound_at-beyond}

@@ -1,4 +1,4 @@
--- The copy has the same entries, and the same numbers of their names.
+-- The copy has the same entries, and its names have the same numbers.
 use Rattle.std.proofs.Common.{◌∙◌, sym, subst}
 use Rattle.std.proofs.lemmas.List.Elements.{same_from_all_zip}
 use Rattle.dp_vars.specs.Variables.{by_bytes}

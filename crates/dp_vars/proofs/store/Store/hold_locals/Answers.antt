@@ -1,4 +1,4 @@
--- The frame has the locals that were taken so far.
+-- The frame has the locals taken so far.
 use Rattle.std.proofs.Common.{◌≡◌, ◌++◌, ◌∷◌, [], append-nil, append_assoc, ap, sym, ◌∙◌, length, arith}
 use Rattle.std.specs.Vec.Iter.{into_iter_items}
 use Rattle.dp_vars.specs.Stores.{with_frame}

@@ -1,4 +1,4 @@
--- The frame has the locals, and without it only the names have grown.
+-- The frame has the locals, and without the frame only the names have grown.
 use Rattle.std.proofs.Common.{◌≡◌, [], ap, sym, subst, ◌∙◌, length, take}
 use Rattle.dp_vars.specs.Stores.{with_frame, with_names, without_frame}
 use Rattle.dp_vars.specs.steps.Tables.{HasNamed, IsBound, store_of}

@@ -1,4 +1,4 @@
--- The entry that the look-up finds is that of the map of the entries' bytes.
+-- The look-up finds the entry that the map of the entries' bytes contains.
 use Rattle.std.proofs.Common.{◌∙◌, ap, sym, Some}
 use Rattle.std.specs.FinMap.{get}
 use Rattle.dp_vars.specs.Variables.{by_bytes}

@@ -1,4 +1,4 @@
--- What is written at a key that is there, or inserted at a new one, goes into the map of the entries' bytes.
+-- Writing at an existing key, or inserting a new one, adds to the map of the entries' bytes.
 use Rattle.std.proofs.Common.{◌∙◌, IsSome, ap, refl, subst}
 use Rattle.std.specs.FinMap.{insert, from_entries}
 use Rattle.dp_vars.specs.Variables.{by_bytes}

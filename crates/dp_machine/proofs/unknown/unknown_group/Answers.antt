@@ -1,0 +1,14 @@
+use Rattle.std.proofs.Common.{subst, sym, ◌∙◌}
+use Rattle.dp_vars.specs.Unknown.{first_unknown}
+use Rattle.dp_machine.specs.Unknown.{unknown_seen}
+use Rattle.dp_machine.specs.steps.Templates.{AreTemplate}
+use Rattle.dp_machine.proofs.unknown.unknown_group.Goals as goal
+
+-- the pieces are those of the arguments, and are read in what the channel sees
+pub returns-in_ok-unknown-in-Read : goal.returns-in_ok-unknown-in-Read
+unfolding unknown_seen
+returns-in_ok-unknown-in-Read g c =
+    c.in_ok-unknown-in-Read.ensures
+    (subst (AreTemplate c.bytes-arguments.result.now) c.in-Read.is
+    (subst (λ text. AreTemplate text c.args.prepared.template.now.arguments) (sym c.bytes-arguments.ensures.value) c.requires))
+    ∙ (λ i. first_unknown g.F.Functions.table (c.scope_of-scope.ensures.sight i) (c.bytes-arguments.ensures.value i))

@@ -1,0 +1,70 @@
+//! What an `expect` line of a test expects.
+use crate::items::Items;
+use dp_machine::Refusal;
+use dp_plan::{SharedName, Text};
+
+/// An application as it was called: its name, and its expanded arguments if the line gives them.
+#[derive(Drop)]
+pub struct Call {
+    pub application: Text,
+    pub arguments: Option<Text>,
+}
+
+/// Where an entry stands: its context, its name by its meaning, and its priority if the line gives one.
+#[derive(Drop)]
+pub struct EntryPlace {
+    pub context: Text,
+    pub name: SharedName,
+    pub priority: Option<u32>,
+}
+
+/// What a line claims.
+#[derive(Drop)]
+pub enum Claim {
+    /// `CH STATE`: the channel's state, as it is printed, begins with this text.
+    State {
+        channel: u32,
+        state: Text,
+    },
+    /// `CH ran APP[(ARGS)]`: the last entry that the channel ran is this call.
+    Ran {
+        channel: u32,
+        call: Call,
+    },
+    /// `CH passed APP[(ARGS)]`: the channel ran such a call in this test.
+    Passed {
+        channel: u32,
+        call: Call,
+    },
+    /// `CH at CONTEXT,NAME[,PRIORITY]`: the last entry that the channel ran stands there.
+    At {
+        channel: u32,
+        place: EntryPlace,
+    },
+    /// `CH NAME=VALUE` or, without a channel, `global NAME=VALUE`: the name has this value.
+    Value {
+        channel: Option<u32>,
+        name: Text,
+        value: Text,
+    },
+    /// `rings AGENT..`: exactly these agents ring.
+    Rings {
+        agents: Items<Text>,
+    },
+    /// `waiting QUEUE N`: so many channels wait in the queue.
+    Waiting {
+        queue: Text,
+        count: u32,
+    },
+    /// `refused [CODE]`: the event before was refused, for this reason if the line gives one.
+    Refused {
+        refusal: Option<Refusal>,
+    },
+}
+
+/// What an `expect` line expects: that its claim holds or, after `not`, that it does not hold.
+#[derive(Drop)]
+pub struct Expectation {
+    pub is_negated: bool,
+    pub claim: Claim,
+}
