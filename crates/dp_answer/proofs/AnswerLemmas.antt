@@ -1,4 +1,4 @@
--- What is told of answers, and what is proved of them.
+-- The reports of answers, and what is proved of them.
 use Rattle.std.proofs.Common.{◌≡◌, ℕ, Bool, true, false, List, ◌++◌, Option, Some, None, IsTrue, refl, sym, ap, subst, ◌∙◌}
 use Rattle.std.specs.Prelude.{is_some}
 use Rattle.std.specs.Global.{Vec}
@@ -13,19 +13,19 @@ use Rattle.dp_queue.specs.declared.settings.Settings.{Settings}
 use Rattle.dp_reach.specs.Audits.{Outside, RunsOnly}
 use Rattle.dp_table.specs.Standard.{standard_rows}
 
--- where no answer is proved each entry is told, and none but these runs
+-- if no answer is proved each entry is reported, and none but these runs
 pub runs-told : (outside : Outside) (context : List ℕ) (plan : PlanOf) (settings : List Settings) (is_proved : Bool) (marks : List (Vec Bool))
     → (IsTrue is_proved → RunsOnly standard_rows outside context plan settings (answers_in (Some marks)))
     → RunsOnly standard_rows outside context plan settings (answers_in (answers_by is_proved marks))
 runs-told outside context plan settings true marks proved = proved refl
 runs-told outside context plan settings false marks proved = λ queues before later exten caller number same from started b l id split ran. refl
 
--- where no proof was found there are no marks
+-- if no proof was found there are no marks
 found-marks : (is_proved : Bool) (marks : List (Vec Bool)) → is_some (answers_by is_proved marks) ≡ is_proved
 found-marks true marks = refl
 found-marks false marks = refl
 
--- a report that tells answers of which that is proved is right
+-- a report of proved answers is right
 pub right-told : (plan : PlanOf) (settings : List Settings) (ask : AskOf) (report : ReportOf) (outside : Outside) (is_proved : Bool) (marks : List (Vec Bool))
     → outside ≡ outside_of plan ask → RunsOnly standard_rows outside ask.context plan settings (answers_in (answers_by is_proved marks))
     → IsTold plan (assumptions ask outside.contexts ++ no_proof_line is_proved) (answers_by is_proved marks) ask.target report → IsRight plan settings ask report
@@ -42,7 +42,7 @@ right-told plan settings ask report outside is_proved marks same runs told =
       status = told.status;
     }
 
--- a report on all entries tells the answers
+-- a report on all entries gives the answers
 pub told-all : (plan : PlanOf) (head : List ℕ) (marks found : Option (List (Vec Bool))) (told : Told) (report : ReportOf)
     → marks ≡ found → report.text ≡ head ++ answer_text plan (answers_in marks) None told → report.status ≡ 0 → IsTold plan head found None report
 told-all plan head marks found told report same text status = record {
@@ -51,7 +51,7 @@ told-all plan head marks found told report same text status = record {
   status = status;
 }
 
--- and so does one on a context that is named
+-- and so does one on a named context
 pub told-target : (plan : PlanOf) (head : List ℕ) (marks found : Option (List (Vec Bool))) (name : List ℕ) (number : Option ℕ) (reached : Bool)
     (told : Told) (report : ReportOf)
     → marks ≡ found → number ≡ number_of plan name → reached ≡ option_map_or (has_answer plan (answers_in marks)) number false
@@ -65,7 +65,7 @@ told-target plan head marks found name number reached told report same numbered 
       status = status ∙ ap status_by right;
     }
 
--- a report where a name is lacking, and where none is
+-- a report if a named context is missing, and if none is
 pub lacking-report : (plan : PlanOf) (settings : List Settings) (ask : AskOf) (report : ReportOf)
     → is_lacking plan ask ≡ true → report ≡ nothing_told → IsReport plan settings ask report
 lacking-report plan settings ask report lacks nothing = subst (λ b. IsReportBy b plan settings ask report) (sym lacks) nothing

@@ -1,4 +1,4 @@
--- What is told before an answer, part by part.
+-- The text before an answer, part by part.
 use Rattle.std.proofs.Common.{◌≡◌, ℕ, List, ◌++◌, ap, ◌∙◌, append_assoc}
 
 -- two parts, one after another

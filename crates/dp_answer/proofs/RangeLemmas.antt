@@ -1,4 +1,4 @@
--- Sets of bytes by ranges.
+-- Sets of bytes given by ranges.
 use Rattle.std.proofs.Common.{◌≡◌, ℕ, ◌+◌, ◌<◌, ◌≤◌, ◌&&◌, ◌||◌, ◌==◌, Bool, true, false, List, [], ◌∷◌, Some, None, if◌then◌else◌, map, refl, sym, ap, ◌∙◌, arith}
 use Rattle.std.specs.Prelude.{nat_le, nat_lt}
 use Rattle.std.specs.Option.{option_map_or}
@@ -22,7 +22,7 @@ between-all low high end b after most = by (nat_le low b) (nat_lt b end) (nat_le
     by true false true x y z = absurd (omega (arith, ltb-false b end y, leb-true b high z))
     by true true false x y z = absurd (omega (arith, leb-true low b x, ltb-true b end y, leb-false b high z))
 
--- no byte is between, where the last is below the first
+-- no byte is between if the last is below the first
 pub between-none : (low high b : ℕ) → high < low → false ≡ between low high b
 between-none low high b above = by (nat_le low b) (nat_le b high) refl refl
   where
@@ -50,7 +50,7 @@ or-order false b c = refl
 or-order true false c = refl
 or-order true true c = refl
 
--- with a range of bytes in the set
+-- a range of bytes is added to the set
 pub range-put : (set new : List ℕ) (low high : ℕ) (left rest after text : List ℕ) (b : ℕ) → left ≡ low ∷ rest → upper rest ≡ Some (high, after)
     → set_by new b ≡ (between low high b || set_by set b) → (set_by set b || ranges left b) ≡ ranges text b → (set_by new b || ranges after b) ≡ ranges text b
 range-put set new low high left rest after text b split up put all =
@@ -60,7 +60,7 @@ range-put set new low high left rest after text b split up put all =
     ∙ ap (λ found. option_map_or (λ (f : ℕ × List ℕ). between low f.0 b || ranges f.1 b) found (b == low || ranges rest b)) up)))
     ∙ all))
 
--- with a byte
+-- a byte is added
 pub byte-put : (set new : List ℕ) (low : ℕ) (left rest text : List ℕ) (b : ℕ) → left ≡ low ∷ rest → upper rest ≡ None
     → set_by new b ≡ (b == low || set_by set b) → (set_by set b || ranges left b) ≡ ranges text b → (set_by new b || ranges rest b) ≡ ranges text b
 byte-put set new low left rest text b split up put all =
@@ -70,7 +70,7 @@ byte-put set new low left rest text b split up put all =
     ∙ ap (λ found. option_map_or (λ (f : ℕ × List ℕ). between low f.0 b || ranges f.1 b) found (b == low || ranges rest b)) up)))
     ∙ all))
 
--- what may come in, by its sets
+-- what may come in, given its sets
 pub outside-same : (outside : Outside) (extens callers : Bytes) (names : List (List ℕ))
     → ((b : ℕ) → set_by outside.exten b ≡ extens b) → ((b : ℕ) → set_by outside.caller b ≡ callers b) → map (λ name. name.items) outside.contexts.items ≡ names
     → shown_outside outside ≡ record { exten = extens; caller = callers; contexts = names }

@@ -1,11 +1,11 @@
--- What is told of one number more.
+-- The report on one more number.
 use Rattle.std.proofs.Common.{◌≡◌, ℕ, zero, suc, ◌+◌, ◌<◌, Bool, true, false, ◌||◌, List, [], ◌∷◌, ◌++◌, add-one, sym, ap, subst, ◌∙◌, arith}
 use Rattle.std.specs.List.{flat_map, list_any, range_with_len}
 use Rattle.std.proofs.lemmas.List.{flat_map_more}
 use Rattle.std.proofs.lemmas.List.Folds.{list_any-append, list_any_at}
 use Rattle.std.proofs.lemmas.List.FromFn.{get_or-range_with_len, length-range_with_len}
 
--- one number more
+-- one more number
 range-push : (a n : ℕ) → range_with_len a (suc n) ≡ range_with_len a n ++ (a + n) ∷ []
 range-push a zero = ap (λ x. x ∷ []) (omega arith)
 range-push a (suc n) = ap (λ (ns : List ℕ). a ∷ ns) (range-push (a + 1) n ∙ ap (λ x. range_with_len (a + 1) n ++ x ∷ []) (omega arith))
@@ -13,7 +13,7 @@ range-push a (suc n) = ap (λ (ns : List ℕ). a ∷ ns) (range-push (a + 1) n �
 range-next : (n : ℕ) → range_with_len 0 (n + 1) ≡ range_with_len 0 n ++ n ∷ []
 range-next n = ap (range_with_len 0) (add-one n) ∙ (range-push 0 n ∙ ap (λ x. range_with_len 0 n ++ x ∷ []) (omega arith))
 
--- with what is told of it
+-- with the report on it
 pub told-next : (f : ℕ → List ℕ) (before : List ℕ) (n : ℕ) → (before ++ flat_map f (range_with_len 0 n)) ++ f n ≡ before ++ flat_map f (range_with_len 0 (n + 1))
 told-next f before n = flat_map_more f before (range_with_len 0 n) n ∙ ap (λ ns. before ++ flat_map f ns) (sym (range-next n))
 

@@ -103,10 +103,14 @@ impl Jumps<'_> {
         &mut self,
         alloc: Global,
         name: &[u8],
-        entries: &[Entry],
         id: EntryId,
         exten: &[Piece],
     ) -> Result<(), NoMemory> {
+        let plan = self.search.plan;
+        let Some(context) = plan.contexts().get(id.context) else {
+            return Ok(());
+        };
+        let entries = context.entries();
         let Some(entry) = entries.get(id.entry) else {
             return Ok(());
         };
@@ -144,7 +148,7 @@ impl Jumps<'_> {
                 context: number,
                 entry,
             };
-            self.take_entry(alloc, name, context.entries(), id, exten)?;
+            self.take_entry(alloc, name, id, exten)?;
         }
         Ok(())
     }

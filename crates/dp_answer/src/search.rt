@@ -335,18 +335,16 @@ impl<'a> Search<'a> {
         }
     }
 
-    /// Goes through an entry that is found at places of an area.
+    /// Goes through an entry that is found at places of an area, given how its duties came up.
     fn take_entry(
         &mut self,
         alloc: Global,
-        route: usize,
-        id: EntryId,
+        cause: Cause,
         entry: &Entry,
         met: &Area,
     ) -> Result<(), NoMemory> {
-        self.note(route, id);
         let duties = self.duties_of(alloc, entry, met)?;
-        self.meet_all(alloc, &duties, Cause::Jump(route, id))
+        self.meet_all(alloc, &duties, cause)
     }
 
     /// Goes through the entries of a context that is searched from an area. In a later round those whose arguments have no group have no
@@ -371,7 +369,8 @@ impl<'a> Search<'a> {
                     context: number,
                     entry: place,
                 };
-                self.take_entry(alloc, seen.route, id, entry, met)?;
+                self.note(seen.route, id);
+                self.take_entry(alloc, Cause::Jump(seen.route, id), entry, met)?;
             }
             before = Some(meeting);
         }

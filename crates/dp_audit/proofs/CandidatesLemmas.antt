@@ -37,7 +37,7 @@ matched_at plan text id entry r here decides =
 
 -- ---- the first extension
 
--- the size of the first extension of what stands at a place, by the place's name and the next
+-- the size of the first extension at a place, given the place's name and the next
 pub first_size-at : (plan : PlanOf) (ids : List EntryId) (place : ℕ) (d : EntryId) → suc place < length ids → first_size plan (drop place ids) ≡ cond (have_one_name plan (get_or ids place d) (get_or ids (suc place) d)) (1 + first_size plan (drop (suc place) ids)) 1
 first_size-at plan [] place d within = absurd (omega (arith, within))
 first_size-at plan (x ∷ []) place d within = absurd (omega (arith, within))
@@ -51,7 +51,7 @@ first_size-last plan (x ∷ y ∷ ids) zero last = absurd (omega (arith, last))
 first_size-last plan (x ∷ []) (suc place) last = absurd (omega (arith, last))
 first_size-last plan (x ∷ y ∷ ids) (suc place) last = first_size-last plan (y ∷ ids) place (omega (arith, last))
 
--- before the last entry the first extensions come to all
+-- the first extension of the last entry ends where the entries end
 pub first_size-whole : (plan : PlanOf) (ids : List EntryId) (place : ℕ) → place ≡ length ids - 1 → place + first_size plan (drop place ids) ≡ length ids
 first_size-whole plan [] zero e = refl
 first_size-whole plan [] (suc place) e = absurd (omega (arith, e))
@@ -89,7 +89,7 @@ extensions-split plan (id ∷ next ∷ ids) some = by (have_one_name plan id nex
       ∙ (λ i. take (sym (one-add (first_size plan (next ∷ ids))) i) (id ∷ next ∷ ids) ∷ extensions plan (drop (sym (one-add (first_size plan (next ∷ ids))) i) (id ∷ next ∷ ids)))
   by false rest = refl
 
--- the extensions that match of ranked entries, by the first extension and what stands after it
+-- the extensions that match among ranked entries, given the first extension and the entries after it
 pub matching_in-split : (plan : PlanOf) (text : List ℕ) (priority : ℕ) (ids extension after : List EntryId) → extensions plan ids ≡ extension ∷ extensions plan after → matching_in plan text priority ids ≡ cons_option (matching_of plan text priority extension) (matching_in plan text priority after)
 matching_in-split plan text priority ids extension after split = ap (filter_map (matching_of plan text priority)) split
 
@@ -99,7 +99,7 @@ module _ (plan : PlanOf) (text : List ℕ) (priority : ℕ) where
   abbrev test : EntryId → Bool
   test = passes plan (has_priority text priority)
 
-  -- the entry that answers, of these extensions
+  -- the entry that answers, among these extensions
   abbrev answer_in : List (List EntryId) → Option EntryId
   answer_in list = answer_of (filter_map (matching_of plan text priority) list)
 
@@ -117,7 +117,7 @@ module _ (plan : PlanOf) (text : List ℕ) (priority : ℕ) where
     by true false = refl
     by false p = refl
 
-  -- an extension with one more entry before the others
+  -- an extension with one more entry at its front
   answer_in-more : (id next : EntryId) (ids : List EntryId) (list : List (List EntryId)) → is_matched plan text id ≡ is_matched plan text next → answer_in ((id ∷ next ∷ ids) ∷ list) ≡ cond (test id) (Some id) (answer_in ((next ∷ ids) ∷ list))
   answer_in-more id next ids list same =
       by (is_matched plan text id) (is_matched plan text next) same (has_number plan priority id) (find (has_number plan priority) (next ∷ ids))
@@ -154,7 +154,7 @@ module _ (plan : PlanOf) (text : List ℕ) (priority : ℕ) where
         let spelled = ap meaning_of ((bytes_decides (spelling a) (spelling b)).0 same) in
         cc
 
-    -- entries of one name match alike
+    -- entries with one name match alike
     matched_alike : (a b : EntryId) → have_one_name plan a b ≡ true → is_matched plan text a ≡ is_matched plan text b
     matched_alike a b same = by (entry_at plan a) refl (entry_at plan b) refl same where
       by : (o : Option Entry) → entry_at plan a ≡ o → (p : Option Entry) → entry_at plan b ≡ p → option_map_or (λ (x : Entry). option_map_or (λ (y : Entry). same_name x.name y.name) p false) o false ≡ true
@@ -163,7 +163,7 @@ module _ (plan : PlanOf) (text : List ℕ) (priority : ℕ) where
       by (Some x) here None there same = absurd (true≢false (sym same))
       by (Some x) here (Some y) there same = ap (λ name. matches_name name text) (one_meaning x.name y.name (named a x here) (named b y there) same)
 
-    -- the one that answers is the first entry that has the priority and whose name matches
+    -- the one that answers is the first entry with the priority whose name matches
     answer_in-extensions : (ids : List EntryId) → answer_in (extensions plan ids) ≡ find test ids
     answer_in-extensions [] = refl
     answer_in-extensions (id ∷ []) = answer_in-single id []
@@ -190,7 +190,7 @@ module _ (plan : PlanOf) (named : All (λ (context : PlanContext). AreNamed cont
     by None here there = absurd cc
     by (Some context) here there = all_at (λ (e : Entry). IsName e.name) context.entries id.entry entry (all_at (λ (c : PlanContext). AreNamed c.entries) plan.contexts id.context context named here) there
 
-  -- the one that answers, of the contexts of a search order, is what a look-up finds
+  -- the one that answers, among the contexts of a search order, is what a look-up finds
   found-all_matching : (order text : List ℕ) (priority : ℕ) → answer_of (all_matching plan order text priority) ≡ found_by plan (has_priority text priority) order
   found-all_matching [] text priority = refl
   found-all_matching (number ∷ order) text priority =
@@ -233,7 +233,7 @@ answer-candidate_of answer (m ∷ list) e = by (cond (option_map_or (λ (found :
   by other false rest e = rest e
   by other true rest e = ap (λ s. option_map (λ (c : Candidate). c.id) (cond (is_answer (cond s Answers other)) (Some (candidate_of answer m)) (find answers (map (candidate_of answer) list)))) (has_same e) ∙ e
 
--- only the entry that answers has the verdict that it does
+-- only the entry that answers has this verdict
 pub only-candidate_of : (answer : Option EntryId) (list : List Matching) → All (IsOfAnswer answer) (map (candidate_of answer) list)
 only-candidate_of answer list = All-map (IsOfAnswer answer) (candidate_of answer) list (λ k d below. only answer (get_or list k d)) where
   differ : (t : Bool) → cond t LessSpecific LaterContext ≡ Answers → ⊥

@@ -1,4 +1,4 @@
--- The order of a context's entries by the definition is its ranking, and there is no other.
+-- The order of a context's entries in the definition is its ranking, and its only one.
 use Rattle.std.proofs.Common.{◌≡◌, ℕ, zero, suc, ◌<◌, Bool, true, false, cond, List, [], ◌∷◌, length, get_or, add-one, Option, Some, None, MatchOption, arith, refl, sym, ap, ◌∙◌, subst, is_lt, Ordering, Less, Equal, Greater, IsPermutation, IsSortedBy}
 use Rattle.std.specs.Prelude.{slice_get, All, Contains}
 use Rattle.std.specs.Option.{option_map_or}
@@ -36,13 +36,13 @@ pub all_at : {X : Type 0} (P : X → Type 0) (xs : List X) (k : ℕ) (x : X) →
 all_at P xs k x all here = subst P (get_or_from_slice_get xs k x x here) (all k x (slice_get_within xs k x here))
 
 module _ (entries : List Entry) where
-  -- ---- the order by the definition is sorted
+  -- ---- the order in the definition is sorted
 
   abbrev NotBefore : EntryId → List EntryId → Type 0
   NotBefore x [] = Unit {0}
   NotBefore x (y ∷ ids) = is_before entries y x ≡ false
 
-  -- none is before the one that it stands after
+  -- none comes before the one that precedes it
   abbrev Steps : List EntryId → Type 0
   Steps [] = Unit {0}
   Steps (x ∷ ids) = NotBefore x ids × Steps ids
@@ -79,7 +79,7 @@ module _ (entries : List Entry) where
       ap (λ n. is_before entries (get_or (in_order entries ids) n d) (get_or (in_order entries ids) k d)) (add-one k)
       ∙ sorted_next (in_order entries ids) (Steps-in_order ids) k d (omega (arith, within))
 
-  -- ---- it has all of them
+  -- ---- it has all entries
 
   whole-insert_in_order : (id : EntryId) (ids : List EntryId) → IsPermutation (id ∷ ids) (insert_in_order entries id ids)
   whole-insert_in_order id [] = IsPermutation-refl (id ∷ [])
@@ -93,11 +93,11 @@ module _ (entries : List Entry) where
   whole-in_order (id ∷ ids) =
       IsPermutation-trans (id ∷ ids) (id ∷ in_order entries ids) (insert_in_order entries id (in_order entries ids)) (IsPermutation-cons id ids (in_order entries ids) (whole-in_order ids)) (whole-insert_in_order id (in_order entries ids))
 
-  -- the order by the definition is a ranking, where the entries are apart
+  -- the order in the definition is a ranking, if the entries are apart
   ranking-in_order : (number : ℕ) → AreApart entries → IsRanking number entries (in_order entries (ids_of number entries))
   ranking-in_order number apart = IsRanking-sorted number entries (ids_of number entries) (in_order entries (ids_of number entries)) refl (whole-in_order (ids_of number entries)) (sorted (ids_of number entries)) apart
 
-  -- ---- there is one ranking
+  -- ---- there is only one ranking
 
   abbrev Rises : List EntryId → Type 0
   Rises ids = (i j : ℕ) (a b : Entry) → i < j → ranked_entry entries ids i ≡ Some a → ranked_entry entries ids j ≡ Some b → entry_cmp a b ≡ Less
@@ -108,7 +108,7 @@ module _ (entries : List Entry) where
   abbrev Known : EntryId → Type 0
   Known x = (a : Entry) × (slice_get entries x.entry ≡ Some a)
 
-  -- of two entries, each is not before the other
+  -- of two entries, neither comes before the other
   both_less : (a b : Entry) → entry_cmp a b ≡ Less → entry_cmp b a ≡ Less → ⊥
   both_less a b less back = Less-not_back (entry_cmp b a) back (sym (entry_cmp_total.antisymm a b) ∙ less)
 
@@ -125,7 +125,7 @@ module _ (entries : List Entry) where
       (up 0 (suc j) known_x.0 known_y.0 (omega arith) known_x.1 (seen (x ∷ xs) (suc j) y known_y.0 there known_y.1))
       (other 0 (suc i) known_y.0 known_x.0 (omega arith) known_y.1 (seen (y ∷ ys) (suc i) x known_x.0 here known_x.1)))
 
-  -- what stands after the first of one stands after the first of the other
+  -- the entries after the first of one list come after the first of the other
   after : (x y z : EntryId) (xs ys : List EntryId) (k : ℕ) → x ≡ y → Rises (x ∷ xs) → Known x → slice_get xs k ≡ Some z → IsIn (y ∷ ys) z → IsIn ys z
   after x y z xs ys k same up known here (zero, there) =
       let is_x : slice_get xs k ≡ Some x = here ∙ ap Some (sym (same_Some y z there) ∙ sym same) in
@@ -163,7 +163,7 @@ module _ (entries : List Entry) where
       let within : k < length entries = omega (arith, below, length-map-range_with_len id_at 0 (length entries)) in
       subst Known (sym (get_or-map-range_with_len id_at 0 (length entries) k k d within (omega arith))) (at entries k within)
 
-  -- a ranking is the order by the definition
+  -- a ranking is the order in the definition
   ranking-one : (number : ℕ) (ids : List EntryId) → AreApart entries → IsRanking number entries ids → ids ≡ in_order entries (ids_of number entries)
   ranking-one number ids apart ranking =
       let all = ids_of number entries in

@@ -1,4 +1,4 @@
--- What is told of entries is each entry after which a call goes on in another extension.
+-- The list of entries has each entry after which a call goes on in another extension.
 use Rattle.std.proofs.Common.{◌≡◌, ℕ, zero, suc, ◌+◌, ◌<◌, Bool, true, false, List, [], ◌∷◌, length, map, slice_get, Option, Some, None, MatchOption, if◌then◌else◌, ◌⊎◌, inl, inr, ◌↔◌, arith, refl, sym, ap, subst, ◌∙◌}
 use Rattle.std.specs.Prelude.{All, Contains}
 use Rattle.std.specs.List.{flat_map, range_with_len}
@@ -23,7 +23,7 @@ use Rattle.dp_audit.specs.Orders.{order_at}
 use Rattle.dp_audit.specs.declared.fall_through.FallThrough.{FallThrough}
 use Rattle.dp_audit.proofs.HidingLemmas.{entry_by}
 
--- ---- elements of lists that are joined
+-- ---- elements of joined lists
 
 module _ {X : Type 0} where
   -- an element is the first, or one of the others
@@ -76,7 +76,7 @@ id_among number entries k below =
     let f : ℕ → EntryId = λ j. record { context = number; entry = j } in
     (k, rw (length-map-range_with_len f 0 (length entries)) below, get_or-map-range_with_len f 0 (length entries) k k (f k) below (omega arith))
 
--- ---- what is told of one entry
+-- ---- the finding on one entry
 
 option_element : {X : Type 0} (o : Option X) (x : X) → Contains (option_to_list o) x → o ≡ Some x
 option_element None x there = absurd (nothing_there x there)
@@ -89,14 +89,14 @@ option_there : {X : Type 0} (o : Option X) (x : X) → o ≡ Some x → Contains
 option_there None x is = absurd (none-some x is)
 option_there (Some y) x is = (0, omega arith, same_Some y x is)
 
--- what is told is told of the entry with the one after it
+-- a finding has the entry with the one after it
 told_as : (id other next : EntryId) (o : Option EntryId) → option_map (fall_through other) o ≡ Some (fall_through id next) → (other ≡ id) × (o ≡ Some next)
 told_as id other next None is = absurd (none-some (fall_through id next) is)
 told_as id other next (Some after) is =
     let same = same_Some (fall_through other after) (fall_through id next) is in
     (ap (λ (told : FallThrough). told.entry) same, ap Some (ap (λ (told : FallThrough). told.next) same))
 
--- the entry at a number of another name
+-- the entry with a number and another name
 record Other (plan : PlanOf) (name : Meaning) (o : Option EntryId) (next : EntryId) : Type 0 where
   found : o ≡ Some next
   other : has_name plan name next ≡ false
@@ -117,7 +117,7 @@ other_there plan name o next is lacks =
 
 -- ---- the list and the look-up
 
--- where a plain name is looked up
+-- a plain name that was dialled, and the entry that a look-up then finds
 record Dialled (plan : PlanOf) (order : List ℕ) (name : Meaning) (priority : ℕ) (next : EntryId) : Type 0 where
   text : List ℕ
   plain : name ≡ Plain text
@@ -144,7 +144,7 @@ module _ (plan : PlanOf) (apart : All (λ (context : PlanContext). AreApart cont
 there_as : (plan : PlanOf) (name : Meaning) (next : EntryId) (entry : Entry) → entry_at plan next ≡ Some entry → has_name plan name next ≡ same_name entry.name name
 there_as plan name next entry there = ap (λ (o : Option Entry). option_map_or (λ entry. same_name entry.name name) o false) there
 
--- what follows the entry, by the look-up
+-- the entry after this one, given the look-up
 falls_by : (plan : PlanOf) (id next : EntryId) (entry : Entry) → entry_at plan id ≡ Some entry → next_of plan id entry ≡ Some next → FallsThrough plan id next
 falls_by plan id next entry here is =
     let other = other_of plan entry.name (entry_met plan (order_at plan id.context) entry.name (entry.priority + 1)) next is in
@@ -161,7 +161,7 @@ falls_by plan id next entry here is =
       another = sym (there_as plan entry.name next found.entry found.least.stands.there) ∙ other.other;
     }
 
--- what is told of the entry of these numbers
+-- the finding on the entry with these numbers
 falls_of : (plan : PlanOf) (other id next : EntryId) (o : Option Entry) → entry_at plan other ≡ o
     → Contains (option_map_or (of_entry plan other) o []) (fall_through id next) → FallsThrough plan id next
 falls_of plan other id next None is told = absurd (nothing_there (fall_through id next) told)
@@ -170,7 +170,7 @@ falls_of plan other id next (Some entry) is told =
     let parts = told_as id other next (next_of plan other entry) element in
     subst (λ (same : EntryId). FallsThrough plan same next) parts.0 (falls_by plan other next entry is parts.1)
 
--- what is told falls through
+-- an entry that is reported falls through
 told_falls : (plan : PlanOf) (id next : EntryId) → Contains (fall_throughs_of plan) (fall_through id next) → FallsThrough plan id next
 unfolding fall_throughs_of
 told_falls plan id next told =
@@ -191,7 +191,7 @@ context_there plan id entry there = by (slice_get plan.contexts id.context) refl
     by None is here = absurd (none-some entry here)
     by (Some context) is here = slice_get_within plan.contexts id.context context is
 
--- what is told of an entry is told
+-- a finding on an entry is reported
 pub id_told : {X : Type 0} (plan : PlanOf) (f : EntryId → List X) (id : EntryId) → Entered plan id → (x : X) → Contains (f id) x
     → Contains (flat_map (λ number. flat_map f (ids_of number (entries_at plan number))) (range_with_len 0 (context_count plan))) x
 id_told plan f id entered x told =
@@ -200,7 +200,7 @@ id_told plan f id entered x told =
     (number_among (context_count plan) id.context (context_there plan id entered.entry entered.there))
     (element_in f (ids_of id.context (entries_at plan id.context)) id x (id_among id.context (entries_at plan id.context) id.entry below) told)
 
--- what falls through is told
+-- an entry that falls through is reported
 module _ (plan : PlanOf) (apart : All (λ (context : PlanContext). AreApart context.entries) plan.contexts) (id next : EntryId) (falls : FallsThrough plan id next) where
   follows : next_of plan id falls.entry ≡ Some next
   follows = other_there plan falls.entry.name (entry_met plan (order_at plan id.context) falls.entry.name (falls.entry.priority + 1)) next

@@ -1,4 +1,4 @@
--- What is found of one context or one entry more.
+-- The findings on one more context or entry.
 use Rattle.std.proofs.Common.{◌≡◌, ℕ, zero, suc, ◌+◌, List, [], ◌∷◌, ◌++◌, add-one, append_assoc, sym, ap, ◌∙◌, arith}
 use Rattle.std.specs.List.{flat_map, range_with_len}
 use Rattle.std.proofs.lemmas.List.{flat_map_more}
@@ -7,19 +7,19 @@ use Rattle.dp_plan.specs.Ranking.{numbers_of}
 use Rattle.dp_plan.specs.declared.entry.EntryId.{EntryId}
 use Rattle.dp_audit.specs.declared.finding.Finding.{Finding}
 
--- one number more
+-- one more number
 range-push : (a n : ℕ) → range_with_len a (suc n) ≡ range_with_len a n ++ (a + n) ∷ []
 range-push a zero = ap (λ x. x ∷ []) (omega arith)
 range-push a (suc n) = ap (λ (ns : List ℕ). a ∷ ns) (range-push (a + 1) n ∙ ap (λ x. range_with_len (a + 1) n ++ x ∷ []) (omega arith))
 
--- with what is found of one context more
+-- with the findings on one more context
 pub contexts_more : {X : Type 0} (f : ℕ → List X) (n : ℕ) → flat_map f (range_with_len 0 n) ++ f n ≡ flat_map f (range_with_len 0 (n + 1))
 contexts_more f n =
     let one : range_with_len 0 (n + 1) ≡ range_with_len 0 n ++ n ∷ [] = ap (range_with_len 0) (add-one n) ∙ (range-push 0 n ∙ ap (λ x. range_with_len 0 n ++ x ∷ []) (omega arith)) in
     let all : flat_map f (range_with_len 0 n) ++ f n ≡ flat_map f (range_with_len 0 n ++ n ∷ []) = flat_map_more f [] (range_with_len 0 n) n in
     all ∙ ap (flat_map f) (sym one)
 
--- with what is found of one entry more
+-- with the findings on one more entry
 pub entries_more : {X : Type 0} (f : EntryId → List X) (before : List X) (number n : ℕ)
     → (before ++ flat_map f (numbers_of number n)) ++ f (record { context = number; entry = n }) ≡ before ++ flat_map f (numbers_of number (n + 1))
 entries_more f before number n =

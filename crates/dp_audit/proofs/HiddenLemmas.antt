@@ -1,4 +1,4 @@
--- An entry that is hidden from a context is none that a look-up from there finds.
+-- A look-up from a context never finds an entry that is hidden from it.
 use Rattle.std.proofs.Common.{◌≡◌, ◌≢◌, ℕ, zero, suc, ◌<◌, ◌==◌, Bool, true, false, true≢false, ◌&&◌, ◌||◌, List, [], ◌∷◌, Option, Some, None, MatchOption, if◌then◌else◌, arith, refl, sym, ap, subst, ◌∙◌}
 use Rattle.std.specs.Prelude.{All, slice_get}
 use Rattle.std.specs.List.{list_any}
@@ -80,7 +80,7 @@ named_entry plan named id entry there = by (slice_get plan.contexts id.context) 
     by None known there = absurd (none-some entry there)
     by (Some context) known there = named_at context.entries (ranked_at_named plan named id.context context known) id.entry entry there
 
--- what is found is not hidden
+-- an entry that is found is not hidden
 pub never_found : (plan : PlanOf) → All (λ (c : PlanContext). AreNamed c.entries) plan.contexts → (from : ℕ) (id : EntryId) (entry : Entry)
     → entry_at plan id ≡ Some entry → is_hidden plan id entry from ≡ true → (text : List ℕ) (priority : ℕ)
     → found_entry plan (order_at plan from) text priority ≢ Some id

@@ -1,4 +1,4 @@
--- What is noted of entries that others hide, for one context after another.
+-- The notes on hidden entries, for one context after another.
 use Rattle.std.proofs.Common.{◌≡◌, ℕ, zero, suc, ◌+◌, ◌-◌, ◌<◌, ◌≤◌, ◌==◌, nat_lt, Bool, true, false, ◌&&◌, ◌||◌, List, [], ◌∷◌, ◌++◌, length, map, take, get_or, slice_get, Option, Some, None, unwrap_or, if◌then◌else◌, append_assoc, refl, sym, ap, ◌∙◌, arith, inl, inr}
 use Rattle.std.specs.Prelude.{replicate}
 use Rattle.std.specs.List.{filter, list_any, range_with_len}
@@ -48,7 +48,7 @@ module _ {X : Type 0} where
   same_map None = refl
   same_map (Some x) = refl
 
-  -- what stands at a place after a change
+  -- the element at a place after a change
   abbrev pub changed_if : (X → X) → Bool → Option X → Option X
   changed_if change here o = option_map (λ x. if here then change x else x) o
 
@@ -64,7 +64,7 @@ module _ {X : Type 0} where
 
 -- ---- notes
 
--- what is noted after a change of what was noted of one entry
+-- the notes after a change of the notes on one entry
 noted-changed : (change : List ℕ → List ℕ) (id other : EntryId) (notes : Notes)
     → noted_at (changed_at (changed_at change id.entry) id.context notes) other
     ≡ option_map (λ noted. if same_id other id then change noted else noted) (noted_at notes other)
@@ -87,7 +87,7 @@ grows_none notes more none id = by (noted_at notes id)
     by None = refl
     by (Some noted) = ap Some (sym (append-nil noted) ∙ ap (λ xs. noted ++ xs) (sym (none id)))
 
--- some is noted, and then more
+-- some notes, and then more
 pub grows_both : (a b c : Notes) (f g h : EntryId → List ℕ) → Grows a b f → Grows b c g → ((id : EntryId) → f id ++ g id ≡ h id) → Grows a c h
 grows_both a b c f g h first second same id =
     second id ∙ ap (option_map (λ noted. noted ++ g id)) (first id) ∙ by (noted_at a id)
@@ -96,11 +96,11 @@ grows_both a b c f g h first second same id =
     by None = refl
     by (Some noted) = ap Some (append_assoc noted (f id) (g id) ∙ ap (λ xs. noted ++ xs) (same id))
 
--- the same notes in other words
+-- the same notes, stated differently
 pub grows_as : (a b : Notes) (f g : EntryId → List ℕ) → Grows a b f → ((id : EntryId) → f id ≡ g id) → Grows a b g
 grows_as a b f g grown same id = grown id ∙ ap (λ more. option_map (λ noted. noted ++ more) (noted_at a id)) (same id)
 
--- a number is noted of one entry, where its place is among these
+-- a number is noted for one entry, if its place is among these
 pub grows_one : (places : List EntryPlace) (id : EntryId) (entry : Entry) (from : ℕ) (notes : Notes) → is_among places entry ≡ true
     → Grows notes (changed_at (changed_at (with_number from) id.entry) id.context notes) (for_one places id entry from)
 grows_one places id entry from notes among other =
@@ -114,7 +114,7 @@ grows_one places id entry from notes among other =
     by true true e (Some noted) = refl
     by false true e (Some noted) = ap Some (sym (append-nil noted))
 
--- where its place is not among these, nothing is
+-- if its place is not among these, nothing is
 pub for_none : (places : List EntryPlace) (id : EntryId) (entry : Entry) (from : ℕ) → is_among places entry ≡ false → (other : EntryId) → for_one places id entry from other ≡ []
 for_none places id entry from absent other = by (same_id other id) (is_among places entry) absent
   where
@@ -125,11 +125,11 @@ for_none places id entry from absent other = by (same_id other id) (is_among pla
 
 -- ---- the entries of a context
 
--- those below a number
+-- the entries below a number
 abbrev pub below : ℕ → (EntryId → List ℕ) → EntryId → List ℕ
 below count more id = if nat_lt id.entry count then more id else []
 
--- the entry of the numbers, by its context
+-- the entry with the numbers, given its context
 pub entry_by : (plan : PlanOf) (number k : ℕ) → entry_at plan (record { context = number; entry = k }) ≡ slice_get (entries_at plan number) k
 entry_by plan number k = by (slice_get plan.contexts number)
   where
@@ -141,14 +141,14 @@ module _ (plan : PlanOf) (places : List EntryPlace) (number from : ℕ) where
   abbrev each : EntryId → List ℕ
   each = for_each plan (is_among places) number from
 
-  -- the entry of these numbers, where its context is the one of the number
+  -- the entry with these numbers, if its context is the one with the number
   entry_there : (id : EntryId) → (id.context == number) ≡ true → entry_at plan id ≡ slice_get (entries_at plan number) id.entry
   entry_there id same = (λ i. entry_at plan (record { context = eqb-true id.context number same i; entry = id.entry })) ∙ entry_by plan number id.entry
 
   abbrev one_if : Bool → List ℕ
   one_if is_one = if is_one then from ∷ [] else []
 
-  -- one entry more
+  -- one more entry
   pub one_more : (k : ℕ) (entry : Entry) → slice_get (entries_at plan number) k ≡ Some entry → (id : EntryId)
       → below k each id ++ for_one places (record { context = number; entry = k }) entry from id ≡ below (k + 1) each id
   one_more k entry here id = elim (cases_order id.entry k) [
@@ -208,7 +208,7 @@ module _ (plan : PlanOf) (places : List EntryPlace) (number from : ℕ) where
 -- ---- the contexts of an order
 
 module _ (plan : PlanOf) (from : ℕ) where
-  -- what is noted of the contexts of an order, after those of others
+  -- the notes on the contexts of an order, after those on others
   pub numbers_asked-push : (earlier order : List ℕ) (number : ℕ) (id : EntryId)
       → numbers_asked plan from earlier order id ++ for_each plan (some_shares plan (earlier ++ order)) number from id
       ≡ numbers_asked plan from earlier (order ++ number ∷ []) id
@@ -225,7 +225,7 @@ module _ (plan : PlanOf) (from : ℕ) where
   abbrev one : Bool → List ℕ
   one is_one = if is_one then from ∷ [] else []
 
-  -- an order that has each context once asks each entry once
+  -- an order that has each context once asks about each entry once
   asked_once : (earlier order : List ℕ) (id : EntryId) → AreOnce order
       → numbers_asked plan from earlier order id ≡ one (has order id.context && passes plan (some_shares plan (earlier ++ before id.context order)) id)
   asked_once earlier [] id once = refl
@@ -257,7 +257,7 @@ module _ (plan : PlanOf) (from : ℕ) where
           ∙ ap (λ contexts. one (has order id.context && passes plan (some_shares plan contexts) id)) (append_assoc earlier (first ∷ []) (before id.context order))
           ∙ sym (ap (λ b. by_first b (has order id.context) earlier first order id) apart)
 
-  -- what is noted of the entries that are hidden from a context
+  -- the notes on the entries that are hidden from a context
   pub asked_is_hidden : (id : EntryId) → numbers_asked plan from [] (order_at plan from) id ≡ one (passes plan (λ entry. is_hidden plan id entry from) id)
   asked_is_hidden id = asked_once [] (order_at plan from) id (order_once plan from) ∙ by (entry_at plan id) (has (order_at plan from) id.context)
     where
@@ -270,7 +270,7 @@ module _ (plan : PlanOf) (from : ℕ) where
 
 -- ---- the places before a context of an order
 
--- the places of one context more
+-- the places of one more context
 pub places_next : (plan : PlanOf) (order : List ℕ) (place context : ℕ) (old new : List EntryPlace) → 1 ≤ place → place < length order
     → context ≡ get_or order (place - 1) 0
     → Adds (some_at plan (take (place - 1) order)) [] old → Adds (λ p. list_any (is_at p) (entries_at plan context)) old new
@@ -287,7 +287,7 @@ places_next plan order place context old new after within here before added p =
         ap (λ n. take n order) (omega (arith, after)) ∙ take_more order (place - 1) 0 (omega (arith, after, within))
         ∙ ap (λ n. take (place - 1) order ++ n ∷ []) (sym here)
 
--- what is noted of one context more
+-- the notes on one more context
 pub noted_next : (plan : PlanOf) (from : ℕ) (order : List ℕ) (place number : ℕ) (places : List EntryPlace) (a b c : Notes) → place < length order
     → number ≡ get_or order place 0 → Adds (some_at plan (take place order)) [] places
     → Grows a b (numbers_asked plan from [] (take place order)) → Grows b c (for_each plan (is_among places) number from)
@@ -303,7 +303,7 @@ noted_next plan from order place number places a b c within here before first se
 
 -- ---- all contexts
 
--- one context more
+-- one more context
 pub all_hidden_more : (plan : PlanOf) (count : ℕ) (id : EntryId)
     → all_hidden plan count id ++ numbers_asked plan count [] (order_at plan count) id ≡ all_hidden plan (count + 1) id
 all_hidden_more plan count id =
@@ -322,7 +322,7 @@ all_hidden_more plan count id =
 abbrev no_numbers : List ℕ
 no_numbers = []
 
--- of each entry nothing is noted at first
+-- at first nothing is noted for any entry
 pub nothing_noted : (plan : PlanOf) (id : EntryId) → noted_at (no_notes plan.contexts) id ≡ option_map (λ entry. []) (entry_at plan id)
 nothing_noted plan id =
     ap (option_and_then (λ (numbers : List (List ℕ)). slice_get numbers id.entry)) (slice_get-map (λ context. replicate (length context.entries) []) plan.contexts id.context)
@@ -339,7 +339,7 @@ nothing_noted plan id =
     by None = refl
     by (Some context) = none context.entries id.entry
 
--- what is noted of all contexts is from which of them each entry is hidden
+-- the notes on all contexts are from which of them each entry is hidden
 pub all_noted : (plan : PlanOf) (notes : Notes) → Grows (no_notes plan.contexts) notes (all_hidden plan (context_count plan)) → AreHidden plan notes
 unfolding hidden_from
 all_noted plan notes grown id entry there =
@@ -347,7 +347,7 @@ all_noted plan notes grown id entry there =
     ∙ ap (option_map (λ noted. noted ++ all_hidden plan (context_count plan) id)) (nothing_noted plan id ∙ ap (option_map (λ entry. [])) there)
     ∙ ap (λ o. Some (filter (λ from. option_map_or (λ entry. is_hidden plan id entry from) o false) (range_with_len 0 (context_count plan)))) there
 
--- the contexts from which an entry is hidden are what is noted
+-- the contexts from which an entry is hidden are those that are noted
 pub hidden_as_noted : (plan : PlanOf) (notes : Notes) (id : EntryId) (entry : Entry) → AreHidden plan notes → entry_at plan id ≡ Some entry
     → unwrap_or (noted_at notes id) [] ≡ hidden_from plan id entry
 hidden_as_noted plan notes id entry are there = ap (λ o. unwrap_or o []) (are id entry there)

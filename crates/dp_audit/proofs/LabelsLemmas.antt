@@ -1,4 +1,4 @@
--- What is noted of targets, one after another.
+-- The notes on targets, one after another.
 use Rattle.std.proofs.Common.{◌≡◌, ℕ, suc, ◌+◌, ◌<◌, Bool, true, false, ◌||◌, List, [], ◌∷◌, ◌++◌, length, drop, get_or, ap, refl, sym, subst, ◌∙◌, add-one, drop-cons}
 use Rattle.std.specs.List.{filter_map, flat_map, list_any}
 use Rattle.std.proofs.lemmas.Grind.{flat_map-append}
@@ -19,7 +19,7 @@ or_assoc : (a b c : Bool) → ((a || b) || c) ≡ (a || (b || c))
 or_assoc true b c = refl
 or_assoc false b c = refl
 
--- what is left at a place of a list, with the element there
+-- the rest of a list from a place on, with the element there
 drop_next : {X : Type 0} (xs : List X) (place : ℕ) (x : X) → place < length xs → get_or xs place x ≡ x → drop place xs ≡ x ∷ drop (place + 1) xs
 drop_next xs place x within here =
     drop-cons xs place x within ∙ ap (λ y. y ∷ drop (suc place) xs) here ∙ ap (λ next. x ∷ drop next xs) (sym (add-one place))
@@ -49,7 +49,7 @@ notes_texts jump a b c xs ys first second =
     (subst (λ computed. Notes a c computed (filter_map (named_in jump) xs ++ filter_map (named_in jump) ys)) (sym (list_any-append (is_computed jump) xs ys))
     (notes_both a b c (list_any (is_computed jump) xs) (list_any (is_computed jump) ys) (filter_map (named_in jump) xs) (filter_map (named_in jump) ys) first second))
 
--- what the entries name
+-- the names in the entries
 abbrev NotesEntries : Named → Named → List Entry → Type 0
 NotesEntries old new entries = Notes old new (list_any computes entries) (flat_map names entries)
 

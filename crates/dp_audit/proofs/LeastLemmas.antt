@@ -1,4 +1,4 @@
--- The entry of a path that stands first in the file, found from one place on.
+-- The entry of a path that comes first in the file, found from one place on.
 use Rattle.std.proofs.Common.{◌≡◌, ℕ, ◌+◌, ◌<◌, ◌≤◌, inl, inr, true, false, List, length, slice_get, Some, arith, sym, subst, ◌∙◌}
 use Rattle.std.proofs.lemmas.Bool.{cases_lt}
 use Rattle.std.proofs.lemmas.Option.{same_Some, slice_get_within}
@@ -7,12 +7,12 @@ use Rattle.dp_audit.specs.Loops.{is_before}
 use Rattle.dp_audit.specs.steps.Walks.{IsFrom, IsLeastFrom}
 use Rattle.dp_audit.proofs.OrderOfFile.{is_before_itself, is_before_less}
 
--- of the entries from one place up to another, none stands before it
+-- of the entries from one place up to another, none comes before it
 pub record IsLeastBelow (path : List EntryId) (place number : ℕ) (least : EntryId) : Type 0 where
   pub among : IsFrom path place least
   pub before : (k : ℕ) (y : EntryId) → place ≤ k → k < number → slice_get path k ≡ Some y → is_before y least ≡ false
 
--- of one entry and those before it
+-- for one entry and those before it
 split_last : (path : List EntryId) (place number : ℕ) (least next : EntryId) → slice_get path number ≡ Some next
     → ((k : ℕ) (y : EntryId) → place ≤ k → k < number → slice_get path k ≡ Some y → is_before y least ≡ false) → is_before next least ≡ false
     → (k : ℕ) (y : EntryId) → place ≤ k → k < number + 1 → slice_get path k ≡ Some y → is_before y least ≡ false
@@ -32,7 +32,7 @@ module _ (path : List EntryId) (place : ℕ) where
     before = split_last path place place x x there (λ k y late early here. absurd (omega (arith, late, early))) (is_before_itself x);
   }
 
-  -- one more that does not stand before it
+  -- one more that does not come before it
   pub least_kept : (number : ℕ) (least next : EntryId) → slice_get path number ≡ Some next → IsLeastBelow path place number least → is_before next least ≡ false
       → IsLeastBelow path place (number + 1) least
   least_kept number least next there is other = record {

@@ -30,7 +30,7 @@ mark_at-with_mark id other marks =
     by (Some entries) true = slice_get-changed (λ (mark : Bool). true) id.entry other.entry entries
     by (Some entries) false = same_map (slice_get entries other.entry)
 
--- what an entry not marked has
+-- the mark of an entry that is not marked
 unmarked_there : (marks : Marks) (id : EntryId) → is_unmarked marks id ≡ true → mark_at marks id ≡ Some false
 unmarked_there marks id unmarked = by (mark_at marks id) refl unmarked
   where
@@ -43,7 +43,7 @@ module _ (id : EntryId) (marks : Marks) where
   abbrev more : Marks
   more = with_mark id marks
 
-  -- what was marked stays so
+  -- what was marked stays marked
   pub mark_kept : (other : EntryId) → is_marked marks other ≡ true → is_marked more other ≡ true
   mark_kept other here =
       ap (λ (o : Option Bool). option_map_or (λ mark. mark) o false) (mark_at-with_mark id other marks) ∙ by (mark_at marks other) (same_id other id) here
@@ -54,7 +54,7 @@ module _ (id : EntryId) (marks : Marks) where
       by (Some mark) true here = refl
       by (Some mark) false here = here
 
-  -- the one that had a mark is marked
+  -- the entry that had a mark is marked
   pub mark_here : (mark : Bool) → mark_at marks id ≡ Some mark → is_marked more id ≡ true
   mark_here mark there =
       ap (λ (o : Option Bool). option_map_or (λ mark. mark) o false)
@@ -83,7 +83,7 @@ module _ (id : EntryId) (marks : Marks) where
       by None none = refl
       by (Some mark) none = absurd (none-some _ (sym none))
 
--- ---- how many are not marked
+-- ---- the number of entries that are not marked
 
 -- one that is not marked counts
 abbrev counted : Bool → ℕ
@@ -157,7 +157,7 @@ adds_more old path marks id adds unmarked = record {
   room = λ other none. adds.room other (mark_room id marks other none);
 }
 
--- what is left where an entry is not one that is not marked
+-- an end that is kept is this entry, and it is not marked
 pub unmarked_kept : (marks : Marks) (end : Option EntryId) (id : EntryId) → if_unmarked marks end ≡ Some id → (end ≡ Some id) × (is_unmarked marks id ≡ true)
 unmarked_kept marks None id is = absurd (none-some id is)
 unmarked_kept marks (Some other) id is = by (is_unmarked marks other) refl is

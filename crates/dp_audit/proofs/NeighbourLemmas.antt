@@ -1,4 +1,4 @@
--- In a ranking the entries of one name stand side by side, by their priorities.
+-- In a ranking the entries of one name are next to each other, in the order of their priorities.
 use Rattle.std.proofs.Common.{◌≡◌, ℕ, zero, suc, ◌+◌, ◌-◌, ◌<◌, ◌≤◌, Bool, true, false, cond, ◌&&◌, ◌||◌, true≢false, add-zero, List, [], ◌∷◌, length, get_or, Option, Some, None, MatchOption, inl, inr, arith, refl, sym, ap, ◌∙◌, subst, nat_cmp, Ordering, Less, Equal, Greater}
 use Rattle.std.specs.Prelude.{slice_get, slice_set, nat_lt, replicate, All}
 use Rattle.std.specs.Cmp.Lexicographic.{bytes_decides}
@@ -31,7 +31,7 @@ use Rattle.dp_audit.specs.steps.Neighbours.{are_of_one_name, is_followed, with_m
 
 -- ---- names
 
--- a spelling reads as one meaning alone
+-- a spelling is read with one meaning only
 pub one_meaning : (a b : Meaning) → IsName a → IsName b → same_name a b ≡ true → a ≡ b
 one_meaning a b named_a named_b same =
     let read_a = spelled_again a named_a in
@@ -107,11 +107,11 @@ element_at (x ∷ xs) (suc k) below = element_at xs k (omega (arith, below))
 not_both : {m n : ℕ} → m < n → n < m → ⊥
 not_both less more = omega (arith, less, more)
 
--- an entry has no lower priority than itself
+-- an entry does not have a lower priority than itself
 apart : (a b : Entry) → a ≡ b → a.priority < b.priority → ⊥
 apart a b same less = let one = ap (λ (e : Entry). e.priority) same in omega (arith, one, less)
 
--- steps on numbers, apart from all else
+-- steps on numbers, by themselves
 at_least : (n : ℕ) → n ≤ n
 at_least n = omega arith
 
@@ -187,11 +187,11 @@ named_at entries named k a there =
 abbrev id_at : ℕ → ℕ → EntryId
 id_at number k = record { context = number; entry = k }
 
--- the entry of a ranked number
+-- the entry with a ranked number
 entry_of_id : (entries : List Entry) (ids : List EntryId) (place : ℕ) (id : EntryId) → slice_get ids place ≡ Some id → ranked_entry entries ids place ≡ slice_get entries id.entry
 entry_of_id entries ids place id there = ap (option_and_then (λ (x : EntryId). slice_get entries x.entry)) there
 
--- what two neighbours of one name are
+-- the relation of two neighbours of one name
 record Neighbours (entries : List Entry) (ids : List EntryId) (place : ℕ) : Type 0 where
   one : Entry
   next : Entry
@@ -255,7 +255,7 @@ module _ (number : ℕ) (entries : List Entry) (ids : List EntryId) (named : Are
     | inr (inr past) ↦ absurd (not_past from past)
   ]
 
-  -- between two entries of one name each has one of that name after it
+  -- between two entries of one name each is followed by one of that name
   followed_within : (i q j : ℕ) (a c : Entry) → i ≤ q → q < j → ranked_entry entries ids i ≡ Some a → ranked_entry entries ids j ≡ Some c → a.name ≡ c.name → is_followed entries ids q ≡ true
   followed_within i q j a c from below at_i at_j one =
       let last = number_at entries ids j c at_j in
@@ -302,7 +302,7 @@ module _ (number : ℕ) (entries : List Entry) (ids : List EntryId) (named : Are
         | inr (inr after) ↦ absurd (not_both (lower_from_less other.1 a one (ranking.rising j.0 i.0 other.1 a after j.2 i.2)) below)
       ]
 
-  -- the marks of those that have one of their name after them are of those that have one of a greater priority
+  -- the marks of entries that are followed by one of their name are the marks of those with one of a greater priority
   pub greater_marked : (marks : List Bool) → AreAfter entries ids 0 (length ids) marks → AreMarks (has_greater entries) entries marks
   greater_marked marks are k a known =
       let found = λ (has : has_greater entries a ≡ true).
@@ -337,7 +337,7 @@ module _ (number : ℕ) (entries : List Entry) (ids : List EntryId) (named : Are
         | inr (inr after) ↦ absurd (not_both (lower_from_less a other.1 (sym one) (ranking.rising i.0 j.0 a other.1 after i.2 j.2)) below)
       ]
 
-  -- the marks of those after one of their name are of those that have one of a lower priority
+  -- the marks of entries after one of their name are the marks of those with one of a lower priority
   pub lower_marked : (marks : List Bool) → AreAfter entries ids 1 (length ids) marks → AreMarks (has_lower entries) entries marks
   lower_marked marks are k a known =
       let found = λ (has : has_lower entries a ≡ true).
@@ -346,13 +346,13 @@ module _ (number : ℕ) (entries : List Entry) (ids : List EntryId) (named : Are
       are.all place.0 (id_at number k) (from_next inside) place.1 place.2 (slice_get_within entries k a known)) in
       same_from_decides (get_or marks k false) (has_lower entries a) (λ e. lower_there k a known (are.marked k e), found) (λ e. e, λ e. e)
 
--- ---- the entries of the context of a number
+-- ---- the entries of the context with a number
 
 pub ranked_at_named : (plan : PlanOf) → All (λ (c : PlanContext). AreNamed c.entries) plan.contexts → (number : ℕ) (context : PlanContext) → slice_get plan.contexts number ≡ Some context → AreNamed context.entries
 ranked_at_named plan named number context known =
     subst (λ (c : PlanContext). AreNamed c.entries) (get_or_from_slice_get plan.contexts number context context known) (named number context (slice_get_within plan.contexts number context known))
 
--- the marks of a context that are found by its ranking
+-- the marks of a context that are found through its ranking
 pub greater_at : (plan : PlanOf) (number : ℕ) (ids : List EntryId) (marks : List Bool) → All (λ (c : PlanContext). AreNamed c.entries) plan.contexts → IsRankedAt plan number ids
     → AreAfter (entries_at plan number) ids 0 (length ids) marks → AreMarks (has_greater (entries_at plan number)) (entries_at plan number) marks
 greater_at plan number ids marks named ranking are = by (slice_get plan.contexts number) refl ranking are
@@ -373,7 +373,7 @@ lower_at plan number ids marks named ranking are = by (slice_get plan.contexts n
     by None known ranking are = λ k a there. absurd (none-some a there)
     by (Some context) known ranking are = lower_marked number context.entries ids (ranked_at_named plan named number context known) ranking marks are
 
--- ---- one place more
+-- ---- one more place
 
 -- past the end nothing is set
 pub set_past : (marks : List Bool) (i : ℕ) → length marks ≤ i → slice_set marks i true ≡ marks
@@ -394,7 +394,7 @@ AreAfter-none entries ids shift marks none = record {
     none_marked (suc n) zero = refl
     none_marked (suc n) (suc k) = none_marked n k
 
--- with the mark of one place more
+-- with the mark of one more place
 pub AreAfter-more : (entries : List Entry) (ids : List EntryId) (shift n : ℕ) (marks : List Bool) → AreAfter entries ids shift n marks
     → AreAfter entries ids shift (n + 1) (cond (is_followed entries ids n) (with_mark ids (n + shift) marks) marks)
 AreAfter-more entries ids shift n marks are = by (is_followed entries ids n) refl (slice_get ids (n + shift)) refl

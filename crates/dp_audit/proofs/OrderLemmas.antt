@@ -10,7 +10,7 @@ use Rattle.dp_plan.specs.Lookup.{number_of}
 use Rattle.dp_plan.specs.Plan.{PlanOf}
 use Rattle.dp_audit.specs.Orders.{order_at}
 
--- no number stands twice
+-- no number occurs twice
 abbrev pub AreOnce : List ℕ → Type 0
 AreOnce [] = ⊤
 AreOnce (number ∷ numbers) = (has numbers number ≡ false) × AreOnce numbers

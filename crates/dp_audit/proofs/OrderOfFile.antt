@@ -8,7 +8,7 @@ or_parts : (a b : Bool) → (a || b) ≡ false → (a ≡ false) × (b ≡ false
 or_parts false b none = (refl, none)
 or_parts true b none = absurd cc
 
--- of two entries neither of which stands before the other, one is the other
+-- of two entries neither of which comes before the other, one is the other
 pub is_before_one : (a b : EntryId) → is_before a b ≡ false → is_before b a ≡ false → a ≡ b
 is_before_one a b here there =
     let left = or_parts (nat_lt a.context b.context) (a.context == b.context && nat_lt a.entry b.entry) here in
@@ -19,7 +19,7 @@ is_before_one a b here there =
     let entries : a.entry ≡ b.entry = omega (arith, ltb-false a.entry b.entry ahead, ltb-false b.entry a.entry behind) in
     λ i. record { context = contexts i; entry = entries i }
 
--- in numbers
+-- the same for numbers
 abbrev Before : EntryId → EntryId → Type 0
 Before a b = (a.context < b.context) ⊎ ((a.context ≡ b.context) × (a.entry < b.entry))
 
@@ -52,7 +52,7 @@ not_itself : (a : EntryId) → Before a a → ⊥
 not_itself a (inl x) = omega (arith, x)
 not_itself a (inr x) = omega (arith, x.1)
 
--- no entry stands before itself
+-- no entry comes before itself
 pub is_before_itself : (a : EntryId) → is_before a a ≡ false
 is_before_itself a = by (is_before a a) refl
   where
@@ -60,7 +60,7 @@ is_before_itself a = by (is_before a a) refl
     by true is = absurd (not_itself a (before_numbers a a is))
     by false is = refl
 
--- what does not stand before an entry does not stand before one before it
+-- what does not come before an entry does not come before an earlier one
 pub is_before_less : (y least less : EntryId) → is_before y least ≡ false → is_before less least ≡ true → is_before y less ≡ false
 is_before_less y least less not_before here = by (is_before y less) refl
   where

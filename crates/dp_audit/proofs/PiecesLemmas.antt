@@ -1,4 +1,4 @@
--- A text that is cut into pieces, and a label that stands in one.
+-- A text that is cut into pieces, and a label in one of them.
 use Rattle.std.proofs.Common.{◌≡◌, ℕ, ◌+◌, ◌<◌, Bool, true, false, cond, not, ◌&&◌, ◌||◌, Bor, List, [], ◌∷◌, ◌++◌, Option, Some, None, length, map, ap, refl, subst, sym, ◌∙◌, arith, ltb, slice_get}
 use Rattle.std.specs.Cmp.Lexicographic.{nat_list_eq_equiv}
 use Rattle.std.specs.List.{after_first, before_first, list_any, onto_first, position, position_or_len, slice_split}
@@ -18,17 +18,17 @@ use Rattle.dp_plan.specs.declared.entry.EntryId.{EntryId}
 use Rattle.dp_audit.specs.Labels.{is_computing, is_unused, names_of, unused_by}
 use Rattle.dp_audit.specs.Pieces.{Stands, begins_cut, cuts, ends_cut, first_of, first_piece, holds, is_held, pieces}
 
--- the pieces of what is left to read
+-- the pieces of the remaining text
 abbrev pub pieces_left : Option (Bor (List ℕ)) → List (List ℕ)
 pieces_left None = []
 pieces_left (Some text) = pieces text.now
 
--- a number that falls as the text is read
+-- a number that decreases as the text is read
 abbrev pub left_len : Option (Bor (List ℕ)) → ℕ
 left_len None = 0
 left_len (Some text) = length text.now + 1
 
--- the pieces of what is left are still to be added to those that were
+-- the pieces of the remaining text are still to be added to the earlier ones
 abbrev pub Owes : List (List ℕ) → List (List ℕ) → List ℕ → Option (Bor (List ℕ)) → Type 0
 Owes old now text left =
     (piece : List ℕ) → (list_any (same_text piece) now || list_any (same_text piece) (pieces_left left))
@@ -38,11 +38,11 @@ Owes old now text left =
 abbrev place_of : List ℕ → ℕ
 place_of text = position_or_len cuts text
 
--- by the test that there is one
+-- given the test whether there is one
 abbrev found_by : List ℕ → Bool → Option ℕ
 found_by text t = cond {A = Option ℕ} t (Some (place_of text)) None
 
--- where a text is cut nowhere, it is its one piece
+-- if a text is not cut anywhere, it is its only piece
 none_by : (text : List ℕ) (t : Bool) → ltb (place_of text) (length text) ≡ t → found_by text t ≡ None → slice_split cuts text ≡ text ∷ []
 none_by text true l e = cc
 none_by text false l e = slice_split_none cuts text (All-from_get_or (λ b. cuts b ≡ false) text 0 (λ i h. fails_before_first cuts text i 0 (omega (arith, ltb-false _ _ l))))
@@ -58,14 +58,14 @@ some_by : (text : List ℕ) (at : ℕ) (t : Bool) → ltb (place_of text) (lengt
 some_by text at true l e = (same_place (place_of text) at e, slice_split_first cuts text 0 (ltb-true _ _ l))
 some_by text at false l e = absurd cc
 
--- where a text is first cut at a place, what stands before it is its first piece
+-- if a text is first cut at a place, the part before it is its first piece
 pub cut_some : (text : List ℕ) (at : ℕ) → position cuts text ≡ Some at →
     (place_of text ≡ at) × (slice_split cuts text ≡ before_first cuts text ∷ slice_split cuts (after_first cuts text))
 cut_some text at e = some_by text at (ltb (place_of text) (length text)) refl e
 
--- ---- a label that stands in arguments
+-- ---- a label in arguments
 
--- what comes after the first of some texts
+-- the texts after the first of some texts
 abbrev later : List (List ℕ) → List (List ℕ)
 later [] = []
 later (part ∷ parts) = parts
@@ -78,13 +78,13 @@ first_onto : (x : ℕ) (parts : List (List ℕ)) → first_of (onto_first x part
 first_onto x [] = refl
 first_onto x (part ∷ parts) = refl
 
--- the first of the parts, where the byte before them cuts or does not
+-- the first of the parts, given whether the byte before them cuts
 first_by : (x : ℕ) (longer parts : List (List ℕ)) → first_of longer ≡ first_of parts → (t : Bool) →
     first_of (cond t ([] ∷ longer) (onto_first x longer)) ≡ first_of (cond t ([] ∷ parts) (onto_first x parts))
 first_by x longer parts same true = refl
 first_by x longer parts same false = first_onto x longer ∙ ap (λ part. x ∷ part) same ∙ sym (first_onto x parts)
 
--- what comes after a text at which it is cut does not change its first part
+-- the text after a cut does not change its first part
 first_before : (label after : List ℕ) → begins_cut after ≡ true → first_of (slice_split cuts (label ++ after)) ≡ first_of (slice_split cuts label)
 first_before [] [] begins = refl
 first_before [] (b ∷ bs) begins = ap (λ t. first_of (cond t ([] ∷ slice_split cuts bs) (onto_first b (slice_split cuts bs)))) begins
@@ -97,7 +97,7 @@ first_trimmed (part ∷ parts) some = refl
 some_part : (text : List ℕ) → 0 < length (slice_split cuts text)
 some_part text = omega (arith, length-slice_split cuts text)
 
--- where the first passes, one does
+-- if the first passes, one does
 passes_first : (test : List ℕ → Bool) (parts : List (List ℕ)) → 0 < length parts → test (trim (first_of parts)) ≡ true → passes test parts ≡ true
 passes_first test [] some first = absurd (omega arith)
 passes_first test (part ∷ parts) some first = ap (λ o. o || passes test parts) first
@@ -106,7 +106,7 @@ or_true : (b : Bool) → (b || true) ≡ true
 or_true true = refl
 or_true false = refl
 
--- where a later one passes, one does
+-- if a later one passes, one does
 passes_later : (test : List ℕ → Bool) (parts : List (List ℕ)) → passes test (later parts) ≡ true → passes test parts ≡ true
 passes_later test [] held = held
 passes_later test (part ∷ parts) held = ap (λ o. test (trim part) || o) held ∙ or_true (test (trim part))
@@ -120,7 +120,7 @@ later_by : (test : List ℕ → Bool) (x : ℕ) (parts : List (List ℕ)) → pa
 later_by test x parts held true = passes_later test parts held
 later_by test x parts held false = later_onto test x parts held
 
--- a part of a text is one of those after the first, where something stands before the text
+-- a part of a text is one of those after the first, if there is something before the text
 passes_after : (test : List ℕ → Bool) (b : ℕ) (before text : List ℕ) → ends_cut (b ∷ before) ≡ true → passes test (slice_split cuts text) ≡ true →
     passes test (later (slice_split cuts (b ∷ before ++ text))) ≡ true
 passes_after test b [] text ends held = ap (λ t. passes test (later (cond t ([] ∷ slice_split cuts text) (onto_first b (slice_split cuts text))))) ends ∙ held
@@ -131,7 +131,7 @@ passes_whole : (test : List ℕ → Bool) (before text : List ℕ) → ends_cut 
 passes_whole test [] text ends held = held
 passes_whole test (b ∷ bs) text ends held = passes_later test (slice_split cuts (b ∷ bs ++ text)) (passes_after test b bs text ends held)
 
--- the first piece of a label that stands in arguments is one of theirs
+-- the first piece of a label in arguments is one of theirs
 stands_held : (label arguments : List ℕ) → Stands label arguments → list_any (same_text (first_piece label)) (pieces arguments) ≡ true
 stands_held label arguments stands =
     let test = same_text (first_piece label) in
@@ -142,7 +142,7 @@ stands_held label arguments stands =
     ap (λ text. passes test (slice_split cuts text)) stands.whole
     ∙ passes_whole test stands.before after stands.ends (passes_first test (slice_split cuts after) (some_part after) first)
 
--- the entry of an application that the table lacks, with such arguments, holds it
+-- the entry of an application that the table lacks, with such arguments, has it
 held_by : (known : List ℕ → Bool) (label : List ℕ) (other : Entry) → known other.application ≡ false → Stands label other.arguments →
     holds known (first_piece label) other ≡ true
 held_by known label other lacks stands =

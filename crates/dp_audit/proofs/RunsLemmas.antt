@@ -1,4 +1,4 @@
--- A call that meets an entry at home goes to where its successor says.
+-- A call that meets an entry at home goes where its successor says.
 use Rattle.std.proofs.Common.{◌≡◌, ℕ, zero, suc, ◌+◌, Bool, true, false, true≢false, ◌&&◌, ◌==◌, List, [], ◌∷◌, map, get_or, slice_get, Option, Some, None, IsSome, codes, option_and_then, option_map, if◌then◌else◌, MatchOption, refl, sym, ap, subst, ◌∙◌}
 use Rattle.std.specs.Option.{option_map_or}
 use Rattle.std.specs.Cmp.Lexicographic.{bytes_decides}
@@ -28,7 +28,7 @@ use Rattle.dp_audit.specs.Runs.{CallPlace, MeetsHome, place_entry, next_place, p
 use Rattle.dp_audit.specs.Targets.{PartsOf, part_or, parts_of, parts_stand}
 use Rattle.dp_audit.proofs.WalkLemmas.{returning, stepped}
 
--- ---- what is dialled with dashes
+-- ---- what is dialled, with dashes
 
 module _ (plan : PlanOf) (a b : List ℕ) (same : without_dashes a ≡ without_dashes b) where
   entry_dashes : (order : List ℕ) (priority : ℕ) → found_entry plan order a priority ≡ found_entry plan order b priority
@@ -59,7 +59,7 @@ part_dashes a b (c ∷ part) same = refl
 
 -- ---- the entry that is at home
 
--- a name of a context, by its number
+-- the name of a context, given its number
 module _ (plan : PlanOf) (name : List ℕ) (number : ℕ) (found : number_of plan name ≡ Some number) where
   abbrev names : List (List ℕ)
   names = map (λ (context : PlanContext). context.name) plan.contexts
@@ -79,7 +79,7 @@ module _ (plan : PlanOf) (name : List ℕ) (number : ℕ) (found : number_of pla
           subst (λ (other : List ℕ). same_text name other ≡ true) there (position-Some (same_text name) names number name found).1 in
           (bytes_decides name context.name).0 same ∙ sym (ap (λ (o : Option PlanContext). option_map_or (λ (context : PlanContext). context.name) o []) is)
 
--- what is known where an entry is met at home
+-- what is known if an entry is met at home
 record AtHome (plan : PlanOf) (place : CallPlace) (id : EntryId) : Type 0 where
   found : place_entry plan place ≡ Some id
   number : number_of plan place.context ≡ Some id.context

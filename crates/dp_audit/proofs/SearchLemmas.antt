@@ -1,4 +1,4 @@
--- The search for loops: what is known after one walk more, and at last.
+-- The search for loops: what is known after one more walk, and at the end.
 use Rattle.std.proofs.Common.{◌≡◌, ℕ, ◌<◌, ◌⊎◌, inl, inr, ◌↔◌, Bool, true, false, true≢false, List, [], ◌∷◌, if◌then◌else◌, Option, Some, None, option_and_then, arith, refl, sym, ap, subst, ◌∙◌}
 use Rattle.std.specs.Prelude.{Contains}
 use Rattle.std.specs.List.{range_with_len}
@@ -27,7 +27,7 @@ module _ (onward : List ℕ → Bool) (plan : PlanOf) where
   no_successor id none =
       ap (option_and_then (λ (entry : Entry). successor_by onward plan (context_name plan id.context) entry entry.name)) none
 
-  -- an entry from which a call goes is one
+  -- an entry from which a call goes on is one
   goes_from : (id next : EntryId) → successor onward plan id ≡ Some next → Entered plan id
   goes_from id next goes = by (entry_at plan id) refl
     where
@@ -117,7 +117,7 @@ module _ (onward : List ℕ → Bool) (plan : PlanOf) where
 
 -- ---- the list
 
--- an entry that is told passes the test
+-- an entry that is reported passes the test
 told_passes : (test : EntryId → Bool) (other id : EntryId) → Contains (loop_if test other) (loop_of id) → test id ≡ true
 told_passes test other id told = by (test other) refl told
   where
@@ -128,7 +128,7 @@ told_passes test other id told = by (test other) refl told
       | inr later ↦ absurd (nothing_there (loop_of id) later)
     ]
 
--- the list has an entry of the dialplan exactly where it passes the test
+-- the list has an entry of the dialplan exactly if it passes the test
 told_decides : (test : EntryId → Bool) (plan : PlanOf) (id : EntryId) → (test id ≡ true → Entered plan id) → Contains (loops_by test plan) (loop_of id) ↔ (test id ≡ true)
 told_decides test plan id entered = (
   λ told.

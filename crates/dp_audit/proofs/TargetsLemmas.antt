@@ -21,7 +21,7 @@ filter_sides test first second =
     ∙ ap (λ ys. filter test (option_to_list first) ++ ys) (filter_side test second)
     ∙ sym (filter-append test (option_to_list first) (option_to_list second))
 
--- what is made of both sides, after others
+-- the result for both sides, after others
 pub map_sides : {X : Type 0} (f : List ℕ → X) (before : List X) (first second : Option (List ℕ)) →
     (before ++ map f (option_to_list first)) ++ map f (option_to_list second) ≡ before ++ map f (sides first second)
 map_sides f before first second =

@@ -25,12 +25,12 @@ adds_both a b c xs ys first second name =
     ∙ or_assoc (has_set a name) (list_any (same_text name) xs) (list_any (same_text name) ys)
     ∙ ap (λ o. has_set a name || o) (sym (list_any-append (same_text name) xs ys))
 
--- what is left at a place of a list, with the element there
+-- the rest of a list from a place on, with the element there
 drop_next : {X : Type 0} (xs : List X) (place : ℕ) (x : X) → place < length xs → get_or xs place x ≡ x → drop place xs ≡ x ∷ drop (place + 1) xs
 drop_next xs place x within here =
     drop-cons xs place x within ∙ ap (λ y. y ∷ drop (suc place) xs) here ∙ ap (λ next. x ∷ drop next xs) (sym (add-one place))
 
--- what one of a list sets, and then what those after it set
+-- what one element of a list sets, and then what those after it set
 pub adds_next : {X : Type 0} (f : X → List (List ℕ)) (now new last : SetNames) (xs : List X) (place : ℕ) (x : X) → place < length xs →
     get_or xs place x ≡ x → Adds now new (f x) → Adds new last (flat_map f (drop (place + 1) xs)) → Adds now last (flat_map f (drop place xs))
 adds_next f now new last xs place x within here noted rest =
@@ -41,7 +41,7 @@ adds_next f now new last xs place x within here noted rest =
 pub adds_end : {X : Type 0} (f : X → List (List ℕ)) (now : SetNames) (xs : List X) (place : ℕ) → length xs ≤ place → Adds now now (flat_map f (drop place xs))
 adds_end f now xs place past = subst (λ left. Adds now now (flat_map f left)) (sym (drop_all place xs past)) (adds_none now)
 
--- the name of one argument more
+-- the name of one more argument
 pub adds_argument : (a b c : SetNames) (count : ℕ) → Adds a b (argument_names count) → Adds b c (argument_name (count + 1) ∷ []) → Adds a c (argument_names (count + 1))
 adds_argument a b c count before one =
     subst (Adds a c) (sym (map-range_with_len_more argument_name 1 count (count + 1) (omega arith)))
@@ -53,7 +53,7 @@ pub lacks_are_unset : (plan : PlanOf) (noted : SetNames) (entry : Entry) → Are
 unfolding unset_names
 lacks_are_unset plan noted entry are = λ i. filter (λ name. not (is_given name || are name i)) (names_read entry.arguments)
 
--- the names that a text reads and that are not noted, with what a byte opens before it
+-- the names that a text reads and that are not noted, after the one that a byte opens
 pub names_next : (noted : SetNames) (found : List ℕ → Finding) (before : List Finding) (byte : ℕ) (after : List ℕ) →
     (before ++ map found (filter (lacks noted) (option_to_list (name_after byte after)))) ++ map found (filter (lacks noted) (names_read after))
     ≡ before ++ map found (filter (lacks noted) (names_read (byte ∷ after)))

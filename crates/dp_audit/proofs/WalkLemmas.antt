@@ -1,4 +1,4 @@
--- Walks by a step that leads to one element at most, and the loops that they come to.
+-- Walks by a step that leads to at most one element, and the loops that they reach.
 use Rattle.std.proofs.Common.{◌≡◌, ℕ, zero, suc, ◌+◌, ◌-◌, ◌<◌, ◌⊎◌, inl, inr, Bool, true, false, List, [], ◌∷◌, ◌++◌, length, slice_get, Option, Some, None, option_and_then, arith, refl, sym, ap, subst, ◌∙◌}
 use Rattle.std.proofs.lemmas.Bool.{cases_lt}
 use Rattle.std.proofs.lemmas.Option.{none-some, same_Some, slice_get_within}
@@ -50,11 +50,11 @@ module _ {X : Type 0} (step : X → Option X) where
   one_step None = refl
   one_step (Some x) = refl
 
-  -- one step more
+  -- one more step
   pub after-more : (n : ℕ) (x y : X) → after step n x ≡ Some y → after step (suc n) x ≡ step y
   after-more n x y here = after-add n (suc zero) (suc n) x y (omega arith) here ∙ one_step (step y)
 
-  -- the first step, where there are some
+  -- the first step, if there are any
   pub record Stepped (x : X) (more : ℕ) (end : X) : Type 0 where
     pub next : X
     pub there : step x ≡ Some next
@@ -67,7 +67,7 @@ module _ {X : Type 0} (step : X → Option X) where
       by None is here = absurd (none-some end here)
       by (Some next) is here = record { next = next; there = is; leads = here }
 
-  -- from where some steps lead, one or more lead back
+  -- if some steps lead to an element of a loop, one or more lead back
   pub record Returning (x : X) (count : ℕ) : Type 0 where
     pub end : X
     pub there : after step count x ≡ Some end
@@ -84,7 +84,7 @@ module _ {X : Type 0} (step : X → Option X) where
           record { end = next; there = there; more = m; leads = subst (λ (y : X). after step (suc m) y ≡ Some x) (sym (same_Some next x leads)) again }
       by (suc more) next there leads = record { end = next; there = there; more = more; leads = leads }
 
-  -- what comes to itself again does so from wherever its steps lead
+  -- what reaches itself again also does so from wherever its steps lead
   pub returning : (m : ℕ) (x : X) → after step (suc m) x ≡ Some x → (count : ℕ) → Returning x count
   returning m x again zero = record { end = x; there = refl; more = m; leads = again }
   returning m x again (suc count) = returns_next m x again count (returning m x again count)
@@ -113,11 +113,11 @@ module _ {X : Type 0} (step : X → Option X) where
 -- ---- a walk and its end
 
 module _ {X : Type 0} (step : X → Option X) (start : X) (path : List X) (end : Option X) (walk : IsWalk step start path end) where
-  -- what stands at a place is where so many steps lead
+  -- the element at a place is where this number of steps leads
   at_place : (place : ℕ) (x : X) → slice_get path place ≡ Some x → after step place start ≡ Some x
   at_place place x there = sym (walk.each place (slice_get_within path place x there)) ∙ there
 
-  -- the next one stands after it, or is the end
+  -- the next one comes after it, or is the end
   next_in : (place : ℕ) (x : X) → slice_get path place ≡ Some x → (slice_get path (suc place) ≡ step x) ⊎ (end ≡ step x)
   next_in place x there = elim (cases_lt (suc place) (length path)) [
     | inl early ↦ inl (walk.each (suc place) early ∙ after-more step place start x (at_place place x there))
@@ -133,7 +133,7 @@ module _ {X : Type 0} (step : X → Option X) (start : X) (path : List X) (end :
       let below = slice_get_within path place x there in
       sym (after-add step place (length path - place) (length path) start x (omega (arith, below)) (at_place place x there)) ∙ walk.last
 
--- ---- a walk that comes to its own path
+-- ---- a walk that reaches its own path
 
 module _ {X : Type 0} (step : X → Option X) (before : X → X → Bool) (start : X) (path : List X) (end : Option X) (walk : IsWalk step start path end) (a : X) (is : end ≡ Some a) (place : ℕ) (back : slice_get path place ≡ Some a) where
   -- steps from there stay in the path, not before the place
@@ -155,7 +155,7 @@ module _ {X : Type 0} (step : X → Option X) (before : X → X → Bool) (start
       sym (after-add step place (from.number - place) from.number start a (omega (arith, from.late)) (at_place step start path end walk place a back))
       ∙ at_place step start path end walk from.number x from.there
 
-  -- the least from there on is the first of a loop
+  -- the least element from there on is the first of a loop
   pub least_is_first : (x : X) → IsLeastFrom before path place x → IsFirstOfLoop step before x
   least_is_first x least =
       let number = least.among.number in
@@ -184,9 +184,9 @@ module _ {X : Type 0} (step : X → Option X) (before : X → X → Bool) (start
       ∙ from_there x least.among in
       one y x (least.least y y_from) (first.first ((length path - number) + (least.among.number - place)) x to_x)
 
--- the path is left for one of its own, and the least from there on is the first of a loop
+-- if the path is left for one of its own elements, the least from there on is the first of a loop
 module _ {X : Type 0} (step : X → Option X) (before : X → X → Bool) (start : X) (path : List X) (end : Option X) (walk : IsWalk step start path end) (x : X) (closes : Closes before path end x) where
-  -- the one to which the path comes back
+  -- the element to which the path comes back
   record Back : Type 0 where
     a : X
     is : end ≡ Some a
@@ -208,7 +208,7 @@ module _ {X : Type 0} (step : X → Option X) (before : X → X → Bool) (start
   closes_alone : ((x y : X) → before x y ≡ false → before y x ≡ false → x ≡ y) → (y : X) → IsFrom path 0 y → IsFirstOfLoop step before y → y ≡ x
   closes_alone one y from first = first_is_least step before start path end walk come_back.a come_back.is closes.place come_back.back one x closes.least y from first
 
--- a loop leads on from its first
+-- a loop goes on from its first element
 pub record Leads {X : Type 0} (step : X → Option X) (x : X) : Type 0 where
   pub next : X
   pub there : step x ≡ Some next
@@ -249,7 +249,7 @@ module _ {X : Type 0} (step : X → Option X) (before : X → X → Bool) (seen 
           let one = stepped step count next y leads in
           absurd (none-some one.next (sym none ∙ one.there))
 
-  -- where the path is left for none of its own, none of it comes to itself again, unless it was seen earlier
+  -- if the path is left for none of its own elements, none of them reaches itself again, unless it was seen earlier
   module _ (open_end : IsOpen path end) (x : X) (from : IsFrom path 0 x) (first : IsFirstOfLoop step before x) where
     goes_on : (y : X) → step x ≡ Some y → step x ≡ None → ⊥
     goes_on y there none = none-some y (sym none ∙ there)
@@ -281,7 +281,7 @@ module _ {X : Type 0} (step : X → Option X) (before : X → X → Bool) (seen 
             let same : again_at_end.end ≡ a = same_Some again_at_end.end a (sym again_at_end.there ∙ (to_end step start path end walk from.number x from.there ∙ is)) in
             at_some a is (subst (λ (z : X). after step (suc again_at_end.more) z ≡ Some x) same again_at_end.leads)
 
-  -- the path is left for none of its own
+  -- the path is left for none of its own elements
   pub searched_open : IsOpen path end → IsSearched step before now_seen firsts
   searched_open open_end = record {
     closed = closed_after;
@@ -292,7 +292,7 @@ module _ {X : Type 0} (step : X → Option X) (before : X → X → Bool) (seen 
     ];
   }
 
-  -- the path is left for one of its own, and the least from there on is marked
+  -- the path is left for one of its own elements, and the least from there on is marked
   pub searched_closed : ((x y : X) → before x y ≡ false → before y x ≡ false → x ≡ y) → (x : X) → Closes before path end x → (now_firsts : X → Bool)
       → ((y : X) → firsts y ≡ true → now_firsts y ≡ true) → now_firsts x ≡ true → ((y : X) → now_firsts y ≡ true → (firsts y ≡ true) ⊎ (y ≡ x))
       → IsSearched step before now_seen now_firsts

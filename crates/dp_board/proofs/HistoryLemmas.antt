@@ -29,7 +29,7 @@ record RiseFrom (place : ℕ) (numbers : List ℕ) : Type 0 where
 RiseFrom-none : (place : ℕ) → RiseFrom place []
 RiseFrom-none place = record { above = λ k d l. absurd (omega (arith, l)); rise = λ k l. absurd (omega (arith, l)) }
 
--- one number in front
+-- one number at the front
 RiseFrom-here : (place : ℕ) (numbers : List ℕ) → RiseFrom (place + 1) numbers → RiseFrom place (place ∷ numbers)
 RiseFrom-here place numbers later = record { above = above; rise = rise } where
   above : All (λ number. place ≤ number) (place ∷ numbers)
@@ -43,7 +43,7 @@ RiseFrom-here place numbers later = record { above = above; rise = rise } where
       let same : suc k + 1 ≡ suc (k + 1) = omega arith in
       subst (λ n. get_or numbers k 0 < get_or (place ∷ numbers) n 0) (sym same) next
 
--- none in front
+-- none at the front
 RiseFrom-later : (place : ℕ) (numbers : List ℕ) → RiseFrom (place + 1) numbers → RiseFrom place numbers
 RiseFrom-later place numbers later =
     record { above = λ k d l. let next : place + 1 ≤ get_or numbers k d = later.above k d l in omega (arith, next); rise = later.rise }

@@ -1,4 +1,4 @@
--- What the first entries tell a seat, how many entries are a seat's, and records whose calls stand at their places.
+-- The entries of a seat among the first entries, the number of a seat's entries, and records whose calls are at their places.
 use Rattle.std.proofs.Common.{zero, suc, ◌≡◌, ℕ, ◌+◌, ◌-◌, ◌<◌, ◌≤◌, ◌==◌, Bool, true, false, true≢false, List, [], ◌∷◌, ◌++◌}
 use Rattle.std.proofs.Common.{Option, Some, None, length, map, take, drop, get_or, set, replicate, slice_get, slice_index, if◌then◌else◌}
 use Rattle.std.proofs.Common.{refl, sym, ap, subst, ◌∙◌, arith}
@@ -12,7 +12,7 @@ use Rattle.dp_board.specs.declared.seat_call.SeatCall.{SeatCall}
 use Rattle.dp_board.specs.steps.Places.{CountsEntries, IsToldBy}
 use Rattle.dp_board.proofs.HistoryLemmas.{PlacesRise-of}
 
--- what more entries tell comes after
+-- a seat's entries among more entries come after
 told_from-append : (seat place : ℕ) (xs ys : List Entry)
     → told_from seat place (xs ++ ys) ≡ told_from seat place xs ++ told_from seat (place + length xs) ys
 told_from-append seat place [] ys = ap (λ n. told_from seat n ys) (omega arith)
@@ -26,11 +26,11 @@ told_from-append seat place (x ∷ xs) ys = by (x.seat == seat)
       by true rest = ap (λ l. told_of place x ∷ l) rest
       by false rest = rest
 
--- and so where the first of them stands at 0
+-- and so if the first of them is at 0
 told_to-append : (seat : ℕ) (xs ys : List Entry) → told_to seat (xs ++ ys) ≡ told_to seat xs ++ told_from seat (length xs) ys
 told_to-append seat xs ys = told_from-append seat 0 xs ys ∙ ap (λ n. told_to seat xs ++ told_from seat n ys) (omega arith)
 
--- a seat is told of no more calls than there are entries
+-- a seat has no more entries than there are
 pub told_from-few : (seat place : ℕ) (entries : List Entry) → length (told_from seat place entries) ≤ length entries
 told_from-few seat place [] = omega arith
 told_from-few seat place (x ∷ xs) = by (x.seat == seat) (told_from-few seat (place + 1) xs) where
@@ -39,7 +39,7 @@ told_from-few seat place (x ∷ xs) = by (x.seat == seat) (told_from-few seat (p
   by true rest = omega (arith, rest)
   by false rest = omega (arith, rest)
 
--- what one more entry tells, where it is the seat's own, or another's
+-- one more entry, if it is the seat's own, or another's
 told_to-one : (seat : ℕ) (entries : List Entry) (entry : Entry) (own : Bool) → (entry.seat == seat) ≡ own
     → told_to seat (entries ++ entry ∷ []) ≡ told_to seat entries ++ (if own then told_of (length entries) entry ∷ [] else [])
 told_to-one seat entries entry own is =
@@ -80,11 +80,11 @@ CountsEntries-more now before entry new counts within set_is len seat lt = by (e
       let more = ap length (told_to-one seat before entry false other) in
       omega (arith, here, counted, more, length-append (told_to seat before) [])
 
--- what the entries before a place tell a seat
+-- a seat's entries before a place
 abbrev told_before : ℕ → List Entry → ℕ → List SeatCall
 told_before seat entries place = told_to seat (take place entries)
 
--- what the entries from one place to another tell it
+-- a seat's entries from one place to another
 abbrev told_between : ℕ → List Entry → ℕ → ℕ → List SeatCall
 told_between seat entries next place = told_from seat (length (take next entries)) (drop next (take place entries))
 
@@ -96,13 +96,13 @@ told_before-more seat entries next place le =
     ∙ (ap (λ (l : List Entry). told_to seat (l ++ drop next (take place entries))) (take-take next place entries le)
     ∙ told_to-append seat (take next entries) (drop next (take place entries)))
 
--- a list that goes on after another, and is no longer
+-- a list that continues another, and is not longer
 no-longer : (xs ys all : List SeatCall) → all ≡ xs ++ ys → length all ≤ length xs → all ≡ xs
 no-longer xs ys all is le =
     let none : length ys ≡ 0 = omega (arith, ap length is, length-append xs ys) in
     is ∙ (ap (λ (l : List SeatCall). xs ++ l) (nil_from_length ys none) ∙ append-nil xs)
 
--- what the entries tell a seat up to one of its own
+-- a seat's entries up to one of its own
 told_before-own : (seat : ℕ) (entries : List Entry) (call : SeatCall) (entry : Entry) → slice_get entries call.place ≡ Some entry
     → IsToldBy seat call (Some entry) → told_before seat entries (call.place + 1) ≡ told_before seat entries call.place ++ call ∷ []
 told_before-own seat entries call entry there is =
@@ -118,8 +118,8 @@ told_before-own seat entries call entry there is =
 abbrev places : List SeatCall → List ℕ
 places told = map (λ call. call.place) told
 
--- so many calls of a record stand at their places, before the next place, which is the one after the last of them: they are no more
--- than what the entries before it tell the seat, and they are that where they are as many
+-- this number of calls of a record are at their places, before the next place, which is the one after the last of them: they are no more
+-- than the seat's entries before it, and are these entries if they are as many
 pub record StandBefore (seat : ℕ) (entries : List Entry) (told : List SeatCall) (count next : ℕ) : Type 0 where
   pub few : count ≤ length (told_before seat entries next)
   pub same : count ≡ length (told_before seat entries next) → take count told ≡ told_before seat entries next
@@ -131,7 +131,7 @@ place-at : (told : List SeatCall) (index : ℕ) (call : SeatCall) → index < le
     → get_or (places told) index 0 ≡ call.place
 place-at told index call lt here = get_or-map (λ (c : SeatCall). c.place) told index call 0 lt ∙ ap (λ (c : SeatCall). c.place) here
 
--- one more call, which its entry tells
+-- one more call, which is that of its entry
 more : (seat : ℕ) (entries : List Entry) (told : List SeatCall) (count next : ℕ) (call : SeatCall) (entry : Entry)
     → StandBefore seat entries told count next → next ≤ call.place → count < length told → get_or told count call ≡ call
     → slice_get entries call.place ≡ Some entry → IsToldBy seat call (Some entry)
@@ -173,7 +173,7 @@ pub place-within : (seat : ℕ) (entries : List Entry) (call : SeatCall) (found 
 place-within seat entries call None there is = absurd is
 place-within seat entries call (Some entry) there is = slice_get_within entries call.place entry there
 
--- after the last call, where there are as many calls as entries of the seat
+-- after the last call, if there are as many calls as entries of the seat
 pub StandBefore-all : (seat : ℕ) (entries : List Entry) (told : List SeatCall) (count next : ℕ) → StandBefore seat entries told count next
     → length told ≤ count → length told ≡ length (told_to seat entries) → told_to seat entries ≡ told
 StandBefore-all seat entries told count next before all len =
@@ -185,7 +185,7 @@ StandBefore-all seat entries told count next before all len =
     no-longer old rest (told_to seat entries) on (omega (arith, before.few, sum, len, all))
     ∙ (sym (before.same (omega (arith, before.few, sum, len, all))) ∙ take_all count told all)
 
--- in a record that is what the entries tell, the place of the next call is not before the one after the last call's
+-- in a record that has the seat's entries, the place of the next call is not before the one after the last call's
 pub StandBefore-reaches : (seat : ℕ) (entries : List Entry) (told : List SeatCall) (count next : ℕ) (call : SeatCall)
     → StandBefore seat entries told count next → told_to seat entries ≡ told → count < length told → get_or told count call ≡ call
     → next ≤ call.place
@@ -198,7 +198,7 @@ StandBefore-reaches seat entries told (suc index) next call before same lt here 
     ap (λ n. get_or (places told) n 0) (omega arith) ∙ place-at told (suc index) call lt here in
     omega (arith, rise, at, before.last index (omega arith))
 
--- a call stands at its place among entries, of which the first stands at this place
+-- a call is at its place among entries, the first of which is at this place
 record StandsFrom (seat place : ℕ) (entries : List Entry) (call : SeatCall) : Type 0 where
   from : place ≤ call.place
   there : IsToldBy seat call (slice_get entries (call.place - place))
@@ -223,7 +223,7 @@ StandsFrom-later seat place entry entries call later =
       there = subst (λ n. IsToldBy seat call (slice_get (entry ∷ entries) n)) (sym one) later.there;
     }
 
--- each call of which the entries tell
+-- each call among the seat's entries
 told_from-stands : (seat place : ℕ) (entries : List Entry) (index : ℕ) (call : SeatCall)
     → slice_get (told_from seat place entries) index ≡ Some call → StandsFrom seat place entries call
 told_from-stands seat place [] index call is = absurd (none-some call is)
@@ -238,7 +238,7 @@ told_from-stands seat place (entry ∷ entries) index call is = by (entry.seat =
       by true own (suc index) is later = later index is
       by false other index is later = later index is
 
--- and so each call of a record that is what they tell
+-- and so each call of a record that has them
 pub told-stands : (seat : ℕ) (entries : List Entry) (told : List SeatCall) (index : ℕ) (call : SeatCall) → told_to seat entries ≡ told
     → index < length told → get_or told index call ≡ call → IsToldBy seat call (slice_get entries call.place)
 told-stands seat entries told index call same lt here =

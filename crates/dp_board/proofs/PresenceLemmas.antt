@@ -9,7 +9,7 @@ use Rattle.dp_board.specs.steps.Presence.{is_marked, unmarked_in, MarksSeats, Al
 use Rattle.dp_board.specs.Settled.{has_seat, AllPresent, IsLeastAbsent}
 use Rattle.dp_board.specs.Sittings.{Sitting}
 
--- a seat more
+-- one more seat
 has_seat-push : (seats : List Sitting) (seat : Sitting) (number : ℕ) (b : Bool) → (seat.number == number) ≡ b → has_seat (seats ++ seat ∷ []) number ≡ (has_seat seats number || b)
 has_seat-push seats seat number b is =
     list_any-append (λ (s : Sitting). s.number == number) seats (seat ∷ [])
@@ -37,7 +37,7 @@ at_most_one : (b : Bool) → (if b then 0 else 1) ≤ 1
 at_most_one true = omega arith
 at_most_one false = omega arith
 
--- one number fewer has no mark
+-- one number below has no mark
 pub unmarked-set : (now new : List Bool) (number : ℕ) → number < length now → new ≡ set now number true → unmarked_in now ≤ unmarked_in new + 1
 unmarked-set now new number within set_is =
     let sums = sum_by-set (λ (b : Bool). if b then 0 else 1) now number true false within in
@@ -53,7 +53,7 @@ length-fresh : (count : ℕ) → length (replicate count false) ≡ count
 length-fresh zero = refl
 length-fresh (suc count) = ap (λ n. suc n) (length-fresh count)
 
--- in a table that had no marks, the marks are the seats
+-- in a table without marks before, the marks are the seats
 marks-fresh : (old present : List Bool) (count : ℕ) (seats : List Sitting) → old ≡ replicate count false → MarksSeats old seats present → (number : ℕ) → number < count → is_marked present number ≡ has_seat seats number
 marks-fresh old present count seats fresh marks number lt =
     marks number (omega (arith, lt, ap length fresh, length-fresh count))

@@ -14,15 +14,15 @@ use Rattle.dp_board.specs.Sittings.{Sitting}
 use Rattle.dp_board.specs.declared.difference.Disagree.{Disagree}
 use Rattle.dp_board.specs.declared.entry.Entry.{Entry}
 
--- what is found of some seats
+-- what is found about some seats
 abbrev pub Finds : List Entry → List Sitting → Option Disagree → Type 0
 Finds entries seats least = MatchOption least (All (Agrees entries) seats) (IsLeastDifference entries seats)
 
--- what is found of one seat
+-- what is found about one seat
 abbrev pub FindsOne : List Entry → Sitting → Option Disagree → Type 0
 FindsOne entries seat found = MatchOption found (Agrees entries seat) (λ d. (d.seat ≡ seat.number) × FirstDiffers (told_to seat.number entries) seat.told d.index)
 
--- one seat more, which agrees
+-- one more seat, which agrees
 still-least : (entries : List Entry) (before : List Sitting) (seat : Sitting) (least : Disagree) → IsLeastDifference entries before least → (seat.number < least.seat → Agrees entries seat) → IsLeastDifference entries (before ++ seat ∷ []) least
 still-least entries before seat least d agrees = record {
   before = d.before;
@@ -34,7 +34,7 @@ still-least entries before seat least d agrees = record {
   least = All-push (λ (other : Sitting). other.number < least.seat → Agrees entries other) before seat d.least agrees;
 }
 
--- one seat more, which differs and is the least so far
+-- one more seat, which differs and is the least so far
 now-least : (entries : List Entry) (before : List Sitting) (seat : Sitting) (found : Disagree) → (found.seat ≡ seat.number) × FirstDiffers (told_to seat.number entries) seat.told found.index → All (λ (other : Sitting). other.number < found.seat → Agrees entries other) before → IsLeastDifference entries (before ++ seat ∷ []) found
 now-least entries before seat found one least = record {
   before = before;
@@ -46,7 +46,7 @@ now-least entries before seat found one least = record {
   least = All-push (λ (other : Sitting). other.number < found.seat → Agrees entries other) before seat least (λ lt. absurd (omega (arith, lt, one.0)));
 }
 
--- one seat more
+-- one more seat
 Finds-more : (entries : List Entry) (before : List Sitting) (seat : Sitting) (least found : Option Disagree) → Finds entries before least → FindsOne entries seat found → Finds entries (before ++ seat ∷ []) (lesser least found)
 Finds-more entries before seat None None so_far one = All-push (Agrees entries) before seat so_far one
 Finds-more entries before seat None (Some e) so_far one = now-least entries before seat e one (λ k d lt less. so_far k d lt)
@@ -67,7 +67,7 @@ Finds-next entries seats index seat least found next lt there is so_far one =
     (subst (λ (o : Option Disagree). Finds entries (take index seats ++ seat ∷ []) o) (sym is)
     (Finds-more entries (take index seats) seat least found so_far one))
 
--- the counts of seats, whichever way round
+-- the counts of seats, in either order
 pub calls-reverse : (seats : List Sitting) → calls_of (reverse seats) ≡ calls_of seats
 calls-reverse seats = sum_by-IsPermutation (λ (s : Sitting). length s.told) seats (reverse seats) (IsPermutation-reverse seats)
 

@@ -1,4 +1,4 @@
--- What a seat gains step after step.
+-- What each step adds to the record of a seat.
 use Rattle.std.proofs.Common.{◌≡◌, ℕ, ◌+◌, ◌-◌, Bool, List, [], ◌∷◌, ◌++◌, Option, Some, None, MatchOption, length, take, drop, refl, sym, ap, subst, ◌∙◌, arith, All}
 use Rattle.std.proofs.Math.Seq.{drop-append_seam, take-append_seam}
 use Rattle.std.proofs.lemmas.List.{append-nil, append_assoc, length-append}
@@ -15,11 +15,11 @@ use Rattle.dp_board.specs.Attending.{IsStepOf, AddsSteps, Leaves, GoesOn, GoesOn
 use Rattle.dp_board.specs.declared.attend.Why.{Why}
 use Rattle.dp_board.specs.declared.attend.Why.TheVariants.{Ended, TurnsSpent, Refused}
 
--- what was added to a record stands after it
+-- what was added to a record comes after it
 calls_since-is : (old new : Sitting) (calls : List SeatCall) → new.told ≡ old.told ++ calls → calls_since old new ≡ calls
 calls_since-is old new calls told = ap (drop (length old.told)) told ∙ drop-append_seam old.told calls
 
--- a record with these calls after it, which are steps
+-- a record followed by these calls, which are steps
 AddsSteps-of : (channel : ℕ) (old new : Sitting) (calls : List SeatCall) → new.number ≡ old.number → new.told ≡ old.told ++ calls → All (IsStepOf channel) calls → AddsSteps channel old new
 AddsSteps-of channel old new calls number told steps =
     let is : calls_since old new ≡ calls = calls_since-is old new calls told in
@@ -33,13 +33,13 @@ AddsSteps-of channel old new calls number told steps =
 pub AddsSteps-none : (channel : ℕ) (seat : Sitting) → AddsSteps channel seat seat
 AddsSteps-none channel seat = AddsSteps-of channel seat seat [] refl (sym (append-nil seat.told)) (All-nil (IsStepOf channel))
 
--- the record after one step more
+-- the record after one more step
 told-more : (channel : ℕ) (old seat new : Sitting) (place : ℕ) (reply : Reply) → AddsSteps channel old seat → new ≡ with_step seat channel place reply → new.told ≡ old.told ++ (calls_since old seat ++ (call_of place (step channel) reply) ∷ [])
 told-more channel old seat new place reply before one =
     ap (λ (s : Sitting). s.told) one
     ∙ (ap (λ (l : List SeatCall). l ++ (call_of place (step channel) reply) ∷ []) before.told ∙ append_assoc old.told (calls_since old seat) ((call_of place (step channel) reply) ∷ []))
 
--- one step more
+-- one more step
 pub AddsSteps-more : (channel : ℕ) (old seat new : Sitting) (place : ℕ) (reply : Reply) → AddsSteps channel old seat → new ≡ with_step seat channel place reply → AddsSteps channel old new
 AddsSteps-more channel old seat new place reply before one =
     AddsSteps-of channel old new (calls_since old seat ++ (call_of place (step channel) reply) ∷ [])
@@ -47,7 +47,7 @@ AddsSteps-more channel old seat new place reply before one =
     (told-more channel old seat new place reply before one)
     (All-push (IsStepOf channel) (calls_since old seat) (call_of place (step channel) reply) before.steps refl)
 
--- how many calls the seat was told of after one step
+-- the number of calls in the seat's record after one step
 pub count-more : (channel : ℕ) (seat new : Sitting) (place : ℕ) (reply : Reply) → new ≡ with_step seat channel place reply → length new.told ≡ length seat.told + 1
 count-more channel seat new place reply one = ap (λ (s : Sitting). length s.told) one ∙ length-append seat.told ((call_of place (step channel) reply) ∷ [])
 
@@ -57,7 +57,7 @@ last-push [] one = refl
 last-push (first ∷ []) one = refl
 last-push (first ∷ next ∷ rest) one = last-push (next ∷ rest) one
 
--- the calls after one step more
+-- the calls after one more step
 calls_since-more : (channel : ℕ) (old seat new : Sitting) (place : ℕ) (reply : Reply) → AddsSteps channel old seat → new ≡ with_step seat channel place reply → calls_since old new ≡ calls_since old seat ++ (call_of place (step channel) reply) ∷ []
 calls_since-more channel old seat new place reply before one =
     calls_since-is old new (calls_since old seat ++ (call_of place (step channel) reply) ∷ []) (told-more channel old seat new place reply before one)
@@ -70,7 +70,7 @@ last-more channel old seat new place reply before one =
 pub GoesOnAfter-none : (meanings : Meanings) (first : World) (channel : ℕ) (seat : Sitting) → GoesOnAfter meanings first channel (calls_since seat seat)
 GoesOnAfter-none meanings first channel seat = subst (GoesOnAfter meanings first channel) (sym (calls_since-is seat seat [] (sym (append-nil seat.told)))) (All-nil (GoesOn meanings first channel))
 
--- nor after one step more, where that does not
+-- nor after one more step, if that does not
 pub GoesOnAfter-more : (meanings : Meanings) (first : World) (channel : ℕ) (old seat new : Sitting) (place : ℕ) (reply : Reply) → AddsSteps channel old seat → new ≡ with_step seat channel place reply → GoesOnAfter meanings first channel (calls_since old seat) → GoesOn meanings first channel (call_of place (step channel) reply) → GoesOnAfter meanings first channel (calls_since old new)
 GoesOnAfter-more meanings first channel old seat new place reply before one on goes =
     subst (GoesOnAfter meanings first channel) (sym (calls_since-more channel old seat new place reply before one)) (All-push (GoesOn meanings first channel) (calls_since old seat) (call_of place (step channel) reply) on goes)
@@ -83,11 +83,11 @@ GoesOnToLast-more meanings first channel old seat new place reply before one on 
     subst (GoesOnToLast meanings first channel) (sym (calls_since-more channel old seat new place reply before one))
     (subst (GoesOnAfter meanings first channel) (sym (ap (λ n. take n more) count ∙ take-append_seam (calls_since old seat) ((call_of place (step channel) reply) ∷ []))) on)
 
--- where it goes on after all it goes on after all but the last
+-- if it goes on after all steps it goes on after all but the last
 pub GoesOnToLast-all : (meanings : Meanings) (first : World) (channel : ℕ) (given : List SeatCall) → GoesOnAfter meanings first channel given → GoesOnToLast meanings first channel given
 GoesOnToLast-all meanings first channel given on = All-take (GoesOn meanings first channel) (length given - 1) given on
 
--- whether it is over, by the reply and by what the step left
+-- whether it is over, given the reply and what the step left
 pub IsEnd-left : (meanings : Meanings) (first : World) (channel : ℕ) (told : SeatCall) (ended : Bool) (end : Option Why) → Leaves meanings first channel told ended → IsEndAfter ended told.reply end → IsEnd meanings first channel told end
 IsEnd-left meanings first channel told ended None left after =
     record { left = subst (Leaves meanings first channel told) after.0 left; not_over = after.1; there = after.2 }

@@ -8,13 +8,13 @@ use std::alloc::Global;
 use std::process::Abort;
 use std::sync::Wait;
 
-/// What a seat was told last, by its record.
+/// The last item of a seat's record.
 fn last_told<S: Session>(seat: &Seat<S>) -> Option<SeatReply> {
     let call = seat.record().last()?;
     Some((call.place, call.reply))
 }
 
-/// What two seats were told last, where there are two.
+/// The last items of the records of two seats, if there are two.
 pub(super) fn told_of<S: Session>(seats: &[Seat<S>]) -> Option<(SeatReply, SeatReply)> {
     match seats {
         [first, second] => Some((last_told(first)?, last_told(second)?)),
@@ -22,12 +22,12 @@ pub(super) fn told_of<S: Session>(seats: &[Seat<S>]) -> Option<(SeatReply, SeatR
     }
 }
 
-/// The channel that a seat acts for: the one of its number, counted from 1.
+/// The channel for which a seat acts: the one with its number, counted from 1.
 pub(super) fn channel_of<S: Session>(seat: &Seat<S>) -> u32 {
     seat.number().saturating_add(1)
 }
 
-/// What a seat is told of a step of a channel, where memory is not refused.
+/// The result of a step of a channel by a seat, if memory does not run out.
 pub(super) fn step<S: Session, R: Wait>(
     rt: &R,
     alloc: Global,
@@ -38,8 +38,8 @@ pub(super) fn step<S: Session, R: Wait>(
     give(rt, alloc, board, seat, Event::Step { channel })
 }
 
-/// One step of the seat's channel. Where memory is refused the record is as it was, and the step is given once more if that is asked for;
-/// then what is answered stands last in the record.
+/// One step of the seat's channel. If memory runs out, the record is unchanged, and the step is given again if that is asked for; then the
+/// answer is the last item of the record.
 pub(super) fn act_step<S: Session, R: Wait + Abort>(
     rt: &R,
     alloc: Global,
@@ -84,7 +84,7 @@ fn is_step(history: &History<StandardApps>, told: SeatReply, seat: u32, channel:
     }
 }
 
-/// Whether the queue has the member `Line/3` alone.
+/// Whether `Line/3` is the only member of the queue.
 fn has_member(machine: &Exchange) -> bool {
     let queues = machine.queues();
     let (Some(queue), Some(agent)) = (queues.queues().get(0), queues.agents().get(0)) else {
@@ -94,7 +94,7 @@ fn has_member(machine: &Exchange) -> bool {
     members.len() == 1 && members[0].agent == 0 && agent.name.bytes() == b"Line/3".as_slice()
 }
 
-/// The value of a name in a channel, which is asked for once more where memory is refused.
+/// The value of a name in a channel, which is requested again if memory runs out.
 pub(super) fn has_value(
     rt: &impl Abort,
     alloc: Global,
@@ -113,7 +113,7 @@ pub(super) fn has_value(
     value.as_slice() == wanted
 }
 
-/// Whether channel 2 waits where its queue had a member by then, and else goes on and reads why it does not wait.
+/// Whether channel 2 waits if its queue had a member by then, and otherwise goes on and reads why it does not wait.
 fn has_asked(rt: &impl Abort, alloc: Global, machine: &Exchange, is_added: bool) -> bool {
     let phase = machine.phase(2).expect(rt, "a channel");
     if is_added {
@@ -124,7 +124,7 @@ fn has_asked(rt: &impl Abort, alloc: Global, machine: &Exchange, is_added: bool)
     }
 }
 
-/// Holds the history against what the two steps were told.
+/// Compares the history with the results of the two steps.
 pub(super) fn check_steps(
     rt: &impl Abort,
     alloc: Global,
@@ -137,13 +137,13 @@ pub(super) fn check_steps(
     assert!(rt; has_asked(rt, alloc, history.machine(), add.0 == 0));
 }
 
-/// Each call is told the place of its entry, and the board settles once both seats are there.
+/// Each call gets the place of its entry, and the board settles with both seats.
 #[test]
 fn two_seats_step_their_channels(rt: HostRuntime) {
     perform(&rt, rt.alloc(), b"add", b"ask", 2, Play::Steps);
 }
 
-/// A board of no seats has an empty history.
+/// A board without seats has an empty history.
 #[test]
 fn a_board_without_seats_has_an_empty_history(rt: HostRuntime) {
     perform(&rt, rt.alloc(), b"say", b"say", 0, Play::Nothing);

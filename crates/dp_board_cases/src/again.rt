@@ -1,4 +1,4 @@
-//! One seat acts after another, and each call that wants memory is made once more. So these cases pass whichever growth is refused.
+//! One seat acts after another, and each call that runs out of memory is repeated. So these cases pass whichever growth is refused.
 use crate::acts::{channel_of, ran_entry, steps};
 use crate::gates::ENDED;
 use crate::play::{Play, perform};
@@ -30,7 +30,7 @@ fn is_told(call: &SeatCall, channel: u32, reply: Reply) -> bool {
     call.reply == reply && steps(&call.event, channel)
 }
 
-/// Whether a seat was told of so many steps of its channel, of which the first runs its entry and the second finds none.
+/// Whether a seat's record has this number of steps of its channel, of which the first runs its entry and the second finds none.
 fn has_steps<S: Session>(seat: &Seat<S>, count: u64) -> bool {
     let channel = channel_of(seat);
     match seat.record() {
@@ -45,7 +45,7 @@ fn has_steps<S: Session>(seat: &Seat<S>, count: u64) -> bool {
     }
 }
 
-/// Attends the seat's channel for the turns that are left of two. How it went says the steps that were given before, too.
+/// Attends the seat's channel for the remaining turns. The result includes the steps that were given before.
 fn attend_rest<S: Session, R: Wait>(
     rt: &R,
     alloc: Global,
@@ -63,8 +63,7 @@ fn attend_rest<S: Session, R: Wait>(
     })
 }
 
-/// Attends the seat's channel for two turns. Where memory is refused the record holds the earlier steps, and the channel is attended once
-/// more.
+/// Attends the seat's channel for two turns. If memory runs out, the record has the earlier steps, and the channel is attended again.
 pub(super) fn attend_again<S: Session, R: Wait + Abort>(
     rt: &R,
     alloc: Global,
@@ -82,7 +81,7 @@ pub(super) fn attend_again<S: Session, R: Wait + Abort>(
     assert!(rt; attended == Some(ENDED) && has_steps(seat, 2));
 }
 
-/// A board opens, its seats act and attend, and it settles, all of it also where memory is refused once.
+/// A board opens, its seats act and attend, and it settles, also if memory runs out once.
 #[test]
 fn board_calls_are_retried_after_no_memory(rt: HostRuntime) {
     perform(&rt, rt.alloc(), b"add", b"ask", 2, Play::StepsAlone);

@@ -1,9 +1,9 @@
-//! Where a history and a record first differ.
+//! The first difference between a history and a record.
 use dp_board::{Disagree, Entry, SeatCall, first_difference};
 use dp_machine::{Event, Reply};
 use std::process::Abort;
 
-/// Holds the first differences of one entry and one call, which agree, against those that are wanted.
+/// Compares the first differences of one entry and one call, which agree, with the expected ones.
 fn check_differences(rt: &impl Abort, entries: &[Entry], told: &[SeatCall]) {
     let at_once = Some(Disagree { seat: 0, index: 0 });
     assert!(rt; first_difference(entries, 0, &[]) == at_once);

@@ -27,7 +27,7 @@ pub(super) fn act_crossed<S: Session, R: Wait + Abort>(
     assert!(rt; attended == Some(ENDED));
 }
 
-/// Each of two channels is attended while the other's thread is held before its first step, and the gate is called round each step.
+/// Each of two channels is attended while the other's thread is held before its first step, and the gate is called around each step.
 #[test]
 fn a_gate_holds_one_seat_until_the_other_has_acted(rt: HostRuntime) {
     for held in 1..3u32 {

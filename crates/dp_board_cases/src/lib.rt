@@ -1,6 +1,6 @@
 //! Cases of boards, whose seats act in threads of their own.
 //!
-//! A crate with tests is proved twice, so the cases of the libraries stand in crates of their own, where each is proved once.
+//! A crate with tests is proved twice, so the cases of the libraries are in crates of their own, where each is proved once.
 #![tactic(auto)]
 
 #[cfg(test)]

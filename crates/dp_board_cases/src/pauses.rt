@@ -10,11 +10,10 @@ use std::process::Abort;
 use std::sync::Wait;
 use std::sync::atomic::{AtomicU64, Ordering};
 
-/// Holds the thread after its first step until a digit was answered, and marks the turn after the pause where it comes too
-/// early.
+/// Holds the thread after its first step until a digit was answered, and marks the turn after the pause if it comes too early.
 #[derive(Drop)]
 pub(super) struct Paced {
-    // The turn after the pause: 0 where the channel pauses before it is attended.
+    // The turn after the pause: 0 if the channel pauses before it is attended.
     late: u64,
     stepped: AtomicU64,
     dialled: AtomicU64,
@@ -54,7 +53,7 @@ fn idle(gate: &Paced) {
     }
 }
 
-/// Dials a digit once the channel pauses, another when somebody waits for it, and some time later ends the pause.
+/// Dials a digit once the channel pauses, another when somebody waits for it, and ends the pause some time later.
 fn pace<S: Session, R: Wait + Abort>(
     rt: &R,
     alloc: Global,
@@ -86,7 +85,7 @@ fn park<S: Session, R: Wait + Abort>(
     gate.stepped.store(1, Ordering::SeqCst);
 }
 
-/// Attends the channel to its end, and lets it pause before, where the gate says so.
+/// Attends the channel to its end, and lets it pause before if the gate says so.
 fn attend_paced<S: Session, R: Wait + Abort>(
     rt: &R,
     alloc: Global,
@@ -134,8 +133,8 @@ fn gate_of(late: u64) -> Paced {
     }
 }
 
-/// A channel that pauses is not stepped until its time ends, also where it pauses before it is attended; a digit wakes who waits
-/// for it, and it waits again.
+/// A channel that pauses is not stepped until its time ends, even if it pauses before it is attended; a digit wakes the thread that waits
+/// for it, which then waits again.
 #[test]
 fn a_paused_channel_gets_no_step_until_its_time_ends(rt: HostRuntime) {
     for late in 0..2u64 {

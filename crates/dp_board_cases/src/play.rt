@@ -1,5 +1,5 @@
-//! Plays: a board is opened over a machine with two calls, its seats act, and it is settled. One function owns the history,
-//! and the plays ask it by reference.
+//! Plays: a board is opened over a machine with two calls, its seats act, and it is settled. One function owns the history, and the plays
+//! take it by reference.
 ghost use Rattle.std.specs.Prelude.{◌≡◌, ◌+◌};
 
 use crate::acts::{act_step, check_steps, told_of};
@@ -38,7 +38,7 @@ pub(super) enum Play {
     HungUp(Crossed),
     /// Two seats attend a channel each, which pause, and the third ends one pause after the other.
     Released(Released),
-    /// The second seat puts another dialplan in force between two steps of the first.
+    /// The second seat reloads between two steps of the first.
     Reload,
     /// There are no seats.
     Nothing,
@@ -63,7 +63,7 @@ fn act_one<S: Session, R: Wait + Abort>(
     }
 }
 
-/// Whether a call that is refused memory is made once more. In all other plays there is memory, and no call may say otherwise.
+/// Whether a call that runs out of memory is repeated. In all other plays there is memory, and no call may say otherwise.
 fn retry_of(play: &Play) -> Retry {
     match play {
         Play::StepsAlone | Play::AttendedAlone => Retry::Once,
@@ -71,7 +71,7 @@ fn retry_of(play: &Play) -> Retry {
     }
 }
 
-/// How many threads a play has at most: one for each of its seats.
+/// The greatest number of threads of a play: one for each of its seats.
 const MOST_THREADS: usize = 3;
 
 /// Acts by all seats at once.
@@ -116,7 +116,7 @@ fn act<S: Session + Send + Sync, R: Threads + Wait + Abort + Sync>(
     }
 }
 
-/// How many calls the seats make.
+/// The number of calls that the seats make.
 fn calls_of(play: &Play) -> usize {
     match play {
         Play::Steps | Play::StepsAlone => 2,
@@ -129,7 +129,7 @@ fn calls_of(play: &Play) -> usize {
     }
 }
 
-/// Holds the settled history against what the seats did, and were told.
+/// Compares the settled history with what the seats did, and their records.
 fn check(
     rt: &impl Abort,
     alloc: Global,
@@ -152,7 +152,7 @@ fn check(
     }
 }
 
-/// Acts by the seats of a board, settles it, and holds its history against what they did.
+/// The seats of a board act, it is settled, and its history is compared with what they did.
 fn play_out<S: Session + Send + Sync, R: Threads + Wait + Abort + Sync>(
     rt: &R,
     alloc: Global,
@@ -166,7 +166,7 @@ fn play_out<S: Session + Send + Sync, R: Threads + Wait + Abort + Sync>(
     check(rt, alloc, &history, play, told);
 }
 
-/// Plays on a board of so many seats over the machine, which is given back where the board does not open.
+/// Plays on a board with this number of seats over the machine, which is handed back if the board does not open.
 fn play_on<S: Session + Send + Sync, R: Threads + Wait + Abort + Sync>(
     rt: &R,
     alloc: Global,
@@ -188,7 +188,7 @@ fn play_on<S: Session + Send + Sync, R: Threads + Wait + Abort + Sync>(
     }
 }
 
-/// Plays so, in a session of its own.
+/// Does the same in a session of its own.
 fn play_in_session<R: Threads + Wait + Abort + Sync>(
     rt: &R,
     alloc: Global,
@@ -200,8 +200,8 @@ fn play_in_session<R: Threads + Wait + Abort + Sync>(
     play_on::<Brand, R>(rt, alloc, blank, machine, seats, play)
 }
 
-/// Plays on a board of so many seats, with channel 1 at one extension and channel 2 at the other. A machine that is given back for want
-/// of memory is played on once more, if the play is one for refused memory.
+/// Plays on a board with this number of seats, with channel 1 at one extension and channel 2 at the other. If the machine is handed back
+/// because memory ran out, the play is repeated if it is one for out of memory.
 pub(super) fn perform<R: Threads + Wait + Abort + Sync>(
     rt: &R,
     alloc: Global,

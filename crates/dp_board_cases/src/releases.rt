@@ -31,7 +31,7 @@ impl Released {
         }
     }
 
-    /// Waits until the channel has had so many steps.
+    /// Waits until the channel has had this number of steps.
     fn hold(&self, channel: u32, steps: u64) {
         hold_until(self.steps_of(channel), steps, &self.marks);
     }
@@ -116,7 +116,7 @@ fn gate_of(leading: u32) -> Released {
     }
 }
 
-/// Each seat that waits is woken by the end of its own channel's pause, whichever ends first and while the other waits.
+/// Each seat that waits is woken by the end of its own channel's pause, whichever ends first, while the other waits.
 #[test]
 fn each_waiting_seat_is_woken_by_its_own_channel(rt: HostRuntime) {
     for leading in 1..3u32 {

@@ -1,4 +1,4 @@
-//! A seat puts another dialplan in force between the steps of another seat's channel.
+//! A seat reloads between the steps of another seat's channel.
 use crate::acts::has_value;
 use crate::play::{Play, perform};
 use dp_board::{Board, Entry, History, Seat, Session};
@@ -9,14 +9,14 @@ use std::alloc::Global;
 use std::process::Abort;
 use std::sync::Wait;
 
-/// The dialplan that is put in force.
+/// The dialplan of the reload.
 const SECOND: &[u8] = b"[globals]
 X=${X}2
 [main]
 exten => _1XX,2,Hangup()
 ";
 
-/// The seat of each call in the history, and its reply: the first step runs an entry of the first dialplan, and the last one the one
+/// The seat of each call in the history, and its reply: the first step runs an entry of the first dialplan, and the last one runs the only
 /// entry of the second.
 const CALLS: &[(u32, Reply)] = &[
     (
@@ -36,7 +36,7 @@ const CALLS: &[(u32, Reply)] = &[
     ),
 ];
 
-/// The event of a call: channel 1 steps, and the other seat puts the second dialplan in force.
+/// The event of a call: channel 1 steps, and the other seat reloads.
 fn event_of(rt: &impl Abort, alloc: Global, seat: u32) -> Event {
     if seat == 0 {
         return Event::Step { channel: 1 };
@@ -48,7 +48,7 @@ fn event_of(rt: &impl Abort, alloc: Global, seat: u32) -> Event {
     }
 }
 
-/// One call after another, each of which is told its place and its reply.
+/// One call after another, each of which gets its place and its reply.
 pub(super) fn act_reload<S: Session, R: Wait + Abort>(
     rt: &R,
     alloc: Global,
@@ -79,7 +79,7 @@ fn are_calls(entries: &[Entry]) -> bool {
     true
 }
 
-/// Holds the history against what was told. The globals of the second dialplan are set over those of the first.
+/// Compares the history with these results. The globals of the second dialplan are set over those of the first.
 pub(super) fn check_reload(rt: &impl Abort, alloc: Global, history: &History<StandardApps>) {
     let machine = history.machine();
     assert!(rt; are_calls(history.entries()) && machine.phase(1) == Some(&Phase::Ended));

@@ -8,26 +8,26 @@ use std::alloc::Global;
 use std::process::Abort;
 use std::sync::Wait;
 
-/// For each attendance on one board the channel, its turns, and how it goes: how many steps it gives, and why it is over.
+/// For each attendance on one board the channel, its turns, and the result: how many steps it gives, and why it is over.
 type Attendances = &'static [(u32, u64, u64, Why)];
 
-/// Channels whose extension has one priority, and one that is not there.
+/// Channels whose extension has one priority, and one that does not exist.
 const TURNS: Attendances = &[
     (1, 0, 0, Why::TurnsSpent),
     (1, 1, 1, Why::TurnsSpent),
     (1, 9, 1, Why::Ended),
     (1, 9, 1, Why::Ended),
     (3, 1, 1, Why::Refused(Refusal::NoChannel)),
-    // The refusal stands in the record from here on.
+    // From here on the refusal is in the record.
     (3, 0, 0, Why::TurnsSpent),
     (2, 2, 2, Why::Ended),
     (3, 9, 1, Why::Refused(Refusal::NoChannel)),
 ];
 
-/// The calls that the gate gets of channel 1, and of the others: each attendance counts its turns from 0.
+/// The calls that the gate gets for channel 1, and for the others: each attendance counts its turns from 0.
 const GIVEN: (&str, &str) = ("0 ran 0 none 0 refused", "0 refused 0 ran 1 none 0 refused");
 
-/// Channels that the first step hangs up: a step more would be refused, and is not given.
+/// Channels that the first step hangs up: one more step would be refused, and is not given.
 const HUNG_UP: Attendances = &[
     (1, 2, 1, Why::Ended),
     (2, 9, 1, Why::Ended),
@@ -83,13 +83,13 @@ pub(super) fn act_hung_up<S: Session, R: Wait + Abort>(
     }
 }
 
-/// The turns are spent at once where there are none, and a channel that is not there is refused, whatever stands in the record before.
+/// Without turns the attendance is over at once, and a channel that does not exist is refused, whatever is in the record before.
 #[test]
 fn a_seat_attends_one_channel_after_another(rt: HostRuntime) {
     perform(&rt, rt.alloc(), b"say", b"say", 2, Play::Turns(gate(GIVEN)));
 }
 
-/// A channel that a step has ended gets no step more, though turns are left.
+/// A channel that a step has ended gets no further step, although turns are left.
 #[test]
 fn a_hung_up_channel_gets_no_further_step(rt: HostRuntime) {
     perform(

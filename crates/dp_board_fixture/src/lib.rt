@@ -1,7 +1,7 @@
-//! What cases of boards share: gates, which hold a channel until another has acted and know which calls they should get, and what owns a
-//! machine, a board or a history.
+//! What cases of boards share: gates, which hold a channel until another has acted and know which calls they should get, and types that own
+//! a machine, a board or a history.
 //!
-//! This is for tests alone.
+//! This is only for tests.
 #![tactic(auto)]
 
 mod owned;
@@ -12,10 +12,11 @@ pub use owned::{Exchange, Retry, SeatReply, attend, give, machine_of, settle};
 use std::sync::atomic::{AtomicU64, Ordering};
 use std::thread::yield_now;
 
-/// For how many turns of a loop a gate waits. A turn lets another thread run: ten million loads alone are over before one has begun.
+/// The number of turns of a loop for which a gate waits. A turn lets another thread run: ten million loads alone are over before one has
+/// begun.
 const MOST_TURNS: u32 = 10_000_000;
 
-/// Waits until a count has come so far, and marks a failure where that takes too long.
+/// Waits until a count has come this far, and marks a failure if that takes too long.
 pub fn hold_until(count: &AtomicU64, wanted: u64, marks: &AtomicU64) {
     for _ in 0..MOST_TURNS {
         if count.load(Ordering::SeqCst) >= wanted {
@@ -26,12 +27,12 @@ pub fn hold_until(count: &AtomicU64, wanted: u64, marks: &AtomicU64) {
     marks.store(1, Ordering::SeqCst);
 }
 
-/// Waits until a flag is set, and marks a failure where that takes too long.
+/// Waits until a flag is set, and marks a failure if that takes too long.
 pub fn hold(flag: &AtomicU64, marks: &AtomicU64) {
     hold_until(flag, 1, marks);
 }
 
-/// The calls that a gate should get of a channel: the turn and the reply of each event, parted by blanks, as `0 ran 1 none`.
+/// The calls that a gate should get for a channel: the turn and the reply of each event, separated by blanks, as `0 ran 1 none`.
 #[derive(Drop)]
 struct Calls {
     wanted: &'static str,
@@ -67,13 +68,13 @@ fn word_of(reply: &Reply) -> &'static str {
     }
 }
 
-/// Holds one channel before its first turn until the other channel has had all of its own, and this one after each of its turns until
-/// the first has come to the gate. So an event that is given before its gate is called stands too early in the history.
+/// Holds one channel before its first turn until the other channel has had all its turns, and the other channel after each of its turns
+/// until the first has come to the gate. So an event that is given before its gate is called comes too early in the history.
 #[derive(Drop)]
 pub struct Crossed {
     held: u32,
     other: u32,
-    // Of channel 1, and of any other.
+    // For channel 1, and for any other.
     first: Calls,
     second: Calls,
     come: AtomicU64,
@@ -90,15 +91,15 @@ impl Crossed {
         }
     }
 
-    /// Marks a call that is not the one that is wanted.
+    /// Marks a call that is not the expected one.
     fn mark_unless(&self, is_wanted: bool) {
         if !is_wanted {
             self.marks.store(1, Ordering::SeqCst);
         }
     }
 
-    /// Whether the calls were those that are wanted and no thread was held for too long, and the events of the other channel stand before
-    /// those of the one that was held.
+    /// Whether the calls were the expected ones, no thread was held for too long, and the events of the other channel come before those of
+    /// the one that was held.
     pub fn fits(&self, entries: &[Entry]) -> bool {
         self.marks.load(Ordering::SeqCst) == 0
             && self.first.are_given()
@@ -107,7 +108,7 @@ impl Crossed {
     }
 }
 
-/// Whether all events of the channel stand before those of others.
+/// Whether all events of the channel come before those of others.
 fn are_parted(entries: &[Entry], channel: u32) -> bool {
     let mut is_after = false;
     for entry in entries {
@@ -142,7 +143,7 @@ impl Gate for Crossed {
     }
 }
 
-/// A gate that holds a channel until the other is done, and nobody where both are 0; with the calls that it should get of channel 1, and of
+/// A gate that holds a channel until the other is done, or nobody if both are 0; with the calls that it should get for channel 1, and for
 /// others.
 pub fn gate_of(held: u32, other: u32, first: &'static str, second: &'static str) -> Crossed {
     Crossed {

@@ -1,7 +1,6 @@
-//! What owns a machine, a board or a history. The proofs of their drops are here, and in no crate of cases.
+//! Types that own a machine, a board or a history. The proofs of their drops are here, and in no crate of cases.
 //!
-//! Where memory is refused each call of a board hands back what it was given, or leaves it as it was, and is made once more where that is
-//! asked for.
+//! If memory runs out, each call of a board hands back what it was given, or leaves it unchanged, and is repeated if that is asked for.
 use dp_board::{
     Attended, Back, Board, Event, Gate, History, Machine, NoMemory, Reply, Seat, Session, Text,
     Unsettled,
@@ -15,7 +14,7 @@ use std::sync::Wait;
 /// A machine with the applications of the program.
 pub type Exchange = Machine<StandardApps>;
 
-/// What a call was told: the place of its entry, and the reply.
+/// The result of a call: the place of its entry, and the reply.
 pub type SeatReply = (usize, Reply);
 
 const PLAN: &[u8] = b"[globals]
@@ -41,7 +40,7 @@ fn with_queues(alloc: Global, plan: Dialplan) -> Option<Exchange> {
     Exchange::new(alloc, plan, queues).ok()
 }
 
-/// A machine over the dialplan, where memory is not refused.
+/// A machine over the dialplan, if memory does not run out.
 fn exchange(alloc: Global) -> Option<Exchange> {
     match Dialplan::load(alloc, PLAN) {
         Ok((plan, _notes)) => with_queues(alloc, plan),
@@ -49,7 +48,7 @@ fn exchange(alloc: Global) -> Option<Exchange> {
     }
 }
 
-/// A machine over the dialplan, which is made once more where memory is refused.
+/// A machine over the dialplan, which is made again if memory runs out.
 fn exchange_again(alloc: Global) -> Option<Exchange> {
     match exchange(alloc) {
         Some(machine) => Some(machine),
@@ -72,7 +71,7 @@ fn start(alloc: Global, machine: &mut Exchange, exten: &[u8]) -> Result<Reply, N
     machine.apply(alloc, call_to(alloc, exten)?)
 }
 
-/// Whether a call comes in, once more where memory is refused, and has this number.
+/// Whether a call comes in, repeated if memory runs out, and has this number.
 fn has_started(alloc: Global, machine: &mut Exchange, exten: &[u8], channel: u32) -> bool {
     let reply = match start(alloc, machine, exten) {
         Ok(reply) => Some(reply),
@@ -90,7 +89,7 @@ pub fn machine_of(alloc: Global, first: &[u8], second: &[u8]) -> Option<Exchange
     None
 }
 
-/// What a seat is told of an event, where memory is not refused.
+/// What a seat gets for an event, if memory does not run out.
 pub fn give<S: Session, R: Wait>(
     rt: &R,
     alloc: Global,
@@ -101,7 +100,7 @@ pub fn give<S: Session, R: Wait>(
     board.act(rt, alloc, seat, event).ok()
 }
 
-/// How it goes where a seat attends a channel, and memory is not refused.
+/// The result of a seat attending a channel, if memory does not run out.
 pub fn attend<S: Session, R: Wait, G: Gate>(
     rt: &R,
     alloc: Global,
@@ -117,7 +116,7 @@ pub fn attend<S: Session, R: Wait, G: Gate>(
 /// A board with its seats.
 type Opened<S> = (Board<StandardApps, S>, Vec<Seat<S>>);
 
-/// What the settling of a board ends with.
+/// The result of settling a board.
 type Settled<S> = Result<History<StandardApps>, Unsettled<StandardApps, S>>;
 
 /// The board and the seats that are handed back.
@@ -128,16 +127,16 @@ fn open_of<S: Session>(back: Back<StandardApps, S>) -> Option<Opened<S>> {
     }
 }
 
-/// Whether a call that is refused memory is made once more.
+/// Whether a call that runs out of memory is repeated.
 #[derive(Clone, Copy, PartialEq, Eq)]
 pub enum Retry {
-    /// It is made once more, since each growth is refused in turn.
+    /// It is repeated, since each growth is refused in turn.
     Once,
     /// It is not: there is memory, and a refusal would be false.
     Never,
 }
 
-/// Settles, and once more where memory is refused, which is fault 62 and hands all back, if that is asked for.
+/// Settles, and again if memory runs out, which is fault 62 and hands everything back, if that is asked for.
 fn settle_again<S: Session>(
     alloc: Global,
     board: Board<StandardApps, S>,
@@ -153,7 +152,7 @@ fn settle_again<S: Session>(
     }
 }
 
-/// What is handed back of a board that is settled without a seat, which is fault 60.
+/// What is handed back from a board that is settled without a seat, which is fault 60.
 fn settle_none<S: Session>(
     alloc: Global,
     board: Board<StandardApps, S>,
@@ -166,7 +165,7 @@ fn settle_none<S: Session>(
     }
 }
 
-/// Settles with the last seat, too.
+/// Settles with the last seat too.
 fn settle_all<S: Session>(
     alloc: Global,
     opened: Opened<S>,
@@ -178,7 +177,7 @@ fn settle_all<S: Session>(
     settle_again(alloc, board, seats, retry)
 }
 
-/// Settles without the last seat, which hands all back, and then with it.
+/// Settles without the last seat, which hands everything back, and then with it.
 fn settle_twice<S: Session>(
     alloc: Global,
     board: Board<StandardApps, S>,
@@ -198,7 +197,7 @@ fn history_of<S: Session>(settled: Option<Settled<S>>) -> Option<History<Standar
     }
 }
 
-/// The history of a board that settles with all its seats, and before it, where it has a seat, not without the last one.
+/// The history of a board that settles with all its seats and, before that, if it has a seat, does not settle without the last one.
 pub fn settle<S: Session>(
     alloc: Global,
     board: Board<StandardApps, S>,

@@ -1,10 +1,10 @@
-//! Tables of cases in one text: a line for each case, what is asked, an arrow and the answer that is wanted, with the
-//! escapes of `bytes_of` in both.
+//! Tables of cases in one text: each line is a case, with a question, an arrow and the expected answer. Both have the escapes of
+//! `bytes_of`.
 //!
-//! An empty line, or one that begins with `# `, is a heading. A text of many lines is checked as one literal, where each
-//! cell of an array would be one of its own.
+//! An empty line, or one that begins with `# `, is a heading. A text of many lines is checked as one literal, while each cell of an array
+//! would be one of its own.
 //!
-//! This is for tests alone: what is wrong with a case is the message of a test that fails.
+//! This is only for tests: a test that fails has the fault of a case as its message.
 #![tactic(auto)]
 
 ghost use Rattle.std.specs.Prelude.{◌≡◌, ◌≢◌, IfOk, IfErr, true, false};
@@ -12,13 +12,13 @@ ghost use Rattle.std.specs.Prelude.{◌≡◌, ◌≢◌, IfOk, IfErr, true, fal
 use std::alloc::{AllocError, Global};
 use std::test::Fail;
 
-/// What is asked in the cases of a table.
+/// The question of the cases of a table.
 pub trait Question {
-    /// The answer to what is asked, as text.
+    /// The answer to a question, as text.
     fn answer(alloc: Global, asked: &str) -> Result<String, Fail>;
 }
 
-/// A text of its own.
+/// A copy of a text.
 pub fn text_of(alloc: Global, text: &str) -> Result<String, Fail> {
     let mut out = String::new(alloc);
     out.push_str(text)?;
@@ -33,7 +33,7 @@ pub fn push_bytes(out: &mut String, bytes: &[u8]) -> Result<(), AllocError> {
     Ok(())
 }
 
-/// Whether a text is the one that is wanted: where it is not, the failure says what was got, and of what.
+/// Whether a text is the expected one. If it is not, the failure says what the text is, and for which question.
 pub fn check_same(of: &str, got: &str, want: &str) -> Result<(), Fail>
     ensures same { IfOk result (λ _. got.now ≡ want.now) }
     ensures other { IfErr result (λ _. got.now ≢ want.now) }
@@ -44,7 +44,7 @@ pub fn check_same(of: &str, got: &str, want: &str) -> Result<(), Fail>
     Err(Fail::new(format_args!("{of} gives {got}, not {want}")))
 }
 
-/// Whether something holds: where it does not, the failure says what should.
+/// Whether something holds. If it does not, the failure says what should.
 pub fn check_that(holds: bool, what: &str) -> Result<(), Fail>
     ensures holds { IfOk result (λ _. holds ≡ true) }
     ensures other { IfErr result (λ _. holds ≡ false) }
@@ -55,7 +55,7 @@ pub fn check_that(holds: bool, what: &str) -> Result<(), Fail>
     Err(Fail::new(format_args!("{what} is not so")))
 }
 
-/// Whether a line with no case is a heading.
+/// Whether a line without a case is a heading.
 pub fn is_heading(line: &str) -> bool {
     line.is_empty() || line.starts_with("# ")
 }
@@ -68,7 +68,7 @@ fn check_bytes(asked: &str, got: &str, want: &str, bytes: &[u8]) -> Result<(), F
     Err(Fail::new(format_args!("{asked} gives {got}, not {want}")))
 }
 
-/// Whether an answer is the one that is wanted, in which `want` has the escapes of `bytes_of`.
+/// Whether an answer is the expected one, where `want` has the escapes of `bytes_of`.
 pub fn check_answer(alloc: Global, asked: &str, got: &str, want: &str) -> Result<(), Fail> {
     let bytes = bytes_of(alloc, want)?;
     check_bytes(asked, got, want, &bytes)
@@ -79,7 +79,7 @@ fn check_case<Q: Question>(alloc: Global, asked: &str, want: &str) -> Result<(),
     check_answer(alloc, asked, &got, want)
 }
 
-/// Whether a line with no case is right to have none.
+/// Whether a line without a case may have none.
 pub fn check_heading(line: &str) -> Result<(), Fail> {
     if is_heading(line) {
         return Ok(());
@@ -87,7 +87,7 @@ pub fn check_heading(line: &str) -> Result<(), Fail> {
     Err(Fail::new(format_args!("no answer in {line:?}")))
 }
 
-/// Holds the answer to each case of the table against the one that is wanted, up to the first that is another.
+/// Compares the answer to each case of the table with the expected one, up to the first difference.
 pub fn check<Q: Question>(alloc: Global, table: &str) -> Result<(), Fail> {
     for line in table.lines() {
         match line.split_once('→') {
@@ -98,7 +98,7 @@ pub fn check<Q: Question>(alloc: Global, table: &str) -> Result<(), Fail> {
     Ok(())
 }
 
-/// As `check`, of one table after another.
+/// Does the same as `check`, for several tables.
 pub fn check_all<Q: Question>(alloc: Global, tables: &[&str]) -> Result<(), Fail> {
     for table in tables {
         check::<Q>(alloc, table)?;
@@ -106,7 +106,7 @@ pub fn check_all<Q: Question>(alloc: Global, tables: &[&str]) -> Result<(), Fail
     Ok(())
 }
 
-/// Where the reading of an escape is.
+/// The state of reading an escape.
 #[derive(Clone, Copy)]
 enum Reading {
     Plain,
@@ -124,7 +124,7 @@ fn digit(byte: u8) -> u8 {
     }
 }
 
-/// The byte that stands after a backslash.
+/// The byte for the letter after a backslash.
 fn escape_of(byte: u8) -> u8 {
     match byte {
         b'n' => b'\n',

@@ -1,3 +1,4 @@
 mod AnswerLemmas
+mod MatchesLemmas
 mod RefusalsLemmas
 mod cases

@@ -7,11 +7,12 @@ use Rattle.clap.specs.declared.error.kind.ErrorKind.{ErrorKind}
 use Rattle.clap.specs.declared.error.kind.ErrorKind.TheVariants.{OutOfMemory}
 use Rattle.dp_conf.specs.Words.{same_text}
 use Rattle.dp_program.specs.Requests.{RequestOf, explaining}
-use Rattle.dp_cli.specs.CommandLine.{asked_by, audit_asked, audit_by, audit_in, audit_named, check_asked, check_files_in, check_over, command_asked, debug_asked, explain_asked, fault_in, list_asked, match_asked, match_at, priority_in, reach_asked, run_asked, run_by, run_in, run_over, run_wide_in, is_set, has_queues, has_threads, threads_in}
+use Rattle.dp_cli.specs.CommandLine.{asked_by, request_of_command, takes_clock, takes_clock_by, audit_asked, audit_by, audit_in, audit_named, check_asked, check_files_in, check_over, command_asked, debug_asked, explain_asked, fault_in, list_asked, match_asked, match_at, priority_in, reach_asked, run_asked, run_by, run_in, run_over, run_wide_in, is_set, has_queues, has_threads, threads_in}
+use Rattle.dp_wide.specs.Times.{moment_of}
 use Rattle.dp_wide_runs.specs.Kinds.{KindsTold, all, only, except, are_kinds}
-use Rattle.dp_cli.specs.Refusals.{audit_kinds_by, check_kinds_over, command_kinds, conflict_kinds, kinds_by, number_kinds, run_kinds_over, unless_kinds, unless_number}
+use Rattle.dp_cli.specs.Refusals.{audit_kinds_by, check_kinds_over, clock_kinds, clock_kinds_by, unless_moment, command_kinds, conflict_kinds, kinds_by, number_kinds, run_kinds_over, unless_kinds, unless_number}
 
--- one of the first kinds is one of all
+-- one of the first kinds is one of all kinds
 pub has_first : (kinds next : Kinds) (kind : ErrorKind) → (kind ≡ OutOfMemory) ⊎ IsAmong kind kinds → (kind ≡ OutOfMemory) ⊎ IsAmong kind (or_else kinds next)
 has_first [] next kind (inl memory) = inl memory
 has_first [] next kind (inr among) = absurd among
@@ -27,7 +28,7 @@ match_numbers : (words : List Row) (word : Option (List ℕ)) → is_some (optio
 match_numbers words None is = refl
 match_numbers words (Some word) is = unless_asked (priority_in word) (match_at words) is
 
--- the same, where nothing else is wanted
+-- the same if nothing else is needed
 unless_mapped : {X : Type 0} (number : Option ℕ) (next : ℕ → X) → is_some (option_map next number) ≡ true → unless_number number ≡ []
 unless_mapped None next is = absurd cc
 unless_mapped (Some number) next is = refl
@@ -66,7 +67,7 @@ audit_kinds_none words (Some text) None is = named_kinds (are_kinds (is_set (cod
 audit_kinds_none words None (Some text) is = named_kinds (are_kinds (is_set (codes "asterisk") words) text) (audit_in words (except text)) is
 audit_kinds_none words (Some wanted) (Some unwanted) is = absurd cc
 
--- of a choice
+-- the same for a choice between two
 either : (b : Bool) (first later : Option RequestOf) (kinds others : Kinds) → (is_some first ≡ true → kinds ≡ []) → (is_some later ≡ true → others ≡ [])
     → is_some (cond b first later) ≡ true → cond b kinds others ≡ []
 either true first later kinds others is are some = is some
@@ -83,7 +84,43 @@ command_numbers name words =
     (either (same_text name (codes "reach")) (reach_asked words) _ [] _ (λ some. refl)
     (either (same_text name (codes "explain")) (explain_asked words) _ _ [] (explain_numbers (first_of (codes "CODE") words)) (λ some. refl))))))))
 
--- words that ask for something have no number out of its range
+-- words that are a request have no number out of its range
 pub asked_numbers : (command : Option (List ℕ × List Row)) → is_some (asked_by command) ≡ true → kinds_by command ≡ []
 asked_numbers None is = refl
 asked_numbers (Some command) is = command_numbers command.0 command.1 is
+
+-- ---- the word of `--clock`
+
+moment_none : (is_moment : Bool) → is_moment ≡ true → unless_moment is_moment ≡ []
+moment_none true is = refl
+moment_none false is = absurd cc
+
+word_kinds_none : (is_wide : Bool) (word : Option (List ℕ)) → takes_clock is_wide word ≡ true → clock_kinds is_wide word ≡ []
+word_kinds_none is_wide None is = refl
+word_kinds_none true (Some word) is = moment_none (is_some (moment_of word)) is
+word_kinds_none false (Some word) is = absurd cc
+
+-- a command that takes the word does not refuse it
+clock_kinds_none : (command : Option (List ℕ × List Row)) → takes_clock_by command ≡ true → clock_kinds_by command ≡ []
+clock_kinds_none None is = refl
+clock_kinds_none (Some command) is = word_kinds_none (is_set (codes "asterisk") command.1) (first_of (codes "MOMENT") command.1) is
+
+takes : (b : Bool) (asked : Option RequestOf) → is_some (if b then asked else None) ≡ true → b ≡ true
+takes true asked some = refl
+takes false asked some = absurd cc
+
+asks : (b : Bool) (asked : Option RequestOf) → is_some (if b then asked else None) ≡ true → is_some asked ≡ true
+asks true asked some = some
+asks false asked some = absurd cc
+
+-- a command that asks for something has no refusal of its clock, and none of its numbers
+pub request_clock : (command : Option (List ℕ × List Row)) → is_some (request_of_command command) ≡ true → clock_kinds_by command ≡ []
+request_clock command some = clock_kinds_none command (takes (takes_clock_by command) (asked_by command) some)
+
+pub request_numbers : (command : Option (List ℕ × List Row)) → is_some (request_of_command command) ≡ true → kinds_by command ≡ []
+request_numbers command some = asked_numbers command (asks (takes_clock_by command) (asked_by command) some)
+
+-- one of the later kinds is one of all where there are no first ones
+pub has_later : (kinds next : Kinds) (kind : ErrorKind) → kinds ≡ [] → (kind ≡ OutOfMemory) ⊎ IsAmong kind next → (kind ≡ OutOfMemory) ⊎ IsAmong kind (or_else kinds next)
+has_later [] next kind none has = has
+has_later (first ∷ kinds) next kind none has = absurd cc

@@ -12,13 +12,13 @@ use Rattle.dp_commands.specs.declared.fault.PbxFault.TheVariants.{Coded, NoMemor
 use Rattle.dp_program.specs.Faulted.{without_place}
 use Rattle.dp_program.specs.Files.{Source}
 use Rattle.dp_program.specs.Hints.{status_in}
-use Rattle.dp_program.specs.Requests.{RequestOf}
+use Rattle.dp_program.specs.Requests.{OptionsOf, RequestOf}
 use Rattle.dp_program.specs.Serves.{Serves}
 use Rattle.dp_program.specs.Status.{Prints, status_after}
 use Rattle.dp_program.specs.declared.faulted.Faulted.{Faulted}
 use Rattle.dp_program.specs.declared.hints.Served.{Served}
 
--- the status if the words are no request: 0 if they ask for help, and 2 for a mistake
+-- the status if the words are not a request: 0 if they ask for help, and 2 for a mistake
 abbrev pub explained_status : ErrorKind → ℕ
 explained_status DisplayHelp = 0
 explained_status DisplayVersion = 0
@@ -33,14 +33,14 @@ abbrev pub sink : Option (List ℕ) → Bool → Sink
 sink contents failed = record { contents = contents; failed = failed }
 
 -- the output and result of the program for words that are a request: those of the request, with its status, and with the hints or the text
--- of its fault on the errors; `explains` says whether the fault and the notes of `check` are explained
-pub record Fulfils (files : List ℕ → Source) (input : Source) (want : RequestOf) (explains : Bool)
+-- of its fault on the errors
+pub record Fulfils (files : List ℕ → Source) (input : Source) (want : RequestOf) (options : OptionsOf)
     (output output_after errors errors_after : Sink) (status : ℕ) : Type 0 where
   pub answered : Result Served Faulted
-  pub serves : Serves files input want explains output.contents output_after.contents answered
+  pub serves : Serves files input want options output.contents output_after.contents answered
   pub written : output_after.failed ≡ (output.failed || is_write_failed (without_place answered))
   pub told : status ≡ status_after (status_in answered)
-  pub printed : errors_after.failed ≡ false → Prints errors.contents errors_after.contents explains answered
+  pub printed : errors_after.failed ≡ false → Prints errors.contents errors_after.contents options.explains answered
 
 -- what replaces a request, given its kind, ends with the kind's status; else memory ran out, or the help was not written
 abbrev pub Explains : ErrorKind → Result ℕ PbxFault → Type 0

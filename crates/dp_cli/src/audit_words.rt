@@ -1,4 +1,4 @@
-//! What the words of `audit` ask for.
+//! The request of `audit`.
 ghost use Rattle.std.specs.Prelude.{◌≡◌, IfOk, codes, option_map};
 ghost use Rattle.clap.specs.Kinds.{FailsBy};
 ghost use Rattle.clap.specs.Matches.{found_of};
@@ -18,7 +18,7 @@ use dp_plan::NoMemory;
 use dp_program::{AuditChoice, KindChoice, Request, are_kinds};
 use std::alloc::Global;
 
-/// What `audit` asks of a file for all kinds of findings.
+/// The request of `audit` on a file for all kinds of findings.
 fn audit_all<'a>(is_wide: bool, file: &'a str) -> Request<'a>
     ensures { request_asked result ≡ spec.audit_all is_wide file.now }
 {
@@ -34,7 +34,7 @@ fn audit_all<'a>(is_wide: bool, file: &'a str) -> Request<'a>
     Request::Audit { file }
 }
 
-/// What `audit` asks of a file for these kinds of findings.
+/// The request of `audit` on a file for these kinds of findings.
 fn audit_over<'a>(is_wide: bool, kinds: KindChoice<'a>, file: &'a str) -> Request<'a>
     ensures { request_asked result ≡ spec.audit_over is_wide (kinds_told kinds.entry) file.now }
 {
@@ -47,7 +47,7 @@ fn audit_over<'a>(is_wide: bool, kinds: KindChoice<'a>, file: &'a str) -> Reques
     }
 }
 
-/// What the words of `audit` ask for, of these kinds of findings.
+/// The request of `audit` for these kinds of findings, or None if its words name no file.
 fn audit_in<'a>(given: &ArgMatches<'a>, kinds: KindChoice<'a>) -> Option<Request<'a>>
     ensures { option_map request_asked result ≡ spec.audit_in (rows_of (found_of given.now)) (kinds_told kinds.entry) }
 {
@@ -55,7 +55,7 @@ fn audit_in<'a>(given: &ArgMatches<'a>, kinds: KindChoice<'a>) -> Option<Request
     Some(audit_over(is_set(given, "asterisk"), kinds, file))
 }
 
-/// The kinds of findings that there are, as they are told where a word is none.
+/// The kinds of findings, as the message on an unknown one lists them.
 fn kinds_there_are(is_wide: bool) -> &'static str {
     if is_wide {
         "with '--asterisk' the kinds are Cycle, NoApplication, NoTarget, Gap, NoFirst, Hidden, Unused, FallsThrough, Loop and NoFunction"
@@ -64,7 +64,7 @@ fn kinds_there_are(is_wide: bool) -> &'static str {
     }
 }
 
-/// The refusal of a text of which a word is no kind of findings.
+/// The refusal of a text in which a word is not a kind of findings.
 fn refuse_kinds(alloc: Global, is_wide: bool, option: &str, text: &str) -> Result<Error, NoMemory>
     ensures { IfOk result (λ error. kind_of error ≡ ValueValidation) }
 {
@@ -78,7 +78,7 @@ fn refuse_kinds(alloc: Global, is_wide: bool, option: &str, text: &str) -> Resul
     )
 }
 
-/// The refusal of both options beside each other.
+/// The refusal of `--only` together with `--ignore`.
 fn refuse_both(alloc: Global) -> Result<Error, NoMemory>
     ensures { IfOk result (λ error. kind_of error ≡ ArgumentConflict) }
 {
@@ -90,7 +90,7 @@ fn refuse_both(alloc: Global) -> Result<Error, NoMemory>
     )
 }
 
-/// What the words of `audit` ask for, of the kinds that a text names, or the refusal of that text.
+/// The request of `audit` for the kinds that a text names, or the refusal of the text.
 fn audit_named<'a>(
     alloc: Global,
     given: &ArgMatches<'a>,
@@ -110,7 +110,7 @@ fn audit_named<'a>(
     Err(refuse_kinds(alloc, is_wide, option, text)?)
 }
 
-/// What the words of `audit` ask for, or the refusal of those that name kinds of findings.
+/// The request of `audit`, or the refusal of its kinds of findings.
 pub(crate) fn audit_request<'a>(
     alloc: Global,
     given: &ArgMatches<'a>,

@@ -1,4 +1,4 @@
-//! What the words of `check` ask for.
+//! The request of `check`.
 ghost use Rattle.std.specs.Prelude.{◌≡◌, IfOk, codes, option_map, false};
 ghost use Rattle.clap.specs.Kinds.{FailsBy};
 ghost use Rattle.clap.specs.Matches.{found_of};
@@ -17,14 +17,14 @@ use dp_plan::NoMemory;
 use dp_program::{CheckFiles, Request};
 use std::alloc::Global;
 
-/// Whether a file of queues is named, which cannot stand beside `--asterisk`.
+/// Whether a queue file is named, which cannot be used with `--asterisk`.
 fn has_queues(given: &ArgMatches<'_>) -> bool
     ensures { result ≡ spec.has_queues (rows_of (found_of given.now)) }
 {
     word_of(given, "QUEUES").is_some()
 }
 
-/// What the words of `check --asterisk` ask for, or None where they name no dialplan.
+/// The request of `check --asterisk`, or None if its words name no dialplan.
 fn files_request<'a>(given: &ArgMatches<'a>) -> Option<Request<'a>>
     ensures { option_map request_asked result ≡ spec.check_files_in (rows_of (found_of given.now)) false }
 {
@@ -33,7 +33,7 @@ fn files_request<'a>(given: &ArgMatches<'a>) -> Option<Request<'a>>
     })
 }
 
-/// What the words of `check` ask for without `--asterisk`, or None where they name no file.
+/// The request of `check` without `--asterisk`, or None if its words name no file.
 fn plain_request<'a>(given: &ArgMatches<'a>) -> Option<Request<'a>>
     ensures { option_map request_asked result
         ≡ spec.check_request (first_of (codes "FILE") (rows_of (found_of given.now))) (first_of (codes "QUEUES") (rows_of (found_of given.now))) }
@@ -48,7 +48,7 @@ fn plain_request<'a>(given: &ArgMatches<'a>) -> Option<Request<'a>>
     }
 }
 
-/// The refusal of `--queues` beside `--asterisk`.
+/// The refusal of `--queues` together with `--asterisk`.
 fn refuse_queues(alloc: Global) -> Result<Error, NoMemory>
     ensures { IfOk result (λ error. kind_of error ≡ ArgumentConflict) }
 {
@@ -60,7 +60,7 @@ fn refuse_queues(alloc: Global) -> Result<Error, NoMemory>
     )
 }
 
-/// What the words of `check --asterisk` ask for, or its refusal where they name a file of queues too.
+/// The request of `check --asterisk`, or its refusal if its words name a queue file too.
 fn asterisk_request<'a>(alloc: Global, given: &ArgMatches<'a>) -> Result<Option<Request<'a>>, Error>
     ensures asked { IfOk result (λ request. option_map request_asked request
         ≡ spec.check_files_in (rows_of (found_of given.now)) (spec.has_queues (rows_of (found_of given.now)))) }
@@ -72,7 +72,7 @@ fn asterisk_request<'a>(alloc: Global, given: &ArgMatches<'a>) -> Result<Option<
     Ok(files_request(given))
 }
 
-/// What the words of `check` ask for, or None where they name no file, or its refusal.
+/// The request of `check`, or None if its words name no file, or its refusal.
 pub(crate) fn check_request<'a>(
     alloc: Global,
     given: &ArgMatches<'a>,

@@ -11,13 +11,14 @@ ghost use Rattle.clap.specs.Walk.{first_of, rows_of};
 ghost use Rattle.clap.specs.declared.error.kind.ErrorKind.TheVariants.{ArgumentConflict, MissingRequiredArgument, OutOfMemory, ValueValidation};
 ghost use Rattle.dp_commands.specs.Script.{number_within};
 ghost use Rattle.dp_program.specs.Entries.{fault_numbered};
-ghost use Rattle.dp_program.specs.Requests.{request_asked};
+ghost use Rattle.dp_program.specs.Requests.{options_of, request_asked};
 ghost use Rattle.dp_program.specs.Texts.{paths_of};
 ghost use Rattle.dp_cli.specs.CommandLine as spec;
 ghost use Rattle.dp_cli.specs.Refusals as refusals;
 
 use crate::audit_words::audit_request;
 use crate::check_words::check_request;
+use crate::clock_words::{check_clock, clock_of};
 use crate::commands::{
     check_of_dialplan, explain_command, match_command, pbx_command, run_command,
 };
@@ -25,22 +26,22 @@ use clap::error::ErrorKind;
 use clap::{ArgMatches, Command, Error};
 use dp_commands::number_within;
 use dp_plan::{MOST_PRIORITY, NoMemory, Priority};
-use dp_program::{FaultNumber, Lookup, ReachQuestion, Request, RunFiles};
+use dp_program::{FaultNumber, Lookup, Options, ReachQuestion, Request, RunFiles};
 use std::alloc::Global;
 
 /// What a command line asks for.
 #[derive(Clone, Copy, Debug, PartialEq, Eq)]
 pub struct Invocation<'a> {
-    /// What the program is to do.
+    /// What the program does.
     pub request: Request<'a>,
-    /// Whether each fault is to be explained: the flag `--explain` stands among the words of the command.
-    pub explains: bool,
+    /// The options that many commands have: `--explain` and `--clock`.
+    pub options: Options<'a>,
 }
 
-/// The greatest number of threads of a run; this is the program's own limit.
+/// The greatest number of threads of a run. It is this program's own limit.
 const MOST_THREADS: u32 = 64;
 
-/// The priority that a word writes: digits, and a number from 1 to 2,147,483,647.
+/// The priority in a word: digits that write a number from 1 to 2,147,483,647.
 fn read_priority(word: &str) -> Option<Priority>
     ensures { result ≡ spec.priority_in word.now }
 {
@@ -48,7 +49,7 @@ fn read_priority(word: &str) -> Option<Priority>
     Priority::new(number)
 }
 
-/// The refusal of a command line for a command, which help calls by its whole name.
+/// The refusal of a command line. The help calls the command by this full name.
 pub(crate) fn refuse<'a>(
     command: Result<Command<'a>, NoMemory>,
     name: &'a str,
@@ -60,7 +61,7 @@ pub(crate) fn refuse<'a>(
     command?.bin_name(name)?.error(kind, message)
 }
 
-/// The refusal of a word that writes no priority.
+/// The refusal of a word that is not a priority.
 fn refuse_priority(alloc: Global, word: &str) -> Result<Error, NoMemory>
     ensures { IfOk result (λ error. kind_of error ≡ ValueValidation) }
 {
@@ -75,7 +76,7 @@ fn refuse_priority(alloc: Global, word: &str) -> Result<Error, NoMemory>
     )
 }
 
-/// The number of threads that a word writes: digits, and a number from 1 to 64.
+/// The number of threads in a word: digits that write a number from 1 to 64.
 fn read_threads(word: &str) -> Option<u32>
     ensures { result ≡ spec.threads_in word.now }
 {
@@ -86,7 +87,7 @@ fn read_threads(word: &str) -> Option<u32>
     Some(number)
 }
 
-/// The refusal of a word that writes no number of threads.
+/// The refusal of a word that is not a number of threads.
 fn refuse_threads(alloc: Global, word: &str) -> Result<Error, NoMemory>
     ensures { IfOk result (λ error. kind_of error ≡ ValueValidation) }
 {
@@ -101,7 +102,7 @@ fn refuse_threads(alloc: Global, word: &str) -> Result<Error, NoMemory>
     )
 }
 
-/// The fault of which a word writes the number, in digits.
+/// The fault whose number a word writes in digits.
 fn read_fault_number(word: &str) -> Option<FaultNumber>
     ensures { result ≡ option_and_then fault_numbered (number_within spec.most_code word.now) }
 {
@@ -109,7 +110,7 @@ fn read_fault_number(word: &str) -> Option<FaultNumber>
     FaultNumber::new(number)
 }
 
-/// The fault of which a word writes the number, or the name.
+/// The fault whose number a word writes, or that alone has the word as its name.
 fn read_fault(word: &str) -> Option<FaultNumber>
     ensures { result ≡ spec.fault_in word.now }
 {
@@ -119,7 +120,7 @@ fn read_fault(word: &str) -> Option<FaultNumber>
     }
 }
 
-/// The refusal of a word that writes no fault.
+/// The refusal of a word that names no fault.
 fn refuse_fault(alloc: Global, word: &str) -> Result<Error, NoMemory>
     ensures { IfOk result (λ error. kind_of error ≡ ValueValidation) }
 {
@@ -134,14 +135,14 @@ fn refuse_fault(alloc: Global, word: &str) -> Result<Error, NoMemory>
     )
 }
 
-/// The word of this name among those of a command.
+/// The word with this name among the words of a command.
 pub(crate) fn word_of<'a>(given: &ArgMatches<'a>, name: &str) -> Option<&'a str>
     ensures { option_map (λ word. word.now) result ≡ first_of name.now (rows_of (found_of given.now)) }
 {
     given.get_str(name)
 }
 
-/// Whether the flag of this name is given.
+/// Whether the flag with this name is given.
 pub(crate) fn is_set(given: &ArgMatches<'_>, name: &str) -> bool
     ensures { result ≡ spec.is_set name.now (rows_of (found_of given.now)) }
 {
@@ -151,7 +152,7 @@ pub(crate) fn is_set(given: &ArgMatches<'_>, name: &str) -> bool
     }
 }
 
-/// What `list` asks of a file, given whether it reads the files that the dialplan includes.
+/// The request of `list` on a file, given whether it reads the files that the dialplan includes.
 fn list_of<'a>(includes: bool, file: &'a str) -> Request<'a>
     ensures { request_asked result ≡ spec.list_of includes file.now }
 {
@@ -162,7 +163,7 @@ fn list_of<'a>(includes: bool, file: &'a str) -> Request<'a>
     }
 }
 
-/// What the words of `list` ask for.
+/// The request of `list`.
 fn list_request<'a>(given: &ArgMatches<'a>) -> Option<Request<'a>>
     ensures { option_map request_asked result ≡ spec.list_asked (rows_of (found_of given.now)) }
 {
@@ -170,7 +171,7 @@ fn list_request<'a>(given: &ArgMatches<'a>) -> Option<Request<'a>>
     Some(list_of(is_set(given, "asterisk"), file))
 }
 
-/// What the words of `match` ask for, or its refusal where they name no priority.
+/// The request of `match`, or its refusal if its words name no priority.
 fn match_request<'a>(alloc: Global, given: &ArgMatches<'a>) -> Result<Option<Request<'a>>, Error>
     ensures asked { IfOk result (λ request. option_map request_asked request
         ≡ spec.match_asked (rows_of (found_of given.now))) }
@@ -186,7 +187,7 @@ fn match_request<'a>(alloc: Global, given: &ArgMatches<'a>) -> Result<Option<Req
     }
 }
 
-/// What the words of `match` ask for at a priority, in the dialplan of one file.
+/// The request of `match` at a priority, in the dialplan of one file.
 fn plain_match<'a>(given: &ArgMatches<'a>, priority: Priority) -> Option<Request<'a>>
     ensures { option_map request_asked result ≡ option_map (spec.match_over (rows_of (found_of given.now)) false)
         (spec.lookup_at (rows_of (found_of given.now)) priority) }
@@ -216,7 +217,7 @@ fn including_match<'a>(given: &ArgMatches<'a>, priority: Priority) -> Option<Req
     Some(Request::MatchIncluding { lookup, all })
 }
 
-/// What the words of `match` ask for at a priority.
+/// The request of `match` at a priority.
 fn match_at<'a>(given: &ArgMatches<'a>, priority: Priority) -> Option<Request<'a>>
     ensures { option_map request_asked result ≡ spec.match_at (rows_of (found_of given.now)) priority }
 {
@@ -226,7 +227,7 @@ fn match_at<'a>(given: &ArgMatches<'a>, priority: Priority) -> Option<Request<'a
     plain_match(given, priority)
 }
 
-/// What the words of `explain` ask for, or its refusal where they name no fault.
+/// The request of `explain`, or its refusal if its words name no fault.
 fn explain_request<'a>(alloc: Global, given: &ArgMatches<'a>) -> Result<Option<Request<'a>>, Error>
     ensures asked { IfOk result (λ request. option_map request_asked request
         ≡ spec.explain_asked (rows_of (found_of given.now))) }
@@ -254,14 +255,14 @@ fn run_files<'a>(given: &ArgMatches<'a>) -> Option<RunFiles<'a>>
     })
 }
 
-/// Whether a run is asked for in threads, which cannot stand beside `--asterisk`.
+/// Whether a number of threads is given, which cannot be used with `--asterisk`.
 fn has_threads(given: &ArgMatches<'_>) -> bool
     ensures { result ≡ spec.has_threads (rows_of (found_of given.now)) }
 {
     word_of(given, "N").is_some()
 }
 
-/// The refusal of `--threads` beside `--asterisk`.
+/// The refusal of `--threads` together with `--asterisk`.
 fn refuse_conflict(alloc: Global) -> Result<Error, NoMemory>
     ensures { IfOk result (λ error. kind_of error ≡ ArgumentConflict) }
 {
@@ -273,7 +274,7 @@ fn refuse_conflict(alloc: Global) -> Result<Error, NoMemory>
     )
 }
 
-/// What the words of `run --asterisk` ask for, or its refusal where they ask for threads too.
+/// The request of `run --asterisk`, or its refusal if its words give a number of threads.
 fn wide_request<'a>(alloc: Global, given: &ArgMatches<'a>) -> Result<Option<Request<'a>>, Error>
     ensures asked { IfOk result (λ request. option_map request_asked request
         ≡ spec.run_wide_in (rows_of (found_of given.now)) (spec.has_threads (rows_of (found_of given.now)))) }
@@ -285,7 +286,7 @@ fn wide_request<'a>(alloc: Global, given: &ArgMatches<'a>) -> Result<Option<Requ
     Ok(run_wide_in(given))
 }
 
-/// What the words of `run --asterisk` name, where they name all that it needs.
+/// The request of `run --asterisk`, or None if a required word is missing.
 fn run_wide_in<'a>(given: &ArgMatches<'a>) -> Option<Request<'a>>
     ensures { option_map request_asked result ≡ spec.run_wide_in (rows_of (found_of given.now)) false }
 {
@@ -295,7 +296,7 @@ fn run_wide_in<'a>(given: &ArgMatches<'a>) -> Option<Request<'a>>
     })
 }
 
-/// What the words of `run` ask for, or its refusal.
+/// The request of `run`, or its refusal.
 fn run_request<'a>(alloc: Global, given: &ArgMatches<'a>) -> Result<Option<Request<'a>>, Error>
     ensures asked { IfOk result (λ request. option_map request_asked request ≡ spec.run_asked (rows_of (found_of given.now))) }
     ensures kinds { FailsBy (refusals.run_kinds (rows_of (found_of given.now))) result }
@@ -306,7 +307,7 @@ fn run_request<'a>(alloc: Global, given: &ArgMatches<'a>) -> Result<Option<Reque
     plain_request(alloc, given)
 }
 
-/// What the words of `run` ask for without `--asterisk`, or its refusal where they name threads but no number of them.
+/// The request of `run` without `--asterisk`, or its refusal if the number of threads is not valid.
 fn plain_request<'a>(alloc: Global, given: &ArgMatches<'a>) -> Result<Option<Request<'a>>, Error>
     ensures asked { IfOk result (λ request. option_map request_asked request
         ≡ spec.run_by (rows_of (found_of given.now)) (first_of (codes "N") (rows_of (found_of given.now)))) }
@@ -322,7 +323,7 @@ fn plain_request<'a>(alloc: Global, given: &ArgMatches<'a>) -> Result<Option<Req
     }
 }
 
-/// What the other words of `run` ask for, in threads where their number is given.
+/// The request of `run` with an optional number of threads, given its other words.
 fn run_in<'a>(given: &ArgMatches<'a>, threads: Option<u32>) -> Option<Request<'a>>
     ensures { option_map request_asked result ≡ spec.run_in (rows_of (found_of given.now)) threads }
 {
@@ -333,7 +334,7 @@ fn run_in<'a>(given: &ArgMatches<'a>, threads: Option<u32>) -> Option<Request<'a
     })
 }
 
-/// What the words of `debug` ask for.
+/// The request of `debug`.
 fn debug_request<'a>(given: &ArgMatches<'a>) -> Option<Request<'a>>
     ensures { option_map request_asked result ≡ spec.debug_asked (rows_of (found_of given.now)) }
 {
@@ -344,7 +345,7 @@ fn debug_request<'a>(given: &ArgMatches<'a>) -> Option<Request<'a>>
     })
 }
 
-/// What the words of `reach` ask for.
+/// The request of `reach`.
 fn reach_request<'a>(given: &ArgMatches<'a>) -> Option<Request<'a>>
     ensures { option_map request_asked result ≡ spec.reach_asked (rows_of (found_of given.now)) }
 {
@@ -360,7 +361,7 @@ fn reach_request<'a>(given: &ArgMatches<'a>) -> Option<Request<'a>>
     Some(Request::Reach { question })
 }
 
-/// What the words of a command ask for, or None where one that is required is missing.
+/// The request of a command, or None if a required word is missing.
 fn command_request<'a>(
     alloc: Global,
     name: &str,
@@ -383,7 +384,7 @@ fn command_request<'a>(
     }
 }
 
-/// Whether the matches of the program's commands ask that each fault be explained.
+/// Whether the words of a command have the flag `--explain`.
 fn explains(matches: &ArgMatches<'_>) -> bool
     ensures { result ≡ spec.explains_by (subcommand_rows_of matches.now) }
 {
@@ -393,7 +394,18 @@ fn explains(matches: &ArgMatches<'_>) -> bool
     }
 }
 
-/// What the matches of the program's commands ask for, or None where a word that is required is missing.
+/// The options of the program's commands.
+fn options_in<'a>(matches: &ArgMatches<'a>) -> Options<'a>
+    ensures { options_of result ≡ spec.options_by (subcommand_rows_of matches.now) }
+{
+    let clock = clock_of(matches);
+    Options {
+        explains: explains(matches),
+        clock,
+    }
+}
+
+/// The request of a command line that clap has read, or None if a required word is missing.
 fn request_of<'a>(alloc: Global, matches: &ArgMatches<'a>) -> Result<Option<Request<'a>>, Error>
     ensures asked { IfOk result (λ request. option_map request_asked request ≡ spec.asked_by (subcommand_rows_of matches.now)) }
     ensures kinds { FailsBy (refusals.kinds_by (subcommand_rows_of matches.now)) result }
@@ -404,8 +416,8 @@ fn request_of<'a>(alloc: Global, matches: &ArgMatches<'a>) -> Result<Option<Requ
     }
 }
 
-/// The refusal of a command line that lacks a word that is required. Of each command but `check` the definition of its words refuses it
-/// before, so that it is told of the dialplan that `check` lacks where it has no queues either.
+/// The refusal of a command line that lacks a required word. Only `check` gets here, if it has neither a dialplan nor queues, since clap
+/// refuses the other commands before. The message says that the dialplan is missing.
 fn refuse_missing(alloc: Global, explains: bool) -> Result<Error, NoMemory>
     ensures { IfOk result (λ error. kind_of error ≡ MissingRequiredArgument) }
 {
@@ -417,7 +429,7 @@ fn refuse_missing(alloc: Global, explains: bool) -> Result<Error, NoMemory>
     )
 }
 
-/// What `clap` makes of the words.
+/// What `clap` reads in the words.
 fn read_matches<'a>(alloc: Global, words: &'a [String]) -> Result<ArgMatches<'a>, Error>
     ensures command { IfOk result (λ matches. subcommand_rows_of matches
         ≡ subcommand_of spec.pbx_app (spec.texts words.now)) }
@@ -429,20 +441,21 @@ fn read_matches<'a>(alloc: Global, words: &'a [String]) -> Result<ArgMatches<'a>
     commands.try_get_matches_from(words)
 }
 
-/// What a command line asks for, the program's own name first among its words; or the help that it asks for, or what is
-/// wrong with it.
-#[tactic(auto, unfolding(crate::specs::CommandLine::asked_of, crate::specs::CommandLine::explains_of, crate::specs::Refusals::refusals_of))]
+/// What a command line asks for, given its words, of which the first is the program's own name. The error is the help that it asks for, or
+/// what is wrong with it.
+#[tactic(auto, unfolding(crate::specs::CommandLine::asked_of, crate::specs::CommandLine::options_of, crate::specs::Refusals::refusals_of))]
 pub fn read_words<'a>(alloc: Global, words: &'a [String]) -> Result<Invocation<'a>, Error>
     ensures asked { IfOk result (λ read. spec.asked_of (spec.texts words.now) ≡ Some (request_asked read.request)) }
-    ensures explains { IfOk result (λ read. spec.explains_of (spec.texts words.now) ≡ read.explains) }
+    ensures options { IfOk result (λ read. spec.options_of (spec.texts words.now) ≡ options_of read.options) }
     ensures refused { IfErr result (λ error. takes spec.pbx_app (spec.texts words.now) ≡ true
         → is_some (spec.asked_of (spec.texts words.now)) ≡ true → kind_of error ≡ OutOfMemory) }
     ensures kinds { FailsBy (refusals.refusals_of (spec.texts words.now)) result }
 {
     let matches = read_matches(alloc, words)?;
-    let explains = explains(&matches);
+    check_clock(alloc, &matches)?;
+    let options = options_in(&matches);
     match request_of(alloc, &matches)? {
-        Some(request) => Ok(Invocation { request, explains }),
-        None => Err(refuse_missing(alloc, explains)?),
+        Some(request) => Ok(Invocation { request, options }),
+        None => Err(refuse_missing(alloc, options.explains)?),
     }
 }

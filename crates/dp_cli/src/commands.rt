@@ -1,5 +1,5 @@
-//! The program's commands, with what their help says. Each function takes what was made before, or its refusal for want of
-//! memory, which it hands on.
+//! The program's commands, with what their help says. Each function takes what was made before, or its failure if memory ran out, which it
+//! passes on.
 ghost use Rattle.std.specs.Prelude.{◌≡◌, false};
 ghost use Rattle.clap.specs.Simple.{App, app_of, new_app, with_rule, with_subcommand};
 ghost use Rattle.clap.specs.Walk.{rule_of};
@@ -15,7 +15,7 @@ use clap::{Arg, ArgAction, Command};
 use dp_plan::NoMemory;
 use std::alloc::Global;
 
-/// A command with no words yet, and what its help says above and below them.
+/// A command without words, given what its help says above and below them.
 fn command_of<'a>(
     alloc: Global,
     name: &'a str,
@@ -39,7 +39,7 @@ fn with_word<'a>(
     Ok(with)
 }
 
-/// A word that has to be given.
+/// A word that must be given.
 fn required_word<'a>(alloc: Global, name: &'a str, help: &'a str) -> Arg<'a>
     ensures rule { rule_of result ≡ spec.required_word name.now }
     ensures local { result.global ≡ false }
@@ -47,7 +47,7 @@ fn required_word<'a>(alloc: Global, name: &'a str, help: &'a str) -> Arg<'a>
     Arg::new(alloc, name).required(true).help(help)
 }
 
-/// A word that may be left out.
+/// An optional word.
 fn free_word<'a>(alloc: Global, name: &'a str, help: &'a str) -> Arg<'a>
     ensures rule { rule_of result ≡ spec.free_word name.now }
     ensures local { result.global ≡ false }
@@ -55,7 +55,7 @@ fn free_word<'a>(alloc: Global, name: &'a str, help: &'a str) -> Arg<'a>
     Arg::new(alloc, name).help(help)
 }
 
-/// A word that may be left out, with what stands for it then.
+/// An optional word, with its default.
 fn optional_word<'a>(alloc: Global, name: &'a str, help: &'a str, default: &'a str) -> Arg<'a>
     ensures rule { rule_of result ≡ spec.word_or name.now default.now }
     ensures local { result.global ≡ false }
@@ -63,7 +63,7 @@ fn optional_word<'a>(alloc: Global, name: &'a str, help: &'a str, default: &'a s
     Arg::new(alloc, name).help(help).default_value(default)
 }
 
-/// A word that may be given after `--` and a name.
+/// An optional word, given after `--` and a name.
 fn named_word<'a>(alloc: Global, name: &'a str, long: &'a str, help: &'a str) -> Arg<'a>
     ensures rule { rule_of result ≡ spec.named_word name.now long.now }
     ensures local { result.global ≡ false }
@@ -71,7 +71,7 @@ fn named_word<'a>(alloc: Global, name: &'a str, long: &'a str, help: &'a str) ->
     Arg::new(alloc, name).long(long).help(help)
 }
 
-/// A word that has to be given after `--` and a name.
+/// A word that must be given, after `--` and a name.
 fn required_named_word<'a>(alloc: Global, name: &'a str, long: &'a str, help: &'a str) -> Arg<'a>
     ensures rule { rule_of result ≡ spec.required_named_word name.now long.now }
     ensures local { result.global ≡ false }
@@ -79,7 +79,7 @@ fn required_named_word<'a>(alloc: Global, name: &'a str, long: &'a str, help: &'
     Arg::new(alloc, name).long(long).required(true).help(help)
 }
 
-/// A flag that may be given after `--`.
+/// An optional flag, given as `--` and a name.
 fn flag<'a>(alloc: Global, name: &'a str, long: &'a str, help: &'a str) -> Arg<'a>
     ensures rule { rule_of result ≡ spec.flag name.now long.now }
     ensures local { result.global ≡ false }
@@ -90,7 +90,7 @@ fn flag<'a>(alloc: Global, name: &'a str, long: &'a str, help: &'a str) -> Arg<'
         .help(help)
 }
 
-/// The command with the word of its dialplan's file.
+/// The command with the word for the file of its dialplan.
 fn with_dialplan<'a>(
     alloc: Global,
     command: Result<Command<'a>, NoMemory>,
@@ -101,7 +101,7 @@ fn with_dialplan<'a>(
     with_word(command, file)
 }
 
-/// The command with the flag `--explain`, which each command has as the last of its options.
+/// The command with the flag `--explain`, which is the last option of each command.
 fn with_explain<'a>(
     alloc: Global,
     command: Result<Command<'a>, NoMemory>,
@@ -112,12 +112,12 @@ fn with_explain<'a>(
         alloc,
         "explain",
         "explain",
-        "Print below each fault, and below each note of `check`, where it is and what the manual says of it",
+        "Print below each fault, and below each note of `check`, where it is and what the manual says about it",
     );
     with_word(command, explain)
 }
 
-/// The command with the flag `--verbose`, which the commands have that run a script.
+/// The command with the flag `--verbose`, which the commands that run a script have.
 fn with_verbose<'a>(
     alloc: Global,
     command: Result<Command<'a>, NoMemory>,
@@ -133,7 +133,7 @@ fn with_verbose<'a>(
     with_word(command, verbose)
 }
 
-/// The command with the flag `--asterisk`.
+/// The command with the flag `--asterisk`, and with the moment by which it reads includes with times.
 fn with_asterisk<'a>(
     alloc: Global,
     command: Result<Command<'a>, NoMemory>,
@@ -142,10 +142,17 @@ fn with_asterisk<'a>(
     ensures { (app : App) → Makes app command.entry → Makes (spec.with_asterisk app) result }
 {
     let asterisk = flag(alloc, "asterisk", "asterisk", help);
-    with_word(command, asterisk)
+    let with = with_word(command, asterisk);
+    let clock = named_word(
+        alloc,
+        "MOMENT",
+        "clock",
+        "With --asterisk: the moment by which includes with times are read, like 'fri 2026-11-27 09:30'",
+    );
+    with_word(with, clock)
 }
 
-/// The command with the words of the files that a run has: those of its dialplan and of its script.
+/// The command with the words for the files that every run has: its dialplan and its script.
 fn with_files<'a>(
     alloc: Global,
     command: Result<Command<'a>, NoMemory>,
@@ -157,7 +164,7 @@ fn with_files<'a>(
     with_word(with, script)
 }
 
-/// The command with the word of a file of queues.
+/// The command with the word for a queue file.
 fn with_queues<'a>(
     alloc: Global,
     command: Result<Command<'a>, NoMemory>,
@@ -169,7 +176,7 @@ fn with_queues<'a>(
     with_word(command, queues)
 }
 
-/// The command with the words of the files that a run may have: those of its queues and of its second dialplan.
+/// The command with the words for the optional files of a run: its queues and its second dialplan.
 fn with_more_files<'a>(
     alloc: Global,
     command: Result<Command<'a>, NoMemory>,
@@ -190,7 +197,7 @@ fn with_more_files<'a>(
     with_word(with, second_plan)
 }
 
-/// A command that was made, with one more command below it.
+/// A command with one more subcommand.
 fn add_command<'a>(
     command: Command<'a>,
     below: Result<Command<'a>, NoMemory>,
@@ -202,7 +209,7 @@ fn add_command<'a>(
     Ok(with)
 }
 
-/// The program's command with one more command below it.
+/// The program's command with one more subcommand.
 fn with_command<'a>(
     command: Result<Command<'a>, NoMemory>,
     below: Result<Command<'a>, NoMemory>,
@@ -226,7 +233,7 @@ pub(crate) fn check_command<'a>(alloc: Global) -> Result<Command<'a>, NoMemory>
     let check = with_asterisk(
         alloc,
         check,
-        "Read the files that the dialplan includes, templates and block comments, and print every fault",
+        "Read included files, templates and block comments, and print every fault",
     );
     let check = with_queues(alloc, check, "The queues, such as queues.conf");
     let file = free_word(alloc, "FILE", "The dialplan, such as extensions.conf");
@@ -234,7 +241,7 @@ pub(crate) fn check_command<'a>(alloc: Global) -> Result<Command<'a>, NoMemory>
     with_explain(alloc, check)
 }
 
-/// The command `check` as it is told where no file is given: with a dialplan, and with the flag `--explain` where that is.
+/// The command `check` for the message that its file is missing: with a dialplan, and with the flag `--explain` if it was given.
 pub(crate) fn check_of_dialplan<'a>(
     alloc: Global,
     explains: bool,
@@ -298,7 +305,7 @@ pub(crate) fn audit_command<'a>(alloc: Global) -> Result<Command<'a>, NoMemory>
 }
 
 /// The command `list`.
-fn list_command<'a>(alloc: Global) -> Result<Command<'a>, NoMemory>
+pub(crate) fn list_command<'a>(alloc: Global) -> Result<Command<'a>, NoMemory>
     ensures { Makes spec.list_app result }
 {
     let list = command_of(
@@ -310,13 +317,13 @@ fn list_command<'a>(alloc: Global) -> Result<Command<'a>, NoMemory>
     let list = with_asterisk(
         alloc,
         list,
-        "Read the files that the dialplan includes, templates and block comments",
+        "Read included files, templates and block comments",
     );
     let list = with_dialplan(alloc, list);
     with_explain(alloc, list)
 }
 
-/// The command with the words of a look-up: those of its context, of what was dialled, and of the priority that is asked for.
+/// The command with the words of a look-up: the context, what was dialled, and the priority.
 fn with_lookup<'a>(
     alloc: Global,
     command: Result<Command<'a>, NoMemory>,
@@ -349,7 +356,7 @@ pub(crate) fn match_command<'a>(alloc: Global) -> Result<Command<'a>, NoMemory>
     let matching = with_asterisk(
         alloc,
         matching,
-        "Read the files that the dialplan includes, templates and block comments",
+        "Read included files, templates and block comments",
     );
     let all = flag(
         alloc,
@@ -433,7 +440,7 @@ fn debug_command<'a>(alloc: Global) -> Result<Command<'a>, NoMemory>
     with_explain(alloc, debug)
 }
 
-/// The command with the words of what may come in.
+/// The command with the words for what may come in.
 fn with_outside<'a>(
     alloc: Global,
     command: Result<Command<'a>, NoMemory>,

@@ -1,4 +1,4 @@
-//! What the help says beside the words of the commands.
+//! What the help says in addition to the words of the commands.
 
 /// The version of the program, and the logic of the kit that it is proved with.
 pub(crate) const VERSION: &str = "0.1.0 logic dac8208d650f15bf";
@@ -44,8 +44,8 @@ pub(crate) const LIST_NOTES: &str = "\
 Prints the dialplan as canonical text: its global variables, and each context with its entries and its includes. Each priority
 is a number, and each name has its canonical spelling. The notes on the dialplan are not printed.
 
-With --asterisk the files that the dialplan includes are read, templates and block comments. If lines have faults, each fault is printed
-on standard error with its file and line, and the status is 1.
+With --asterisk included files, templates and block comments are read too. If lines have faults, each fault is printed on standard
+error with its file and line, and the status is 1.
 
 Example:
   $ pbx list extensions.conf
@@ -63,7 +63,7 @@ With --all a line follows for each extension that matches, in the order in which
 `less specific`, `later context` or `no such priority`.
 
 With --asterisk the files that the dialplan includes are read. If a line has a fault, or something that this program cannot follow
-(`switch`, an extension for one caller, `autofallthrough=no`), each such line is printed on standard error, and the status is 1.
+(`switch`, an extension for one caller, `autofallthrough=no`, `#exec`), each such line is printed on standard error, with status 1.
 
 Example:
   $ pbx match extensions.conf main 555-1234 3
@@ -142,14 +142,14 @@ Prints a line for each.
 With --threads N the calls at the beginning of the script come in first. The other events are dealt to N threads in turn, and
 each thread gives its own in order; `show` is skipped. One line is printed: `settled N seats M calls`.
 
-With --verbose the line `  FILE:LINE APP(ARGS)` is printed above that of each step that runs an entry, and the text of `pbx explain`
-above that of each refusal. It has no effect with --threads.
+With --verbose the line `  FILE:LINE APP(ARGS)` is printed above the line of each step that runs an entry, and the text of
+`pbx explain` above the line of each refusal. It has no effect with --threads.
 
 With --asterisk the files that the dialplans include are read, and a run has the applications and functions that people use. It never
-guesses: at a step before which something is unknown it prints `unknown CHANNEL WHAT -> STATE`, leaves out the further steps of that line,
-and ends with status 4 unless an event was refused. If a line of a dialplan has a fault, or something that this program cannot follow
-(`switch`, an extension for one caller, `autofallthrough=no`), nothing runs: each such line is printed on standard error, and the status
-is 1. These lines of a script say what would be unknown otherwise:
+guesses: if a step depends on something unknown, it prints `unknown CHANNEL WHAT -> STATE` and skips the remaining steps of that line.
+The status is then 4, unless an event was refused. If a line of a dialplan has a fault, or something that this program cannot follow
+(`switch`, an extension for one caller, `autofallthrough=no`, `#exec`), nothing runs: each such line is printed on standard error, with
+status 1. These lines of a script say what would otherwise be unknown:
   let CHANNEL NAME=VALUE         a variable of the channel, or what `Set` would set
   global NAME=VALUE              a global variable
   assume NAME ..                 values that nothing has set in these functions, such as DB, are empty

@@ -1,8 +1,9 @@
-//! What the words of a command line ask the program `pbx` for, and its answer to them.
+//! What a command line asks of the program `pbx`, and the program's answer.
 #![tactic(auto)]
 
 mod audit_words;
 mod check_words;
+mod clock_words;
 mod command_line;
 mod commands;
 mod help;

@@ -3,8 +3,8 @@ ghost use Rattle.std.specs.Prelude.{◌≡◌, ◌≢◌, ◌||◌, [], All, IfE
 ghost use Rattle.clap.specs.Values.{kind_of};
 ghost use Rattle.dp_commands.specs.Faults.{is_write_failed};
 ghost use Rattle.dp_program.specs.Files.{source};
-ghost use Rattle.dp_program.specs.Requests.{RequestOf, request_asked};
-ghost use Rattle.dp_cli.specs.CommandLine.{asked_of, explains_of, texts};
+ghost use Rattle.dp_program.specs.Requests.{RequestOf, options_of as options_asked, request_asked};
+ghost use Rattle.dp_cli.specs.CommandLine.{asked_of, options_of, texts};
 ghost use Rattle.dp_cli.specs.Refusals.{refusals_of};
 ghost use Rattle.dp_cli.specs.Status.{Explains, Fulfils, Refuses, RefusesAs, explained_status, sink};
 
@@ -17,7 +17,8 @@ use std::alloc::Global;
 use std::sync::Wait;
 use std::thread::Threads;
 
-/// Prints what stands in place of a request: help on the output, with the status 0, and a mistake on the errors, with 2.
+/// Prints the help or the mistake that replaces a request: help goes to the output with status 0, and a mistake goes to the errors with
+/// status 2.
 fn explain<W: WriteTold, E: WriteTold>(
     alloc: Global,
     error: &Error,
@@ -42,7 +43,7 @@ fn explain<W: WriteTold, E: WriteTold>(
     Ok(0)
 }
 
-/// Prints what stands in place of a request, and gives the status.
+/// Prints the help or the mistake that replaces a request, and gives the status.
 fn refuse<W: WriteTold, E: WriteTold>(
     alloc: Global,
     error: &Error,
@@ -71,7 +72,7 @@ fn fulfil<F: ReadFiles, I: ReadTold, W: WriteTold, E: WriteTold, R: Threads + Wa
 ) -> u8
     ensures { Fulfils (F.source_at files.now) (source (I.remaining input.old) (I.has_failed input.new))
         (request_asked invocation.now.request)
-        invocation.now.explains
+        (options_asked invocation.now.options)
         (sink (W.contents output.old) (W.has_failed output.old))
         (sink (W.contents output.new) (W.has_failed output.new))
         (sink (E.contents errors.old) (E.has_failed errors.old))
@@ -82,20 +83,20 @@ fn fulfil<F: ReadFiles, I: ReadTold, W: WriteTold, E: WriteTold, R: Threads + Wa
         files,
         alloc,
         &invocation.request,
-        invocation.explains,
+        invocation.options,
         input,
         output,
     );
-    finish(errors, invocation.explains, answered)
+    finish(errors, invocation.options.explains, answered)
 }
 
-/// Does what the words of the command line ask for, the program's own name first among them, and gives the status: 0; 1
-/// where a fault was printed or an event was refused; 2 where the command line was refused; 4 where a run stopped at what is unknown.
+/// Does what the words of the command line ask for, and gives the status. The first word is the program's own name. The status is 0; 1 if a
+/// fault was printed or an event was refused; 2 if the command line was refused; 4 if a run stopped because something is unknown.
 ///
-/// What was asked for goes to `output`, and faults and mistakes go to `errors`; where these cannot be written, the
-/// status tells alone. `input` is read where there is no command, and never where the words have a fault.
+/// What was asked for goes to `output`. Faults and mistakes go to `errors`; if these cannot be written, only the status reports them.
+/// `input` is read only if there is no command, and never if the words have a fault.
 ///
-/// `rt` is for the threads of a run that asks for them.
+/// `rt` is for the threads of a run that has them.
 pub fn answer<F: ReadFiles, I: ReadTold, W: WriteTold, E: WriteTold, R: Threads + Wait + Sync>(
     rt: &R,
     files: &F,
@@ -107,7 +108,7 @@ pub fn answer<F: ReadFiles, I: ReadTold, W: WriteTold, E: WriteTold, R: Threads 
 ) -> u8
     ensures fulfils { (want : RequestOf) → refusals_of (texts words.now) ≡ [] → asked_of (texts words.now) ≡ Some want
         → Fulfils (F.source_at files.now) (source (I.remaining input.old) (I.has_failed input.new)) want
-        (explains_of (texts words.now))
+        (options_of (texts words.now))
         (sink (W.contents output.old) (W.has_failed output.old))
         (sink (W.contents output.new) (W.has_failed output.new))
         (sink (E.contents errors.old) (E.has_failed errors.old))

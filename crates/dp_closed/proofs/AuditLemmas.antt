@@ -1,4 +1,4 @@
--- Calls that come in into a reach.
+-- Calls that come into a reach.
 use Rattle.std.proofs.Common.{List, map}
 use Rattle.std.specs.Global.{Vec}
 use Rattle.std.specs.List.{AllByRecursion}
@@ -30,7 +30,7 @@ AreCallsIn audit names = AllByRecursion (IsCallIn audit) (map (λ (name : Vec �
 abbrev pub narrow_of : Audit → Claim
 narrow_of audit = record { plan = audit.wide.plan; names = audit.wide.names; reach = audit.reach; ways = audit.wide.ways }
 
--- a closed audit is right of every run over this program's table
+-- a closed audit is right about every run over this program's table
 pub runs-entered : (audit : Audit) (settings : List Settings) (answers : EntryId → Bool) → IsEntered audit
     → IsClosed standard_duties (kept_claim audit.wide settings) (λ id. true) → IsClosed standard_duties (kept_claim (narrow_of audit) settings) answers
     → RunsOnly standard_rows (shown_outside audit.outside.now) audit.context.now audit.wide.plan.now settings answers

@@ -1,4 +1,4 @@
--- Where digits lead out of queues, by the contexts of their ways.
+-- Where digits lead out of queues, given the contexts of their ways out.
 use Rattle.std.proofs.Common.{◌≡◌, ℕ, suc, true, List, [], ◌∷◌, Option, Some, None, slice_get, unwrap_or, refl, sym, ap, ◌∙◌, subst}
 use Rattle.std.proofs.lemmas.Option.{slice_get-map}
 use Rattle.std.specs.Global.{Vec}
@@ -35,7 +35,7 @@ way-covers : (plan : PlanOf) (reach : List Area) (context : List ShapePiece) (na
     → Covers plan reach (place_of name (digit ∷ []) 1)
 way-covers plan reach context name digit includes fits is = includes (place_of name (digit ∷ []) 1) (record { context = fits; exten = one-fits digit is })
 
--- the way out of the queue of a number
+-- the way out of the queue with a number
 pub leads-out : (plan : PlanOf) (reach : List Area) (settings : List Settings) (ways : List (Vec Piece)) → AreWays settings ways → Includes plan reach (digits_in [])
     → ((k : ℕ) (way : Vec Piece) → slice_get ways k ≡ Some way → Includes plan reach (digits_in (shown_all way.items)))
     → (queue digit : ℕ) → is_digit digit ≡ true → Covers plan reach (place_of (way_of settings queue) (digit ∷ []) 1)

@@ -1,4 +1,4 @@
--- Entries and areas of a claim that is closed.
+-- Entries and areas of a closed claim.
 use Rattle.std.proofs.Common.{◌≡◌, ℕ, suc, ◌<◌, ◌≤◌, ◌+◌, ◌==◌, ◌⊎◌, inl, inr, Bool, true, false, List, [], ◌∷◌, ◌++◌, drop, get_or, length, map, Option, Some, None, slice_get, refl, sym, ap, ◌∙◌, subst, arith}
 use Rattle.std.proofs.lemmas.Bool.{cases_lt}
 use Rattle.std.proofs.lemmas.List.{drop_all, drop_more}
@@ -27,15 +27,15 @@ use Rattle.dp_closed.specs.Found.{IsUnfound}
 use Rattle.dp_closed.specs.Reach.{areas_in, shapes_at}
 use Rattle.dp_closed.specs.Steps.{IsEntryIn}
 
--- the entries of the context of a number
+-- the entries of the context with a number
 abbrev pub entries_in : PlanOf → ℕ → List Entry
 entries_in plan number = option_map_or (λ (c : PlanContext). c.entries) (slice_get plan.contexts number) []
 
--- an entry that is not there is not found
+-- an entry that does not exist is not found
 pub not-there : (plan : PlanOf) (area : Area) (id : EntryId) (entry : Entry) → entry_at plan id ≡ None → MayFind plan area id entry → ⊥
 not-there plan area id entry is may = let there : entry_at plan id ≡ Some entry = may.there in cc
 
--- one that no context with these entries lets find
+-- an entry that is not found in any context with these entries
 pub unfound : (plan : PlanOf) (context exten : List ShapePiece) (id : EntryId) (entry other : Entry) (entries : List Entry) → entry_at plan id ≡ Some entry
     → entries ≡ entries_in plan id.context → IsUnfound entries entry exten → MayFind plan (area_at context exten) id other → ⊥
 unfound plan context exten id entry other entries there are none may = by (slice_get plan.contexts id.context) refl
@@ -60,7 +60,7 @@ found-entry claim answers area met id entry there is closed other may =
     subst (λ (e : Entry). IsEntry standard_duties claim answers (area_matched area e.name) id e) same
     (subst (λ (a : Area). IsEntry standard_duties claim answers a id entry) is closed)
 
--- behind the entries of a context there is none
+-- after the entries of a context there is none
 pub past-entries : (plan : PlanOf) (number entry : ℕ) → length (entries_in plan number) ≤ entry → entry_at plan (record { context = number; entry = entry }) ≡ None
 past-entries plan number entry = by (slice_get plan.contexts number)
   where
@@ -79,7 +79,7 @@ there-in plan number place entry entries are within here =
     by None is = is
     by (Some c) is = is
 
--- each entry of the context of a number is closed
+-- each entry of the context with a number is closed
 abbrev pub AreEntriesIn : Claim → (EntryId → Bool) → Area → ℕ → Type 0
 AreEntriesIn claim answers area number = (entry : ℕ) → IsEntryIn claim answers area (record { context = number; entry = entry })
 
@@ -95,7 +95,7 @@ has-first P first rest here there n = by (first == n) refl
     by true same is = subst P (eqb-true first n same) here
     by false other is = there n (let e : has rest n ≡ true = cc in e)
 
--- so it is from a place of a list on
+-- it holds from a place of a list on
 pub has-more : (P : ℕ → Type 0) (order : List ℕ) (at default : ℕ) → at < length order → P (get_or order at default)
     → HoldsOfEach P (drop (at + 1) order) → HoldsOfEach P (drop at order)
 has-more P order at default within here there =
@@ -105,7 +105,7 @@ has-more P order at default within here there =
 pub has-none : (P : ℕ → Type 0) (order : List ℕ) (at : ℕ) → length order ≤ at → HoldsOfEach P (drop at order)
 has-none P order at past = subst (HoldsOfEach P) (sym (drop_all at order past)) (λ n is. absurd cc)
 
--- what holds below a number and of it holds below the next
+-- what holds below a number and at it holds below the next
 pub below-more : (P : ℕ → Type 0) (n : ℕ) → ((k : ℕ) → k < n → P k) → P n → (k : ℕ) → k < n + 1 → P k
 below-more P n below here k less = by (cases_lt k n)
   where
@@ -113,7 +113,7 @@ below-more P n below here k less = by (cases_lt k n)
     by (inl less_still) = below k less_still
     by (inr past) = let same : n ≡ k = omega (arith, less, past) in subst P same here
 
--- each entry of the context of a number is closed where those below a number are, and there are no more
+-- each entry of the context with a number is closed if those below a number are, and there are no more
 pub none-behind : (claim : Claim) (answers : EntryId → Bool) (area : Area) (number count : ℕ) → length (entries_in claim.plan number) ≤ count
     → ((k : ℕ) → k < count → IsEntryIn claim answers area (record { context = number; entry = k })) → AreEntriesIn claim answers area number
 none-behind claim answers area number count all below k = by (cases_lt k count)

@@ -34,7 +34,7 @@ hidden-unfound entries entry other k exten met is here hides plan context id at 
   covers = λ text fits matching. hides.covers text (subst (λ ps. Fits ps text) (sym is) (fits-after_match exten entry.name text fits matching));
 })
 
--- names of one spelling mean the same
+-- names with one spelling mean the same
 pub spelled-alike : (name other : Meaning) → IsName name → IsName other → spelling name ≡ spelling other → name ≡ other
 spelled-alike name other named other_named same = let read : Ok name ≡ Ok other = sym (spelled_again name named) ∙ (ap meaning_of same ∙ spelled_again other other_named) in cc
 

@@ -1,4 +1,4 @@
--- Pieces of a known text, and what is owed for a name that is known.
+-- Pieces of a known text, and what is owed if a name is known.
 use Rattle.std.proofs.Common.{◌≡◌, ℕ, Bool, true, false, ◌&&◌, ◌==◌, cond, List, [], ◌∷◌, Option, Some, refl, sym, ap, ◌∙◌}
 use Rattle.std.specs.List.{onto_first}
 use Rattle.dp_closed.specs.Steps.{known_bytes}
@@ -19,21 +19,21 @@ known-exactly (byte ∷ text) = ap (λ t. byte ∷ t) (known-exactly text)
 known-front : (front : List Piece) (name : List ℕ) → front ≡ exactly name → name ≡ known_bytes front
 known-front front name is = sym (ap known_bytes is ∙ known-exactly name)
 
--- what is owed where a function's name is known
+-- what is owed if a function's name is known
 pub unknown-known : (set : Bytes) (cut : Option (List ℕ × List Piece)) (front rest : List Piece)
     → (name : List ℕ) × (cut ≡ Some (name, rest)) × (front ≡ exactly name)
     → any_argument_duties (trim_start (known_bytes front)) set ≡ unknown_duties set cut
 unknown-known set cut front rest (name, is, exact) =
     ap (λ n. any_argument_duties (trim_start n) set) (sym (known-front front name exact)) ∙ ap (unknown_duties set) (sym is)
 
--- what is owed where a name is known
+-- what is owed if a name is known
 pub pair-known : (pieces : List Piece) (cut : Option (List ℕ × List Piece)) (front rest : List Piece)
     → (name : List ℕ) × (cut ≡ Some (name, rest)) × (front ≡ exactly name)
     → name_duties (trim (known_bytes front)) (cut_once 40 (trim (known_bytes front))) (pieces_set rest) ≡ pair_duties pieces cut
 pair-known pieces cut front rest (name, is, exact) =
     ap (λ n. name_duties (trim n) (cut_once 40 (trim n)) (pieces_set rest)) (sym (known-front front name exact)) ∙ ap (pair_duties pieces) (sym is)
 
--- the last of several parts is that of those after the first
+-- the last of several parts is the last of those after the first
 onto-more : (part : List Piece) (piece : Piece) (parts : List (List Piece)) → last_part (part ∷ onto_first piece parts) ≡ last_part (onto_first piece parts)
 onto-more part piece [] = refl
 onto-more part piece (next ∷ parts) = refl

@@ -19,7 +19,7 @@ not-none e = grind arith
 none-first : (e : ℕ) → (zero == suc e) ≡ false
 none-first e = grind arith
 
--- two numbers are the same where those after them are
+-- two numbers are the same if their successors are
 eq-more : (a b : ℕ) → (suc a == suc b) ≡ (a == b)
 eq-more a b = grind arith
 
@@ -46,7 +46,7 @@ row-places (bit ∷ bits) zero (suc e) = refl
 row-places (bit ∷ bits) (suc at) zero = refl
 row-places (bit ∷ bits) (suc at) (suc e) = row-places bits at e
 
--- the marks after one more, where there is the row of its context
+-- the marks after one more, if its context has a row
 pub more-mark : (marks : List (Vec Bool)) (id other : EntryId) (row new : Vec Bool) → id.context < length marks → row ≡ get_or marks id.context row
     → new.items ≡ changed_at (λ mark. true) id.entry row.items
     → is_marked (set marks id.context new) other ≡ ((is_same other id && has_place marks id) || is_marked marks other)
@@ -93,7 +93,7 @@ same-places marks id other row new within here is = by marks id.context other.co
 abbrev pub bits_of : Vec Bool → List Bool
 bits_of row = row.items
 
--- a row with no mark for each entry of a context
+-- a row without marks for the entries of a context
 abbrev pub empty_row : PlanContext → List Bool
 empty_row context = replicate (length context.entries) false
 
@@ -112,7 +112,7 @@ pub all-rows : (contexts : List PlanContext) (rows : List (List Bool)) (at : ℕ
     → rows ++ map empty_row (drop at contexts) ≡ map empty_row contexts → rows ≡ map empty_row contexts
 all-rows contexts rows at past are = sym (append-nil rows) ∙ (ap (λ cs. rows ++ map empty_row cs) (sym (drop_all at contexts past)) ∙ are)
 
--- no entry is marked in rows with no mark
+-- no entry is marked in rows without marks
 pub none-is_marked : (contexts : List PlanContext) (marks : List (Vec Bool)) → map bits_of marks ≡ map empty_row contexts
     → (id : EntryId) → is_marked marks id ≡ false
 none-is_marked contexts marks are id = by contexts marks id.context are

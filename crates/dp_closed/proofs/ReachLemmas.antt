@@ -75,7 +75,7 @@ number-at contexts name n is =
           (get_or_from_slice_get (map (λ (context : PlanContext). context.name) contexts) n at.0.name [] named) found.1);
     }
 
--- each place of the shapes is in the reach, where each context that may be meant has the extensions
+-- each place of the shapes is in the reach, if each context that may be meant has the extensions
 pub includes-all : (plan : PlanOf) (shapes : List (Vec (Vec Piece))) (context exten : List Piece)
     → ((k : ℕ) (own : PlanContext) → slice_get plan.contexts k ≡ Some own → Fits (shown_all context) own.name
     → (text : List ℕ) → Fits (shown_all exten) text → FitsAny (shapes_at shapes k) text)
@@ -89,7 +89,7 @@ includes-all plan shapes context exten all place inside = by (number_of plan pla
         inr (in-one plan.contexts shapes n at.own place at.there at.same
         (all n at.own at.there (subst (Fits (shown_all context)) at.same inside.context) place.exten inside.exten))
 
--- and where the context is known and has them
+-- and if the context is known and has them
 pub includes-text_known : (plan : PlanOf) (shapes : List (Vec (Vec Piece))) (context exten : List Piece) (name : List ℕ) → text_known (shown_all context) ≡ Some name
     → ((n : ℕ) → number_of plan name ≡ Some n → (text : List ℕ) → Fits (shown_all exten) text → FitsAny (shapes_at shapes n) text)
     → Includes plan (areas_in plan.contexts shapes) (area_at (shown_all context) (shown_all exten))

@@ -46,7 +46,7 @@ agree-below (suc count) byte a b less is = by (byte == count) refl (λ below. ag
     by true here later = subst (λ n. a n ≡ b n) (sym (eqb-true byte count here)) (same (a count) (b count) (both-left (if a count then b count else not (b count)) (agree count a b) is))
     by false other later = let far = eqb-false byte count other in later (omega (arith, less, far))
 
--- none of these is a byte that is above all of them
+-- none of these is a byte above all of them
 apart : (n byte : ℕ) → n < byte → (n == byte) ≡ false
 apart n byte less = grind (arith, less)
 
@@ -58,7 +58,7 @@ above (n ∷ texts) byte less = (λ i. apart n byte less.0 i || above texts byte
 digit-above : (byte : ℕ) → 69 ≤ byte → is_digit byte ≡ false
 digit-above byte much = grind (arith, much)
 
--- the digits of a telephone as a text
+-- the telephone digits as a text
 abbrev pub the_digits : List ℕ
 the_digits = codes "0123456789ABCD*#"
 

@@ -1,4 +1,4 @@
--- Dashes in a dialled text make no difference to a look-up, nor to what decides about the extensions that match.
+-- Dashes in a dialled text do not affect a look-up, nor what decides about the extensions that match.
 use Rattle.std.proofs.Common.{◌≡◌, ℕ, Bool, false, ◌&&◌, ◌==◌, cond, List, [], ◌∷◌, map, Some, None, refl, ap}
 use Rattle.std.specs.List.{filter_map, find, flat_map}
 use Rattle.std.specs.Option.{option_map_or}
@@ -11,7 +11,7 @@ use Rattle.dp_plan.specs.Lookup.{entry_at}
 use Rattle.dp_plan.specs.Plan.{PlanOf}
 use Rattle.dp_plan.specs.declared.entry.EntryId.{EntryId}
 
--- the same entry is found for the text without them
+-- the same entry is found for the text without dashes
 pub found_undashed : (plan : PlanOf) (order text : List ℕ) (priority : ℕ)
     → found_entry plan order (without_dashes text) priority ≡ found_entry plan order text priority
 unfolding found_entry
@@ -20,7 +20,7 @@ found_undashed plan order text priority =
     (without_dashes-without_dashes text)
 
 module _ (plan : PlanOf) (text : List ℕ) (priority : ℕ) where
-  -- the same names match the text without them
+  -- the same names match the text without dashes
   matched_undashed : is_matched plan (without_dashes text) ≡ is_matched plan text
   matched_undashed =
       ap {B = EntryId → Bool}

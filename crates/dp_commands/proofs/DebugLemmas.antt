@@ -1,4 +1,4 @@
--- What a debugger's run over one event comes to.
+-- The result of a debugger's run over one event.
 use Rattle.std.proofs.Common.{suc, zero, ◌≡◌, ℕ, ◌≤◌, List, [], ◌∷◌, Some, None, refl, subst, arith}
 use Rattle.std.specs.List.{slice_range}
 use Rattle.dp_app.specs.Rows.{Meanings}
@@ -27,7 +27,7 @@ module _ (meanings : Meanings) (w : World) (event : Event) (breaks : List Break)
       let why : (0 ≤ halt.taken) × (first_at meanings w (event ∷ []) 0 breaks halt.taken ≡ Some number) =
       subst (λ why. IsWhy 1 0 halt.taken (first_at meanings w (event ∷ []) 0 breaks halt.taken) why) halted run.why in why.1
 
-  -- after the event there is none before which a break could hold
+  -- after the event no event is left before which a break could hold
   first_after : (number : ℕ) → first_at meanings w (event ∷ []) 0 breaks (suc number) ≡ None
   unfolding first_at
   first_after number = refl

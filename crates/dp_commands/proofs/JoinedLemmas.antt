@@ -1,4 +1,4 @@
--- A joined text that is cut at a separator, line by line.
+-- A joined text cut at a separator, line by line.
 use Rattle.std.proofs.Common.{◌≡◌, ℕ, ◌-◌, true, false, cond, eqb, List, [], ◌∷◌, ◌++◌, Option, Some, None, Bor, length, take, refl, ap, ◌∙◌, sym, arith}
 use Rattle.std.specs.List.{join_with_byte}
 use Rattle.std.specs.Option.{option_map}
@@ -10,11 +10,11 @@ use Rattle.dp_conf.specs.Lines.{parts_of}
 use Rattle.dp_commands.specs.Joined.{is_separator, lines_before, lines_after, text_before, text_after, text_left}
 use Rattle.dp_conf.proofs.LinesLemmas.{parts_left}
 
--- the bytes of what is left to read, where something is
+-- the bytes that are left to read, if there are any
 abbrev pub bytes_left : Option (Bor (List ℕ)) → List ℕ
 bytes_left after = text_left (option_map (λ text. text.now) after)
 
--- what is left, as its parts joined
+-- the joined parts of what is left
 join-parts_left : (after : Option (Bor (List ℕ))) → join_with_byte 10 (parts_left after) ≡ bytes_left after
 join-parts_left None = refl
 join-parts_left (Some rest) = join_with_byte-slice_split 10 rest.now
@@ -30,7 +30,7 @@ cut-whole left part rest e = by (parts_of rest) refl where
       ∙ (ap (λ (t : List ℕ). part ++ 10 ∷ t) (ap (join_with_byte 10) (sym some) ∙ join_with_byte-slice_split 10 rest)
       ∙ sym (append_assoc part (10 ∷ []) rest)))
 
--- what stands before what is left
+-- the part that was read, then what is left, is the whole text
 front-whole : (text left part rest : List ℕ) (start : ℕ) → take start text ++ left ≡ text → parts_of left ≡ part ∷ parts_of rest → (take start text ++ (part ++ 10 ∷ [])) ++ rest ≡ text
 front-whole text left part rest start place cut =
     append_assoc (take start text) (part ++ 10 ∷ []) rest ∙ (ap (λ (t : List ℕ). take start text ++ t) (sym (cut-whole left part rest cut)) ∙ place)
@@ -40,7 +40,7 @@ front-taken text front rest whole =
     let len : length text - length rest ≡ length front = omega (arith, ap length whole, length-append front rest) in
     ap (λ n. take n text) len ∙ (ap (λ (t : List ℕ). take (length front) t) (sym whole) ∙ take-append_seam front rest)
 
--- where the reading stands after a line
+-- the position of the reading after a line
 pub place-turn : (text left part : List ℕ) (after : Option (Bor (List ℕ))) (start : ℕ) → take start text ++ left ≡ text → parts_of left ≡ part ∷ parts_left after → take (length text - length (bytes_left after)) text ++ bytes_left after ≡ text
 place-turn text left part None start place cut = append-nil (take (length text - 0) text) ∙ take_all (length text - 0) text (omega arith)
 place-turn text left part (Some rest) start place cut =
@@ -52,7 +52,7 @@ option_map-option_map front more None = refl
 option_map-option_map front more (Some x) = ap (λ (t : List ℕ). Some t) (sym (append_assoc front more x))
 
 module _ (separator : List ℕ) where
-  -- a line that is no separator stands before it
+  -- a line that is not a separator is in the part before it
   pub lines_before-turn : (text left part : List ℕ) (after : Option (Bor (List ℕ))) (start : ℕ)
       → take start text ++ left ≡ text
       → parts_of left ≡ part ∷ parts_left after
@@ -69,12 +69,12 @@ module _ (separator : List ℕ) where
       ∙ (option_map-option_map (take start text) (part ++ 10 ∷ []) (lines_before separator (parts_of rest.now))
       ∙ ap (λ (f : List ℕ). option_map (λ (later : List ℕ). f ++ later) (lines_before separator (parts_of rest.now))) (sym front)))
 
-  -- and is none of those after it
+  -- and is not among the lines after it
   pub lines_after-turn : (left part : List ℕ) (parts : List (List ℕ)) → parts_of left ≡ part ∷ parts → is_separator separator part ≡ false → lines_after separator (parts_of left) ≡ lines_after separator parts
   lines_after-turn left part parts cut other =
       ap (lines_after separator) cut ∙ ap (λ t. cond {A = Option (List (List ℕ))} t (Some parts) (lines_after separator parts)) other
 
-  -- at the separator what was passed stands before it
+  -- at the separator the lines that were passed are the part before it
   pub text_before-found : (text left part : List ℕ) (parts : List (List ℕ)) (start : ℕ) → lines_before separator (parts_of text) ≡ option_map (λ later. take start text ++ later) (lines_before separator (parts_of left)) → parts_of left ≡ part ∷ parts → is_separator separator part ≡ true → take start text ≡ text_before separator text
   unfolding text_before
   text_before-found text left part parts start so_far cut here =
@@ -83,7 +83,7 @@ module _ (separator : List ℕ) where
       ∙ ap (λ t. option_map (λ (later : List ℕ). take start text ++ later) (cond {A = Option (List ℕ)} t (Some []) (option_map (λ (later : List ℕ). (part ++ 10 ∷ []) ++ later) (lines_before separator parts)))) here))
       ∙ append-nil (take start text))
 
-  -- and what is left stands after it
+  -- and what is left is the part after it
   pub text_after-found : (text left part : List ℕ) (after : Option (Bor (List ℕ))) → lines_after separator (parts_of text) ≡ lines_after separator (parts_of left) → parts_of left ≡ part ∷ parts_left after → is_separator separator part ≡ true → Some (bytes_left after) ≡ text_after separator text
   unfolding text_after
   text_after-found text left part after so_far cut here =
@@ -91,7 +91,7 @@ module _ (separator : List ℕ) where
       ∙ ap (λ t. cond {A = Option (List (List ℕ))} t (Some (parts_left after)) (lines_after separator (parts_left after))) here))
       ∙ ap (λ (t : List ℕ). Some t) (join-parts_left after))
 
-  -- with no separator the whole text stands before, and nothing after
+  -- without a separator the whole text is the part before it, and no part comes after it
   pub text_before-absent : (text : List ℕ) (start : ℕ) → lines_before separator (parts_of text) ≡ option_map (λ later. take start text ++ later) (lines_before separator []) → text ≡ text_before separator text
   unfolding text_before
   text_before-absent text start so_far = sym (ap (λ (o : Option (List ℕ)). unwrap_or o text) so_far)

@@ -1,4 +1,4 @@
--- A runner goes on, or stops.
+-- A runner continues, or stops.
 use Rattle.std.proofs.Common.{◌≡◌, ℕ, Bool, ◌||◌, List, ◌++◌, Option, Ok, Err, subst}
 use Rattle.dp_machine.specs.World.{World}
 use Rattle.dp_commands.specs.Turns.{Taken}
@@ -16,7 +16,7 @@ module _ {T A U : Type 0} (step : T × World → U → Taken (T × World)) (ts u
       subst P whole (Streams-goes_on step (first.taker, first.machine) ts us c d e first.block.whole second.block.whole third.block.whole
       (second.taker, second.machine) (third.taker, third.machine) refused more so_far then_on)
 
-  -- the turns after the others stopped, with the rest to come
+  -- the turns after which the others stopped, with the remaining ones
   pub Takes-stops : (rest : List U) (fault : PbxFault) → (ts ++ us) ++ rest ≡ all → Takes step ts c first d second (Ok refused)
       → Takes step us d second e third (Err fault) → Takes step all c first e third (Err fault)
   Takes-stops rest fault whole so_far stopped =

@@ -1,4 +1,4 @@
--- The readings of a script's lines, by the number of lines before them.
+-- The readings of a script's lines, given the number of lines before them.
 use Rattle.std.proofs.Common.{◌≡◌, ℕ, ◌+◌, List, [], ◌∷◌, ◌++◌, Option, Result, Ok, Bor, length, refl, ap, ◌∙◌}
 use Rattle.std.proofs.lemmas.List.{length-append}
 use Rattle.dp_conf.specs.Answers.{with_front, all_of, each_after}
@@ -9,7 +9,7 @@ use Rattle.dp_commands.specs.Script.{reading_at, reading_by}
 use Rattle.dp_commands.specs.declared.fault.PbxFault.{PbxFault}
 use Rattle.dp_commands.specs.declared.script.ScriptLine.{ScriptLine}
 
--- the readings, where so many lines stand before
+-- the readings, after this number of lines
 abbrev pub readings_from : {U : Type 0} → (List ℕ → Option (List (ScriptLine U))) → ℕ → List (List ℕ) → List (Result (List (ScriptLine U)) PbxFault)
 readings_from stands_for number [] = []
 readings_from stands_for number (part ∷ parts) =
@@ -24,7 +24,7 @@ module _ {U : Type 0} (stands_for : List ℕ → Option (List (ScriptLine U))) w
       (each_after-reading_by (before ++ part ∷ []) parts
       ∙ ap (λ n. readings_from stands_for n parts) (length-append before (part ∷ [])))
 
-  -- one turn of the reading
+  -- one turn of the loop over the lines
   pub readings_from-turn : (text part : List ℕ) (after : Option (Bor (List ℕ))) (number : ℕ) (lines line : List (ScriptLine U))
       → parts_of text ≡ part ∷ parts_left after
       → reading_at (number + 1) (stands_for part) ≡ Ok line

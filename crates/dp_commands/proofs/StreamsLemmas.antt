@@ -1,4 +1,4 @@
--- A run goes on after what it wrote and what waits, and stops where memory or a write fails.
+-- A run continues after what it wrote and what waits, and stops if memory runs out or a write fails.
 use Rattle.std.proofs.Common.{◌≡◌, ℕ, ◌+◌, Bool, true, false, ◌||◌, List, [], ◌∷◌, ◌++◌, Option, Some, None, Result, Ok, Err, length, take, drop, refl, ap, subst, ◌∙◌, sym, arith}
 use Rattle.std.specs.Io.KnownBytes.{Appends, Keeps}
 use Rattle.std.proofs.lemmas.List.{append_assoc, append-nil, length-append, take-append-le, take-append-drop}
@@ -29,12 +29,12 @@ pub Flows-stay : (old : Option (List ℕ)) (waited : List ℕ) → Flows old wai
 Flows-stay None waited = tt
 Flows-stay (Some xs) waited = (ap (λ (t : List ℕ). xs ++ t) (sym (append-nil waited)), IsFront-refl xs)
 
--- bytes are added to what waits
+-- bytes are added to those that wait
 pub Flows-waits : (old : Option (List ℕ)) (waited waits bytes : List ℕ) → waits ≡ waited ++ bytes → Flows old waited old waits bytes
 Flows-waits None waited waits bytes e = tt
 Flows-waits (Some xs) waited waits bytes e = (ap (λ (t : List ℕ). xs ++ t) e, IsFront-refl xs)
 
--- all that waits is written
+-- everything that waits is written
 pub Flows-sent : (old new : Option (List ℕ)) (waited : List ℕ) → Appends old new waited → Flows old waited new [] []
 Flows-sent None new waited wrote = tt
 Flows-sent (Some xs) None waited wrote = wrote
@@ -55,7 +55,7 @@ Flows-trans (Some xs) (Some ys) (Some zs) a b f first second p q = (
   IsFront-trans xs ys zs p.1 q.1,
 )
 
--- a failed write after what flowed
+-- a failed write after other bytes
 pub Flows-fails : (c d e : Option (List ℕ)) (a b first second : List ℕ) → Flows c a d b first → AppendsFront d e (b ++ second) → AppendsFront c e (a ++ (first ++ second))
 Flows-fails None d e a b first second p q = tt
 Flows-fails (Some xs) None e a b first second p q = absurd p
@@ -110,7 +110,7 @@ module _ {S U : Type 0} (step : S → U → Taken S) where
   pub Streams-start : (s : S) (old : Option (List ℕ)) (waited : List ℕ) → Streams step s [] old waited old waited s (Ok false)
   Streams-start s old waited = (Flows-stay old waited, refl, refl)
 
-  -- more turns are met by the state after the others
+  -- more turns meet the state after the others
   pub Streams-goes_on : (s : S) (ts us : List U) (c d e : Option (List ℕ)) (a b f : List ℕ) (s1 s2 : S) (r1 r2 : Bool) → Streams step s ts c a d b s1 (Ok r1) → Streams step s1 us d b e f s2 (Ok r2) → Streams step s (ts ++ us) c a e f s2 (Ok (r1 || r2))
   Streams-goes_on s ts us c d e a b f s1 s2 r1 r2 so_far more =
       let P : List ℕ → Type 0 = λ t. Flows c a e f t in
@@ -120,7 +120,7 @@ module _ {S U : Type 0} (step : S → U → Taken S) where
         ap (λ r. r || r2) so_far.2 ∙ (ap (λ r. refused_in step s ts || r) (more.2 ∙ ap (λ at. refused_in step at us) so_far.1) ∙ sym (refused_in-append s ts us)),
       )
 
-  -- a stop after what flowed
+  -- a stop after other bytes
   pub Streams-stops : (s : S) (ts us : List U) (c d e : Option (List ℕ)) (a b f : List ℕ) (s1 s2 : S) (r1 : Bool) (fault : PbxFault) → Streams step s ts c a d b s1 (Ok r1) → Streams step s1 us d b e f s2 (Err fault) → Streams step s (ts ++ us) c a e f s2 (Err fault)
   Streams-stops s ts us c d e a b f s1 s2 r1 (Coded code line) so_far more =
       let P : List ℕ → Type 0 = λ t. AppendsFront c e (a ++ t) in
@@ -136,7 +136,7 @@ module _ {S U : Type 0} (step : S → U → Taken S) where
         flowed = subst P (sym here) (Flows-trans c d e a b f (lines_of step s ts) (lines_of step s1 (take more.count us)) so_far.0 more.flowed);
       }
 
-  -- what stopped, stopped with more turns to come
+  -- a run that stopped, stopped with more turns remaining
   pub Streams-more : (s : S) (ts us : List U) (c d : Option (List ℕ)) (a b : List ℕ) (s1 : S) (fault : PbxFault) → Streams step s ts c a d b s1 (Err fault) → Streams step s (ts ++ us) c a d b s1 (Err fault)
   Streams-more s ts us c d a b s1 (Coded code line) stopped =
       let P : List ℕ → Type 0 = λ t. AppendsFront c d t in
@@ -151,7 +151,7 @@ module _ {S U : Type 0} (step : S → U → Taken S) where
         flowed = subst P (sym (take-append-le stopped.count ts us stopped.within)) stopped.flowed;
       }
 
-  -- one turn, of which the lines wait and some of what waits may be written
+  -- one turn, whose lines wait, and some of what waits may be written
   pub Streams-one : (s : S) (turn : U) (c d : Option (List ℕ)) (a mid b : List ℕ) (after : S) (refused : Bool) → mid ≡ a ++ (step s turn).lines → after ≡ (step s turn).state → refused ≡ (step s turn).refused → Flows c mid d b [] → Streams step s (turn ∷ []) c a d b after (Ok refused)
   Streams-one s turn c d a mid b after refused line state answer sent =
       let P : List ℕ → Type 0 = λ t. Flows c a d b t in (
@@ -164,7 +164,7 @@ module _ {S U : Type 0} (step : S → U → Taken S) where
         or-end true = refl
         or-end false = refl
 
-  -- one turn, where memory was refused
+  -- one turn during which memory ran out
   pub FlowsFirst-none : (s : S) (turns : List U) (c : Option (List ℕ)) (a b : List ℕ) → b ≡ a → FlowsFirst step s turns c a c b
   FlowsFirst-none s turns c a b e =
       record {
@@ -173,13 +173,13 @@ module _ {S U : Type 0} (step : S → U → Taken S) where
         flowed = Flows-waits c a b [] (e ∙ sym (append-nil a));
       }
 
-  -- one turn, where the write failed
+  -- one turn during which the write failed
   pub fails-one : (s : S) (turn : U) (c d : Option (List ℕ)) (a mid : List ℕ) → mid ≡ a ++ (step s turn).lines → AppendsFront c d mid → AppendsFront c d (a ++ lines_of step s (turn ∷ []))
   fails-one s turn c d a mid line failed =
       let P : List ℕ → Type 0 = λ t. AppendsFront c d t in
       subst P (line ∙ ap (λ (t : List ℕ). a ++ t) (sym (append-nil (step s turn).lines))) failed
 
-  -- the first so many turns, and a front of the whole
+  -- the first turns, and a prefix of the whole output
   first-short : (last : S → List ℕ) (s : S) (turns : List U) (c e : Option (List ℕ)) (count : ℕ) → AppendsFront c e (lines_of step s (take count turns)) → AppendsFront c e (text_of step last s turns)
   first-short last s turns c e count failed =
       let P : List ℕ → Type 0 = λ t. AppendsFront c e (t ++ last (state_past step s turns)) in
@@ -195,7 +195,7 @@ module _ {S U : Type 0} (step : S → U → Taken S) where
       let P : S → Type 0 = λ at. Flows c a d f (bytes ++ last at) in
       (subst P ran.1 (Flows-trans c d d a b f bytes (last after) ran.0 (Flows-waits d b f (last after) beyond)), told ∙ (ap (λ at. status at refused) ran.1 ∙ ap (status (state_past step s turns)) ran.2))
 
-  -- all turns were taken, and memory was refused after them
+  -- all turns were taken, and memory ran out after them
   pub StreamsAll_lacks : (last : S → List ℕ) (status : S → Bool → ℕ) (s : S) (turns : List U) (c d : Option (List ℕ)) (a b f : List ℕ) (after : S) (refused : Bool) → Streams step s turns c a d b after (Ok refused) → f ≡ b → StreamsAll step last status s turns c a d f (Err NoMemory)
   StreamsAll_lacks last status s turns c d a b f after refused ran same =
       let P : List ℕ → Type 0 = λ waits. Flows c a d waits (lines_of step s (take (length turns) turns)) in
@@ -209,7 +209,7 @@ module _ {S U : Type 0} (step : S → U → Taken S) where
       (subst P (append_assoc a (lines_of step s turns) (last (state_past step s turns))) (AppendsFront-more c d (a ++ lines_of step s turns) (last (state_past step s turns)) ran.0), ran.1, ran.2)
   StreamsAll_stops last status s turns c d a b after NoMemory ran = ran
 
-  -- the end is what the turns write
+  -- the turns and the end together write the whole output
   pub Writes-ends : (last : S → List ℕ) (status : S → Bool → ℕ) (s : S) (turns : List U) (c d e : Option (List ℕ)) (b : List ℕ) (ran : Result ℕ PbxFault) (result : Result ℕ PbxFault) → StreamsAll step last status s turns c [] d b ran → Ends d b e ran result → WritesTurnsBy step last status s turns c e result
   Writes-ends last status s turns c d e b (Ok came_to) (Ok answer) ran ends =
       (Flows-ends c d e b (text_of step last s turns) ran.0 ends.0, ends.1 ∙ ran.1)
@@ -226,7 +226,7 @@ module _ {S U : Type 0} (step : S → U → Taken S) where
   Writes-ends last status s turns c d e b (Err NoMemory) (Err NoMemory) ran ends =
       record { count = ran.count; within = ran.within; written = Flows-ends c d e b (lines_of step s (take ran.count turns)) ran.flowed ends }
 
--- turns that are taken plainly have the trace of a run
+-- turns that are taken without further lines have the trace of a run
 module _ {P : Type 0} where
   lines_of-plainly : (p : P) (w : World) (ts : List Turn) → lines_of plainly (p, w) ts ≡ trace_of w ts
   lines_of-plainly p w [] = refl
@@ -250,7 +250,7 @@ module _ {P : Type 0} where
       let Q : List ℕ → Type 0 = λ t. Appends c e t in
       record { count = wrote.count; within = wrote.within; written = subst Q (lines_of-plainly p w (take wrote.count turns)) wrote.written }
 
--- whether a write failed, by what a run came to and what it ended with
+-- whether a write failed, given the result of a run and of its end
 pub told-ends : (d e : Option (List ℕ)) (b : List ℕ) (ran : Result ℕ PbxFault) (result : Result ℕ PbxFault) (was mid now : Bool) → Ends d b e ran result → mid ≡ (was || is_write_failed ran) → now ≡ (mid || fails_at_the_end ran result) → now ≡ (was || is_write_failed result)
 told-ends d e b (Ok came_to) result was mid now ends before beyond =
     beyond ∙ ap (λ m. m || is_write_failed result) (before ∙ or-false was)

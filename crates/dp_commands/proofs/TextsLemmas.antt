@@ -1,4 +1,4 @@
--- Runs that are known by their texts, taken plainly and under a debugger.
+-- Runs that are given by their texts, taken plainly and under a debugger.
 use Rattle.std.proofs.Common.{ℕ, List, [], Option, Result, Ok, Err}
 use Rattle.dp_conf.specs.Answers.{◌>>=◌}
 use Rattle.dp_debug.specs.declared.breaks.Break.{Break}
@@ -17,7 +17,7 @@ Writes_run p (Err fault) old new (Ok status) written = written
 Writes_run p (Err fault) old new (Err (Coded code line)) written = written
 Writes_run p (Err fault) old new (Err NoMemory) written = written
 
--- turns that are taken under a debugger, from before the first event
+-- turns that are taken under a debugger, from before the first event on
 pub WritesDebug_run : (held : Break) (r : Result Run PbxFault) (old new : Option (List ℕ)) (result : Result ℕ PbxFault) → WritesRun debug_turn (λ at. end_text at.0) (λ at refused. status_by refused) (record { held = held; taken = 0 }) old new r result → WritesDebug old new (r >>= λ run. Ok (debug_on held run)) result
 WritesDebug_run held (Ok run) old new result written = written
 WritesDebug_run held (Err fault) old new (Ok status) written = written

@@ -32,7 +32,7 @@ use Rattle.dp_commands.specs.declared.fault.PbxFault.{PbxFault}
 use Rattle.dp_commands.specs.declared.fault.PbxFault.TheVariants.{Coded, NoMemory}
 use Rattle.dp_commands.specs.declared.script.Turn.TheVariants.{Event as turn_event, Show}
 
--- the events of one event's turns
+-- the events of the turns that give one event
 pub events_in-events : (n : ℕ) (event : Event) → events_in (replicate n (turn_event event)) ≡ replicate n event
 events_in-events zero event = refl
 events_in-events (suc n) event = ap (λ (es : List Event). event ∷ es) (events_in-events n event)
@@ -42,14 +42,14 @@ pub events_in-shows : (n channel : ℕ) (name : List ℕ) → events_in (replica
 events_in-shows zero channel name = refl
 events_in-shows (suc n) channel name = events_in-shows n channel name
 
--- a seat that was told of the events that are dealt to it of a front gave the first so many of its events
+-- a seat whose entries are the events that are dealt to it from the start of a list gave the first of its events
 pub front-of : (count i : ℕ) (events : List Event) (seat : Sitting) (number : ℕ) → seat.number ≡ number → events_told seat.told ≡ items_of_seat count number (take i events) → GaveFront count events seat
 front-of count i events seat number same told =
     let own : events_told seat.told ≡ items_of_seat count seat.number (take i events) = told ∙ ap (λ n. items_of_seat count n (take i events)) (sym same) in
     let many : length (items_of_seat count seat.number (take i events)) ≡ length seat.told = ap length (sym own) ∙ length-map seat.told (λ (it : SeatCall). it.event) in
     own ∙ (items_of_seat-front count seat.number i events ∙ ap (λ n. take n (items_of_seat count seat.number events)) many)
 
--- a seat of these, of this number, of which this holds
+-- one of these seats has this number and this property
 abbrev Found : (Sitting → Type 0) → ℕ → Type 0
 Found P number = (seat : Sitting) × (seat.number ≡ number) × P seat
 
@@ -58,18 +58,18 @@ seat-by : (P : Sitting → Type 0) (number : ℕ) (s : Sitting) (b there : Bool)
 seat-by P number s true there is holds among after = (s, search (rules, is), holds)
 seat-by P number s false there is holds among after = after among
 
--- a seat of the seats, with what holds of all of them
+-- one of the seats, given a property of all of them
 seat-of : (P : Sitting → Type 0) (number : ℕ) (seats : List Sitting) → All P seats → has_seat seats number ≡ true → Found P number
 seat-of P number [] all there = absurd (search (rules, there))
 seat-of P number (s ∷ seats) all there =
     seat-by P number s (s.number == number) (has_seat seats number) refl (all 0 s (omega arith)) there
     (λ after. seat-of P number seats (λ k d lt. all (suc k) d (omega (arith, lt))) after)
 
--- a seat that was told of as many events as are its own was told of all of them
+-- a seat that has as many entries as events gave all its events
 told-all : (count : ℕ) (events : List Event) (seat : Sitting) → GaveFront count events seat → length (items_of_seat count seat.number events) ≤ length seat.told → events_told seat.told ≡ items_of_seat count seat.number events
 told-all count events seat front many = front ∙ take_all (length seat.told) (items_of_seat count seat.number events) many
 
--- the history of seats that gave all of their events
+-- the history of seats that gave all their events
 pub is-items_of_seat : (first : World) (count : ℕ) (events : List Event) (seats : List Sitting) (history : Log) → 0 < count → IsSettled standard_meanings first count seats history → All (GaveFront count events) seats → All (λ (seat : Sitting). length (items_of_seat count seat.number events) ≤ length seat.told) seats → IsDealt first count events history
 is-items_of_seat first count events seats history some settled fronts acted =
     let P : Sitting → Type 0 = λ s. Agrees history.entries s × (events_told s.told ≡ items_of_seat count s.number events) in
@@ -83,7 +83,7 @@ is-items_of_seat first count events seats history some settled fronts acted =
       calls = calls-items_of_seat count events history.entries some settled.whole.seated in_turn;
     }
 
--- the same of what settling answers
+-- the same for the result of settling
 pub is-items_of_seat-if : (first : World) (count many : ℕ) (events : List Event) (seats : List Sitting) (result : Result Log PbxFault) → 0 < count → IfOk result (λ history. IsSettled standard_meanings first count seats history) → count ≡ many → All (GaveFront many events) seats → All (λ (seat : Sitting). length (items_of_seat many seat.number events) ≤ length seat.told) seats → IfOk result (λ history. IsDealt first count events history)
 is-items_of_seat-if first count many events seats (Err fault) some settled same fronts acted = tt
 is-items_of_seat-if first count many events seats (Ok history) some settled same fronts acted =
@@ -95,7 +95,7 @@ is-items_of_seat-if first count many events seats (Ok history) some settled same
 pub calls-within : (events : List Event) (many : ℕ) → many ≡ prefix_len is_start events → many ≤ length events
 calls-within events many is = omega (arith, is, prefix_len-le-length is_start events)
 
--- a run whose texts are refused, or which wants memory, before its board opens
+-- a run whose texts are refused, or for which memory runs out, before its board opens
 pub shares-unbegun : (count : ℕ) (old : Option (List ℕ)) (r : Result Run PbxFault) (fault : PbxFault) → Appends old old [] → Refuses (reason_of fault) (begun_of r) → Shares count old old r (Err fault)
 shares-unbegun count old (Ok run) (Coded code line) nothing refused = absurd (search (rules, refused))
 shares-unbegun count old (Ok run) NoMemory nothing refused = inl (nothing, refl)
@@ -107,7 +107,7 @@ pub shares-unsettled : (count : ℕ) (old : Option (List ℕ)) (r : Result Run P
 shares-unsettled count old (Ok run) begun fault is nothing settles = inl (nothing, settles)
 shares-unsettled count old (Err given) begun fault is nothing settles = absurd (search (rules, is))
 
--- what a faultless run was before its board opened
+-- what a run without a fault was before its board opened
 begun-is : (run : Run) (begun : World × List Event × Bool) → begun_of (Ok run) ≡ Ok begun → begun ≡ (opened_world run, shared_in run, is_call_refused run)
 begun-is run begun is = search (rules, is)
 
@@ -119,7 +119,7 @@ shares-unwritten count calls old new (Ok run) begun fault is many unwritten =
     inr (subst (λ n. IsUnwritten count n old new fault) all unwritten)
 shares-unwritten count calls old new (Err given) begun fault is many unwritten = absurd (search (rules, is))
 
--- a run that ends well
+-- a run that succeeds
 shares-done : (count : ℕ) (old new : Option (List ℕ)) (r : Result Run PbxFault) (begun : World × List Event × Bool) (status : ℕ) (history : Log) → begun_of r ≡ Ok begun → IsDealt begun.0 count begun.1 history → Appends old new (settled_line count (length history.entries)) → status ≡ status_by (begun.2 || list_any (λ entry. is_refused entry.reply) history.entries) → Shares count old new r (Ok (status, history))
 shares-done count old new (Err given) begun status history is items_of_seat line told = absurd (search (rules, is))
 shares-done count old new (Ok run) begun status history is items_of_seat line told =
@@ -131,14 +131,14 @@ shares-done count old new (Ok run) begun status history is items_of_seat line to
       line = subst (λ n. Appends old new (settled_line count n)) (items_of_seat.calls ∙ ap (λ (b : Begun). length b.1) same) line;
     }
 
--- a run whose history is concluded, with its line written or not
+-- a run whose history is settled, with its line written or not
 pub shares-concluded : (count : ℕ) (old new : Option (List ℕ)) (r : Result Run PbxFault) (begun : World × List Event × Bool) (history : Log) (result : Result (ℕ × Log) PbxFault) → begun_of r ≡ Ok begun → IsDealt begun.0 count begun.1 history → OnOk result (Appends old new (settled_line count (length history.entries))) → IfOk result (λ ran. ran.1 ≡ history) → IfOk result (λ ran. ran.0 ≡ status_by (begun.2 || list_any (λ entry. is_refused entry.reply) history.entries)) → IfErr result (IsUnwritten count (length history.entries) old new) → Shares count old new r result
 shares-concluded count old new r begun history (Err fault) is items_of_seat line same told unwritten =
     shares-unwritten count (length history.entries) old new r begun fault is items_of_seat.calls unwritten
 shares-concluded count old new r begun history (Ok ran) is items_of_seat line same told unwritten =
     subst (λ (h : Log). Shares count old new r (Ok (ran.0, h))) (sym same) (shares-done count old new r begun ran.0 history is items_of_seat line told)
 
--- the seats of a board that opens: there are so many, and they were told of nothing
+-- the seats of a board that opens: there is one for each thread, and none has a reply yet
 pub fresh-many : (count : ℕ) (seats : List Sitting) → seats ≡ map unheard (range_with_len 0 count) → length seats ≡ count
 fresh-many count seats is = ap length is ∙ length-map-range_with_len unheard 0 count
 
@@ -155,19 +155,19 @@ pub has_seat-same : (old new : List Sitting) (number : ℕ) → map (λ seat. se
 has_seat-same old new number same =
     has_seat-map new number ∙ (ap (λ ns. list_any (λ n. n == number) ns) same ∙ sym (has_seat-map old number))
 
--- the first number is the one, or it is after it
+-- the first number is the one, or the one is after it
 first-or : (a number : ℕ) (b there : Bool) → (a == number) ≡ b → (a ≢ number → there ≡ true) → (b || there) ≡ true
 first-or a number true there is after = refl
 first-or a number false there is after = after (grind (arith, nat_tests))
 
--- a board has a seat of each number below its count
+-- a board has a seat with each number below its count
 has_seat-from : (a n number : ℕ) → a ≤ number → number < a + n → has_seat (map unheard (range_with_len a n)) number ≡ true
 has_seat-from a zero number low high = absurd (omega (arith, low, high))
 has_seat-from a (suc n) number low high =
     first-or a number (a == number) (has_seat (map unheard (range_with_len (a + 1) n)) number) refl
     (λ other. has_seat-from (a + 1) n number (omega (arith, low, other)) (omega (arith, high)))
 
--- every seat of a board that opens is there
+-- a board that opens has all its seats
 pub fresh-present : (count : ℕ) (seats : List Sitting) → seats ≡ map unheard (range_with_len 0 count) → AllPresent count seats
 fresh-present count seats is number lt =
     ap (λ (at : List Sitting). has_seat at number) is ∙ has_seat-from 0 count number (omega arith) (omega (arith, lt))
@@ -181,14 +181,14 @@ numbers-kept old new long kept =
     let within : i < length old = omega (arith, lt, length-map new number, long) in
     get_or-map number new i any 0 (omega (arith, within, long)) ∙ (kept i any within ∙ sym (get_or-map number old i any 0 within)))
 
--- seats that keep their numbers are all there where they were before
+-- if the seats keep their numbers, they are all still there
 pub present-kept : (count : ℕ) (old new : List Sitting) → length new ≡ length old → KeepNumbers old new → AllPresent count old → AllPresent count new
 present-kept count old new long kept present number lt = has_seat-same old new number (numbers-kept old new long kept) ∙ present number lt
 
 true_is_false : true ≡ false → ⊥
 true_is_false e = cc
 
--- settling misses no seat where every seat is handed in
+-- no seat is missing in settling if every seat is handed in
 pub misses-none : {T S F : Type 0} (meanings : Meanings) (first : World) (count : ℕ) (seats : List Sitting) (fault : SettleFault) (back : Back T S F) → AllPresent count seats → IsUnsettled meanings first count seats fault back → misses_no_seat fault ≡ true
 misses-none meanings first count seats (Differs found) back present unsettled = refl
 misses-none meanings first count seats settle_no_memory back present unsettled = refl

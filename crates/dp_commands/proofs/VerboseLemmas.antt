@@ -1,4 +1,4 @@
--- Verbose runs that are known by their texts.
+-- Verbose runs that are given by their texts.
 use Rattle.std.proofs.Common.{◌≡◌, ℕ, ◌||◌, List, [], ◌∷◌, Option, Result, Ok, Err, IfOk, refl, ap, ◌∙◌, arith}
 use Rattle.std.proofs.KnownBytes.{Appends-nil}
 use Rattle.dp_conf.specs.Answers.{Refuses, ◌>>=◌}
@@ -22,7 +22,7 @@ use Rattle.dp_commands.specs.declared.fault.PbxFault.TheVariants.{Coded, NoMemor
 use Rattle.dp_commands.specs.declared.script.Turn.{Turn}
 use Rattle.dp_commands.specs.declared.script.Turn.TheVariants.{Event as turn_event, Show}
 
--- what comes after what was refused is refused likewise
+-- a refused result stays refused, whatever comes after it
 next_refused : {X Y : Type 0} (fault : PbxFault) (read : Result X PbxFault) (next : X → Result Y PbxFault) → Refuses (reason_of fault) read
     → Refuses (reason_of fault) (read >>= next)
 next_refused (Coded code line) (Ok x) next refused = absurd cc
@@ -42,7 +42,7 @@ pub debug_refused : (held : Break) (run : Result Run PbxFault) (fault : PbxFault
 debug_refused held run fault refused = next_refused fault run (λ run. Ok (debug_on held run)) refused
 
 module _ (explanation : Refusal → List ℕ) (in_force : InForce) where
-  -- nothing is written where the run is refused
+  -- nothing is written if the run is refused
   pub verbose_refused : (old : Option (List ℕ)) (run : Result Run PbxFault) (fault : PbxFault) → Refuses (reason_of fault) run
       → WritesVerbose explanation in_force old old run (Err fault)
   verbose_refused old (Ok run) (Coded code line) refused = absurd cc
@@ -57,7 +57,7 @@ module _ (explanation : Refusal → List ℕ) (in_force : InForce) where
   verbose_debug_refused old (Ok debug) NoMemory refused = record { count = 0; within = omega arith; written = Appends-nil old }
   verbose_debug_refused old (Err given) NoMemory refused = Appends-nil old
 
-  -- turns that are taken with more above their lines
+  -- turns that are taken with more text above their lines
   pub WritesVerbose_run : (run : Result Run PbxFault) (old new : Option (List ℕ)) (result : Result ℕ PbxFault)
       → WritesRun (verbose_turn explanation) (λ at. []) (λ at refused. status_by refused) in_force old new run result → WritesVerbose explanation in_force old new run result
   WritesVerbose_run (Ok run) old new result written = written
@@ -73,13 +73,13 @@ module _ (explanation : Refusal → List ℕ) (in_force : InForce) where
   WritesVerboseDebug_run held (Err fault) old new (Err (Coded code line)) written = written
   WritesVerboseDebug_run held (Err fault) old new (Err NoMemory) written = written
 
-  -- a turn is refused where it is in a plain run
+  -- a turn is refused if it is refused in a plain run
   refused_in-verbose : (at : InForce) (w : World) (turns : List Turn) → refused_in (verbose_turn explanation) (at, w) turns ≡ any_refused w turns
   refused_in-verbose at w [] = refl
   refused_in-verbose at w (turn ∷ turns) =
       ap (λ r. (after_turn w turn).refused || r) (refused_in-verbose (in_force_after_by standard_meanings at w turn) (after_turn w turn).world turns)
 
-  -- and so the status is that of the plain run
+  -- so the status is that of the plain run
   status_when : (given : Result Run PbxFault) (old new : Option (List ℕ)) (status : ℕ) → WritesVerbose explanation in_force old new given (Ok status)
       → (run : Run) → given ≡ Ok run → status ≡ status_of run
   status_when (Ok ran) old new status written run is =

@@ -44,7 +44,7 @@ is_comma byte = byte == 44
 abbrev pub parts_of : List ℕ → List (List ℕ)
 parts_of text = slice_split is_comma text
 
--- the break, or the fault of a text that names none
+-- the break, or the fault of a text that does not name one
 abbrev pub or_bad_break : Option Break → Result Break PbxFault
 or_bad_break None = Err (Coded BadBreak None)
 or_bad_break (Some held) = Ok held
@@ -67,7 +67,7 @@ abbrev pub halt_text : Bool → ℕ → List ℕ
 halt_text halted taken = if halted then halt_line taken else []
 
 -- how a turn changes a debugged run and its world: the run halts before an event at which its break holds, then takes the event; a turn
--- that only shows a value is passed over
+-- that only shows a value is skipped
 abbrev pub debug_turn : Watch × World → Turn → Taken (Watch × World)
 debug_turn at (turn_event event) =
     record {

@@ -32,7 +32,7 @@ fault_of_read read_failed = Coded ReadFailed None
 fault_of_read read_too_long = Coded TooLong None
 fault_of_read read_no_memory = NoMemory
 
--- the reason why the program ends; there is none if memory ran out
+-- the reason why the program ends; None if memory ran out
 abbrev pub reason_of : PbxFault → Option PbxFault
 reason_of (Coded code line) = Some (Coded code line)
 reason_of NoMemory = None

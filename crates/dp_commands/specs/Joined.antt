@@ -32,7 +32,7 @@ text_before separator text = unwrap_or (lines_before separator (parts_of text)) 
 unfoldable pub text_after : List ℕ → List ℕ → Option (List ℕ)
 text_after separator text = option_map (join_with_byte 10) (lines_after separator (parts_of text))
 
--- the bytes of the rest of a text, which are none if there is no rest
+-- the bytes of the rest of a text; no bytes if there is no rest
 abbrev pub text_left : Option (List ℕ) → List ℕ
 text_left None = []
 text_left (Some rest) = rest

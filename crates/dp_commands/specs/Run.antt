@@ -21,7 +21,7 @@ use Rattle.dp_commands.specs.declared.script.ScriptLine.{ScriptLine}
 use Rattle.dp_commands.specs.declared.script.Turn.{Turn}
 use Rattle.dp_commands.specs.declared.texts.RunTexts.{RunTexts}
 
--- the trace of the first so many turns was written, and nothing else
+-- the trace of the first turns, as many as `count`, was written, and nothing else
 pub record TracesFirst (w : World) (turns : List Turn) (old new : Option (List ℕ)) : Type 0 where
   pub count : ℕ
   pub within : count ≤ length turns

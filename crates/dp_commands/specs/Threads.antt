@@ -55,13 +55,13 @@ leading_calls events = take (prefix_len is_start events) events
 abbrev pub shared_events : List Event → List Event
 shared_events events = drop (prefix_len is_start events) events
 
--- the items of one seat when so many seats take turns; the first item has the place `at`
+-- the items of one seat when `count` seats take turns; the first item has the place `at`
 abbrev pub dealt_from : {X : Type 0} → ℕ → ℕ → ℕ → List X → List X
 dealt_from count seat at [] = []
 dealt_from count seat at (x ∷ xs) =
     if at % count == seat then x ∷ dealt_from count seat (at + 1) xs else dealt_from count seat (at + 1) xs
 
--- the items of one seat when so many seats take turns: those at the places `seat`, `seat + count`, `seat + 2 * count`, and so on
+-- the items of one seat when `count` seats take turns: those at the places `seat`, `seat + count`, `seat + 2 * count`, and so on
 abbrev pub items_of_seat : {X : Type 0} → ℕ → ℕ → List X → List X
 items_of_seat count seat xs = dealt_from count seat 0 xs
 
@@ -69,7 +69,7 @@ items_of_seat count seat xs = dealt_from count seat 0 xs
 abbrev pub events_told : List SeatCall → List Event
 events_told told = map (λ call. call.event) told
 
--- a history of events dealt to so many seats: it replays from the first world, each seat's entries are its own events in their order, and
+-- a history of events dealt to `count` seats: it replays from the first world, each seat's entries are its own events in their order, and
 -- there are as many entries as events
 pub record IsDealt (first : World) (count : ℕ) (events : List Event) (history : Log) : Type 0 where
   pub replays : Replays standard_meanings first history
@@ -136,7 +136,7 @@ abbrev pub IsUnshared : Run → ℕ → Option (List ℕ) → Option (List ℕ) 
 IsUnshared run count old new fault =
     (Appends old new [] × (is_settle_fault fault ≡ true)) ⊎ IsUnwritten count (length (shared_in run)) old new fault
 
--- the output and result of a run in threads with so many seats, given the run or the fault of its texts
+-- the output and result of a run in threads with this number of seats, given the run or the fault of its texts
 abbrev pub Shares : ℕ → Option (List ℕ) → Option (List ℕ) → Result Run PbxFault → Result (ℕ × Log) PbxFault → Type 0
 Shares count old new (Ok run) (Ok ran) = RanShared run count old new ran.0 ran.1
 Shares count old new (Ok run) (Err fault) = IsUnshared run count old new fault

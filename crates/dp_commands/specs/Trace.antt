@@ -1,6 +1,4 @@
 -- The trace: one line for each turn. An event's line has the reply and then the channel's state, and a `show` line has a value.
-
--- a value.
 use Rattle.std.specs.Prelude.{ℕ, Bool, false, ◌||◌, ◌==◌, List, [], ◌∷◌, ◌++◌, fold, Option, Some, None, is_none, slice_get, codes, decimal, if◌then◌else◌}
 use Rattle.std.specs.Option.{option_map, unwrap_or}
 use Rattle.dp_pattern.specs.Spelling.{spelling}

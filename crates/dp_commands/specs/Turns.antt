@@ -31,7 +31,7 @@ refused_in step s (turn ∷ turns) = (step s turn).refused || refused_in step (s
 abbrev pub text_of : {S U : Type 0} → (S → U → Taken S) → (S → List ℕ) → S → List U → List ℕ
 text_of step last s turns = lines_of step s turns ++ last (state_past step s turns)
 
--- the lines of the first so many turns were written, and nothing else
+-- the lines of the first turns, as many as `count`, were written, and nothing else
 pub record WritesFirst {S U : Type 0} (step : S → U → Taken S) (s : S) (turns : List U) (old new : Option (List ℕ)) : Type 0 where
   pub count : ℕ
   pub within : count ≤ length turns

@@ -61,8 +61,8 @@ impl Files {
     }
 }
 
-/// The contents of the texts of a dialplan and of its queues: the dialplan is read first, then the queues; without a text there are none.
-/// The error is the first fault.
+/// The contents of the texts of a dialplan and of its queues. The dialplan is read first, then the queues. There are no queues if they have
+/// no text. The error is the first fault.
 pub fn read_files(alloc: Global, plan: &[u8], queues: Option<&[u8]>) -> Result<Files, PbxFault>
     ensures files { Answers (λ files. record { plan = files.plan; queues = files.queues }) reason_of result
         (spec.files_of plan.now (option_map (λ text. text.now) queues.entry)) }

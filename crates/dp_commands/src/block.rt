@@ -38,7 +38,7 @@ impl Block {
     ghost use Rattle.std.specs.Prelude.{◌≡◌, ◌++◌, ◌||◌, ◌∷◌, [], IfOk, OnOk, OnErr};
     ghost use Rattle.dp_commands.specs.Block.{waiting};
 
-    /// An empty block with room for so many bytes. It fails only if memory runs out.
+    /// An empty block with room for this number of bytes. It fails only if memory runs out.
     pub fn new(alloc: Global, room: usize) -> Result<Self, NoMemory>
         ensures { IfOk result (λ block. block ≡ waiting [] []) }
     {

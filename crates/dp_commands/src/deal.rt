@@ -26,7 +26,7 @@ fn push_copies(events: &mut Vec<Event>, event: &Event, count: u32) -> Result<(),
     Ok(())
 }
 
-/// Adds the events of a line; a line that shows a value has none.
+/// Adds the events of a line; a line that shows a value has no event.
 fn push_events(events: &mut Vec<Event>, line: &ScriptLine) -> Result<(), NoMemory>
     ensures { OnOk result (events.new.items ≡ events.old.items ++ spec.events_in (line_turns line.now)) }
 {
@@ -53,7 +53,7 @@ fn is_start(event: &Event) -> bool
     matches!(event, Event::Start { .. })
 }
 
-/// The number of events before the first that is no incoming phone call.
+/// The number of events before the first that is not an incoming phone call.
 pub(crate) fn leading_calls(events: &[Event]) -> usize
     ensures { result ≡ prefix_len spec.is_start events.now }
 {
@@ -68,7 +68,7 @@ pub(crate) fn calls_and_others(events: &[Event]) -> (&[Event], &[Event])
     events.split_at(leading_calls(events))
 }
 
-/// The number of events of one seat, if so many seats take turns.
+/// The number of events of one seat, if this number of seats take turns.
 fn own_count(events: &[Event], count: usize, number: usize) -> usize
     requires { 0 < count }
     ensures is { result ≡ length (spec.items_of_seat count number events.now) }
@@ -83,7 +83,7 @@ fn own_count(events: &[Event], count: usize, number: usize) -> usize
     own
 }
 
-/// Whether each seat was told of as many events as it has.
+/// Whether each seat has replies to all its events.
 pub(crate) fn have_acted<S: Session>(seats: &[Seat<S>], events: &[Event]) -> bool
     ensures { result ≡ true → All (λ seat. length
         (spec.items_of_seat (length seats.now) seat.number events.now) ≤ length seat.told) seats.now }
@@ -126,7 +126,7 @@ impl<G: Gate + Sync> Deal<'_, G> {
         Ok(())
     }
 
-    /// Gives the machine the events of one seat one after another, if so many seats take turns.
+    /// Gives the machine the events of one seat one after another, if this number of seats take turns.
     fn act_all<S: Session, R: Wait>(
         self,
         rt: &R,
@@ -171,7 +171,7 @@ impl<G: Gate + Sync> Deal<'_, G> {
             requires { (0 < count) × (seat.now.told ≡ []) }
             ensures { GaveFront count events.entry.now seat.exit.now × (seat.exit.now.number ≡ seat.entry.now.number) }
         {
-            // Where memory was refused, the seat was told of fewer events than are its own.
+            // If memory ran out, the seat has replies to fewer events than it has.
             let deal = Deal {
                 alloc,
                 events,

@@ -44,7 +44,7 @@ fn read_priority(part: &[u8]) -> Option<u32>
     Some(number)
 }
 
-/// The break that three parts name, or None if they name none.
+/// The break that three parts name, or None if they do not name one.
 fn read_parts(alloc: Global, parts: &[&[u8]]) -> Result<Option<Break>, NoMemory>
     ensures { IfOk result (λ held. held ≡ spec.break_by (map (λ part. part.now) parts.now)) }
 {
@@ -64,7 +64,7 @@ fn read_parts(alloc: Global, parts: &[&[u8]]) -> Result<Option<Break>, NoMemory>
     })))
 }
 
-/// The break that the text `CONTEXT,EXTEN,PRIORITY` names, or None if it names none. The parts are not trimmed.
+/// The break that the text `CONTEXT,EXTEN,PRIORITY` names, or None if it does not name one. The parts are not trimmed.
 fn cut_break(alloc: Global, text: &[u8]) -> Result<Option<Break>, NoMemory>
     ensures { IfOk result (λ held. held ≡ spec.break_by (spec.parts_of text.now)) }
 {

@@ -107,7 +107,7 @@ fn show_byte(shown: &mut ArrayVec<u8, ROOM>, byte: u8)
     shown.push(hex_digit(byte % 16));
 }
 
-/// The first so many bytes of a line, or all if it has fewer.
+/// This number of bytes from the start of a line, or all if it has fewer.
 fn front(line: &[u8], most: usize) -> &[u8]
     ensures front { result.now ≡ take most line.now }
     ensures short { length result.now ≤ most }

@@ -17,7 +17,7 @@ pub trait ReadLine {
     /// The meaning of a line of the script.
     type Turn: Drop;
 
-    // What a line of the text stands for: nothing, where it is passed over; and None where it is faulty.
+    // The meaning of a line of the text: empty if the line is skipped, and None if it is faulty.
     ghost stands_for: { Self → List ℕ → Option (List (Line Self.Turn)) };
 
     /// Adds the meaning of a line of the text at the end, and says whether the line is valid: a faulty line has no meaning. It fails only

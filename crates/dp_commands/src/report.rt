@@ -114,7 +114,7 @@ fn check_report(alloc: Global, plan: &[u8]) -> Result<Block, PbxFault>
 }
 
 /// Loads a dialplan and writes how it loads: a line `note LINE KIND` for each note, in the order of the lines, and then `ok C contexts E
-/// entries`. The status is 0. A context counts even if it has only its header, and an include is no entry.
+/// entries`. The status is 0. A context counts even if it has only its header, and an include is not an entry.
 ///
 /// A faulty dialplan has its first fault, and nothing is written. Everything is written at once; if that write fails, what was written
 /// stays written.

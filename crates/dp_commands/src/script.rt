@@ -18,7 +18,7 @@ use std::marker::Model;
 pub enum Turn {
     /// An event of the machine.
     Event(Event),
-    /// `show CH NAME`: the value of a name in a channel is printed. This is no event, and changes nothing.
+    /// `show CH NAME`: the value of a name in a channel is printed. This is not an event, and changes nothing.
     Show { channel: u32, name: Text },
 }
 

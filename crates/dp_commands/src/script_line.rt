@@ -219,7 +219,7 @@ fn read_second(second_plan: Option<&SharedText>) -> Result<Option<ScriptLine>, N
     Ok(Some(once(Event::Reload { text })))
 }
 
-/// `reload`, given the words after it, of which there are none: the second dialplan is put in force.
+/// `reload`, given the words after it: the second dialplan is put in force. The line is faulty if there are such words.
 fn read_reload(
     second_plan: Option<&SharedText>,
     words: &[&[u8]],

@@ -299,7 +299,7 @@ fn conclude<W: WriteTold>(
     beside(status, history)
 }
 
-/// Runs a script on a dialplan with its queues in so many threads, and writes `settled N seats M calls`: the number of seats, and the
+/// Runs a script on a dialplan with its queues in several threads, and writes `settled N seats M calls`: the number of seats, and the
 /// number of events that they shared, each of which is a call in the history. The phone calls at the start of the script come in first.
 /// Then a board opens, and the events after these are dealt to its seats in turn. Each seat gives its events in a thread, between the
 /// function calls of the gate. Lines that show a value are skipped. The results are the history and the status: 1 if an event was refused,

@@ -1,6 +1,6 @@
-//! What cases of commands share: a writer over memory, and what commands write and end with.
+//! What cases of commands share: a writer over memory, and the output and result of commands.
 //!
-//! This is for tests alone.
+//! This is only for tests.
 #![tactic(auto)]
 
 use bstr::BStr;
@@ -12,7 +12,7 @@ use std::io;
 use std::io::{ErrorKind, Write};
 use std::test::Fail;
 
-/// A writer that takes at most `step` bytes at once, and whose write `fails_at`, counted from 0, answers an error.
+/// A writer that takes at most `step` bytes at once, and whose write with the number `fails_at`, counted from 0, returns an error.
 #[derive(Drop)]
 pub struct Sink {
     held: Vec<u8>,
@@ -63,7 +63,7 @@ impl Command for Run {
     }
 }
 
-/// What a dialplan loads as.
+/// The result of loading a dialplan.
 pub struct Check;
 
 impl Command for Check {
@@ -86,7 +86,7 @@ pub fn push_fault(out: &mut String, fault: PbxFault) -> Result<(), NoMemory> {
     }
 }
 
-/// Adds what a command ends with: `status STATUS`, or its fault as it is printed; and that a write failed, where it did.
+/// Adds the result of a command: `status STATUS`, or its fault as it is printed; and that a write failed, if one did.
 fn push_ending(
     out: &mut String,
     ended: Result<u8, PbxFault>,
@@ -102,7 +102,7 @@ fn push_ending(
     Ok(())
 }
 
-/// What a command ends with, as text.
+/// The result of a command, as text.
 fn ending(
     alloc: Global,
     ended: Result<u8, PbxFault>,
@@ -113,7 +113,7 @@ fn ending(
     Ok(out)
 }
 
-/// All that was written, and after it what the command ended with.
+/// The whole output of a command, followed by its result.
 fn outcome(
     alloc: Global,
     ended: Result<u8, PbxFault>,
@@ -125,7 +125,7 @@ fn outcome(
     Ok(all)
 }
 
-/// The same as text, in which each byte that was written is the character of its number.
+/// The same as text, in which each written byte is the character with its number.
 pub fn outcome_text(
     alloc: Global,
     ended: Result<u8, PbxFault>,
@@ -138,7 +138,7 @@ pub fn outcome_text(
     Ok(out)
 }
 
-/// Whether a command has written these bytes, with what it ended with after them. The bytes `of` name the case.
+/// Whether a command has written these bytes, followed by its result. The bytes `of` name the case.
 fn check_outcome(of: &[u8], got: &[u8], want: &[u8]) -> Result<(), Fail> {
     if got == want {
         return Ok(());
@@ -174,8 +174,8 @@ impl Texts {
     }
 }
 
-/// The texts of a run by three cells, of which the dialplan begins in `[main]`, and the last is the script, with a second dialplan
-/// after a `¦`, where there is one.
+/// The texts of a run from three cells. The dialplan begins in `[main]`, and the last cell is the script, with a second dialplan after a
+/// `¦`, if there is one.
 pub fn read_texts(
     alloc: Global,
     plan: &str,
@@ -194,7 +194,7 @@ pub fn read_texts(
     })
 }
 
-/// Whether a command writes these bytes into this writer, with what it ends with after them.
+/// Whether a command writes these bytes into this writer, followed by its result.
 pub fn check_into<C: Command>(
     alloc: Global,
     text: &[u8],
@@ -206,7 +206,7 @@ pub fn check_into<C: Command>(
     check_outcome(text, &got, want)
 }
 
-/// The same of a text, where no write fails.
+/// The same for a text, if no write fails.
 pub fn check_text<C: Command>(alloc: Global, text: &[u8], want: &[u8]) -> Result<(), Fail> {
     check_into::<C>(alloc, text, make_sink(alloc, 4096, None), want)
 }
@@ -217,7 +217,7 @@ fn check_row<C: Command>(alloc: Global, asked: &str, want: &str) -> Result<(), F
     check_text::<C>(alloc, &text, &want)
 }
 
-/// Holds each row of a table: a text, an arrow, and all that the command writes with what it ends with after it.
+/// Checks each row of a table: a text, an arrow, and the whole output of the command, followed by its result.
 pub fn check_table<C: Command>(alloc: Global, table: &str) -> Result<(), Fail> {
     for line in table.lines() {
         match line.split_once('→') {

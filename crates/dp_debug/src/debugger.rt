@@ -59,7 +59,8 @@ impl Debugger {
         ensures { IsRun (with_functions T.rows T.Functions.table) machine.old events.now breaks.now 0 0 [] result self.new machine.new }
     {
         self.trace.clear();
-        go_on(alloc, &mut self.trace, machine, events, 0, breaks)
+        let rest = EventsFrom { events, from: 0 };
+        go_on(alloc, &mut self.trace, machine, rest, breaks)
     }
 
     /// Continues a run that has halted before the event with this number: it takes that event without checking the breaks, then does as
@@ -86,7 +87,13 @@ impl Debugger {
             };
         };
         match take(alloc, &mut self.trace, machine, event) {
-            Ok(()) => go_on(alloc, &mut self.trace, machine, events, taken + 1, breaks),
+            Ok(()) => {
+                let rest = EventsFrom {
+                    events,
+                    from: taken + 1,
+                };
+                go_on(alloc, &mut self.trace, machine, rest, breaks)
+            }
             Err(_) => Halt {
                 taken,
                 why: Why::NoMemory,
@@ -95,19 +102,27 @@ impl Debugger {
     }
 }
 
-/// Runs the machine over the events from this number on until a break holds before one.
+/// The events of a run from the one with a number on.
+#[derive(Clone, Copy)]
+struct EventsFrom<'a> {
+    events: &'a [Event],
+    from: usize,
+}
+
+/// Runs the machine over these events until a break holds before one.
 fn go_on<T: AppTable>(
     alloc: Global,
     trace: &mut Vec<Reply>,
     machine: &mut Machine<T>,
-    events: &[Event],
-    from: usize,
+    rest: EventsFrom<'_>,
     breaks: &[Break],
 ) -> Halt
-    requires { from ≤ length events.now }
-    ensures { IsRun (with_functions T.rows T.Functions.table) machine.old events.now breaks.now from from trace.old.items result trace.new.items machine.new }
+    requires { rest.from ≤ length rest.events.now }
+    ensures { IsRun (with_functions T.rows T.Functions.table) machine.old rest.entry.events.now breaks.now rest.entry.from rest.entry.from
+        trace.old.items result trace.new.items machine.new }
 {
-    for taken in from..events.len() {
+    let events = rest.events;
+    for taken in rest.from..events.len() {
         if let Some(why) = turn(alloc, trace, machine, &events[taken], breaks) {
             return Halt { taken, why };
         }

@@ -1,4 +1,4 @@
-//! A debugged run that halts where memory is refused, and goes on from there.
+//! A debugged run that halts if memory runs out, and goes on from there.
 use dp_case_tables::{check_same, check_that};
 use dp_debug::{Break, Debugger, Event, Halt, Place, Text, Why};
 use dp_machine::{Exten, NoMemory};
@@ -13,10 +13,10 @@ exten => 100,2,Goto(200,1)
 exten => 200,1,Hangup()
 ";
 
-/// Where the channel stands after none of its steps, after one, after two and after all.
+/// Where the channel is after none of its steps, after one, after two and after all.
 const STATES: &str = "ready main,100,1;ready main,100,2;ready main,200,1;ended main,200,1";
 
-/// The debugger has the replies to the steps that were taken, and the channel stands after these.
+/// The debugger has the replies to the steps that were taken, and the channel is after these steps.
 fn check_halt(
     alloc: Global,
     debugger: &Debugger,
@@ -45,7 +45,7 @@ fn break_at_once(alloc: Global) -> Result<Break, NoMemory> {
     }))
 }
 
-/// Goes on after the break. Where memory is refused the run halts after the steps that it took, and goes on once more from there.
+/// Goes on after the break. If memory runs out, the run halts after the steps that it took, and goes on again from there.
 fn resume_again(
     alloc: Global,
     debugger: &mut Debugger,

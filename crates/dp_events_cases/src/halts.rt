@@ -7,9 +7,9 @@ use dp_machine_fixture::{Ask, Exchange, answer_on, call};
 use std::alloc::Global;
 use std::test::Fail;
 
-/// Worked cases. A case is a dialplan that begins in `[main]`, breaks that are parted by `&`, a number of steps of channel 1, which
-/// has called 100, and calls of the debugger, parted by `¦`: `run`, or `resume:` and a number. A break is a place, or `!` and an
-/// application. The answer is the halt of each call, and how many replies are in the trace at last.
+/// Worked cases. A case is a dialplan that begins in `[main]`, breaks separated by `&`, a number of steps of channel 1, which has called
+/// 100, and calls of the debugger, separated by `¦`: `run`, or `resume:` and a number. A break is a place, or `!` and an application. The
+/// answer is the halt of each call, and the final number of replies in the trace.
 const ROWS: &str = r"
 # break-and-way-out
 exten => 100,1,NoOp(hello)\nexten => 100,2,Goto(200,1)\nexten => 200,1,Hangup()¦main,100,1¦3¦run→Halt { taken: 0, why: Break(0) } 0
@@ -17,29 +17,29 @@ exten => 100,1,NoOp(hello)\nexten => 100,2,Goto(200,1)\nexten => 200,1,Hangup()�
 # breaks-by-application
 exten => 100,1,NoOp(hello)\nexten => 100,2,Goto(200,1)\nexten => 200,1,Hangup()¦!goto¦3¦run→Halt { taken: 1, why: Break(0) } 1
 exten => 100,1,NoOp(hello)\nexten => 100,2,Goto(200,1)\nexten => 200,1,Hangup()¦main,200,1&!HANGUP¦3¦run→Halt { taken: 2, why: Break(0) } 2
-# Where several hold the first is named, and where the first holds not the second.
+# If several breaks hold the first is named, or the second if the first does not hold.
 exten => 100,1,NoOp(hello)¦!NoOp&main,100,1¦1¦run→Halt { taken: 0, why: Break(0) } 0
 exten => 100,1,NoOp(hello)¦main,100,2&main,100,1&!noop¦1¦run→Halt { taken: 0, why: Break(1) } 0
 exten => 100,1,NoOp(hello)¦main,100,2&!noops&!NOOP¦1¦run→Halt { taken: 0, why: Break(2) } 0
-# Before the last step, and with none, with no step or no break.
+# Before the last step, without any break, without a step, and without breaks.
 exten => 100,1,NoOp()\nexten => 100,2,NoOp()¦main,100,2¦2¦run resume:1→Halt { taken: 1, why: Break(0) } Halt { taken: 2, why: End } 2
 exten => 100,1,NoOp()\nexten => 100,2,NoOp()¦main,100,3¦2¦run→Halt { taken: 2, why: End } 2
 exten => 100,1,NoOp()¦main,100,1¦0¦run→Halt { taken: 0, why: End } 0
 exten => 100,1,NoOp()¦¦1¦run→Halt { taken: 1, why: End } 1
 # At each turn of a loop.
 exten => 100,1,Goto(1)¦main,100,1¦3¦run resume:0 resume:1 resume:2→Halt { taken: 0, why: Break(0) } Halt { taken: 1, why: Break(0) } Halt { taken: 2, why: Break(0) } Halt { taken: 3, why: End } 3
-# At the end and past it there is nothing to go on with.
+# At the end and past it there is nothing left to run.
 exten => 100,1,NoOp()\nexten => 100,2,NoOp()¦!Goto¦2¦run resume:2→Halt { taken: 2, why: End } Halt { taken: 2, why: End } 2
 exten => 100,1,NoOp()\nexten => 100,2,NoOp()¦main,100,2¦2¦run resume:9→Halt { taken: 1, why: Break(0) } Halt { taken: 2, why: End } 1
 exten => 100,1,NoOp()¦main,100,1¦0¦run resume:0→Halt { taken: 0, why: End } Halt { taken: 0, why: End } 0
 # A run begins with an empty trace.
 exten => 100,1,NoOp()\nexten => 100,2,NoOp()¦main,100,2¦2¦run run→Halt { taken: 1, why: Break(0) } Halt { taken: 0, why: Break(0) } 0
-# A pattern is no place, nor is a context that is included; the application is that of the entry found.
+# A pattern is not a place, and neither is an included context; the application is that of the entry that was found.
 exten => _1XX,1,NoOp()¦main,_1XX,1¦1¦run→Halt { taken: 1, why: End } 1
 include => more\n[more]\nexten => _1XX,1,NoOp()¦more,100,1¦1¦run→Halt { taken: 1, why: End } 1
 include => more\n[more]\nexten => _1XX,1,NoOp()¦more,100,1&main,100,1¦1¦run→Halt { taken: 0, why: Break(1) } 0
 include => more\n[more]\nexten => _1XX,1,NoOp()¦!nOoP¦1¦run→Halt { taken: 0, why: Break(0) } 0
-# Where no entry is found a place holds, and no application; of a channel that is over neither does.
+# If no entry is found, a break at a place holds and a break at an application does not; for a channel that is over neither holds.
 exten => 100,2,NoOp()¦!NoOp&main,100,1¦1¦run→Halt { taken: 0, why: Break(1) } 0
 exten => 100,1,Hangup()¦main,100,1&!Hangup¦2¦run resume:0→Halt { taken: 0, why: Break(0) } Halt { taken: 2, why: End } 2
 ";
@@ -86,7 +86,7 @@ fn steps(alloc: Global, count: u32) -> Result<Vec<Event>, NoMemory> {
     Ok(events)
 }
 
-/// The halts of the calls, and how many replies are in the trace after them.
+/// The halts of the calls, and the number of replies in the trace after them.
 fn halts_of(
     alloc: Global,
     machine: &mut Exchange,

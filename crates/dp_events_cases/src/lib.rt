@@ -1,7 +1,7 @@
-//! Cases of events that are given again where memory was refused, of events from outside, and of events of large sizes; and of a debugged run that goes on, and a
-//! listing that is asked for again, where memory was refused; and of debugged runs, where they halt.
+//! Cases of events that are given again after memory ran out, of events from outside, and of large events; of a debugged run that goes on,
+//! and a listing that is requested again, after memory ran out; and of where debugged runs halt.
 //!
-//! A crate with tests is proved twice, so the cases of the libraries stand in crates of their own, where each is proved once.
+//! A crate with tests is proved twice, so the cases of the libraries are in crates of their own, where each is proved once.
 #![tactic(auto)]
 
 #[cfg(test)]

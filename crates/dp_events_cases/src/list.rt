@@ -1,4 +1,4 @@
-//! A listing that is asked for once more where memory was refused.
+//! A listing that is requested again after memory ran out.
 use dp_case_tables::{Question, bytes_of, check, push_bytes};
 use dp_lister::list;
 use dp_machine::Dialplan;
@@ -11,7 +11,7 @@ const LISTED: &str = r"
 [general]\nstatic=yes\nwriteprotect=no\n\n[globals]\nTRUNK=Line/9\n\n[main]\nexten => _NXXXXXX,1,Answer()\n same => n,Playback(hello-world)\n same => n(q),Queue(support,c)\n same => n,Hangup()\ninclude => out\n→[globals]\nTRUNK => Line/9\n[main]\nexten => _NXXXXXX,1,Answer()\nexten => _NXXXXXX,2,Playback(hello-world)\nexten => _NXXXXXX,3(q),Queue(support,c)\nexten => _NXXXXXX,4,Hangup()\ninclude => out\n
 ";
 
-/// The listing of a dialplan, asked for once more where memory is refused.
+/// The listing of a dialplan, requested again if memory runs out.
 fn list_again(alloc: Global, plan: &Dialplan) -> Result<String, Fail> {
     let listed = match list(alloc, plan) {
         Ok(listed) => listed,

@@ -1,5 +1,5 @@
-//! Events that no line of a script gives: a name that is set from outside, and a channel that is sent to a place. Each is given once more
-//! where memory was refused. The answers are worked out by hand from the rules.
+//! Events that no line of a script gives: a name that is set from outside, and a channel that is sent to a place. Each is given again after
+//! memory ran out. The answers are worked out by hand from the rules.
 use crate::again::{machine_of, push_given, push_lines};
 use dp_case_tables::{Question, bytes_of, check};
 use dp_commands::read_script;
@@ -9,23 +9,23 @@ use std::alloc::Global;
 use std::str;
 use std::test::Fail;
 
-/// A case is a dialplan, a file of queues and the lines of a script, parted by `¦`; then an arrow, the reply to each event and each value
-/// that is shown, and the states of the channels 1 and 2. Two lines more may stand in the script: `set CHANNEL NAME=VALUE`, with `-` for
+/// A case is a dialplan, a file of queues and the lines of a script, separated by `¦`; then an arrow, the reply to each event and each
+/// value that is shown, and the states of channels 1 and 2. The script may have two further lines: `set CHANNEL NAME=VALUE`, with `-` for
 /// no channel, and `send CHANNEL CONTEXT,EXTEN,PRIORITY`.
 const ROWS: &str = r"
 # A variable is set while the channel waits, and the next step reads it.
 [main]\nexten => s,1,Wait(5)\nexten => s,2,Set(B=${A}${A})¦¦start main s\nstep 1\nset 1 A=5\nshow 1 A\ntimeout 1\nstep 1\nshow 1 B→Started(1), ran 0 0, Done, A=5, Done, ran 0 1, B=55, ready main,s,3, none
-# A global, which each channel reads, also one that has ended.
+# A global, which every channel reads, also one that has ended.
 [main]\nexten => s,1,Hangup()¦¦start main s\nstart main s\nstep 1\nset - X=7\nshow 1 X\nshow 2 X\nset - X=\nshow 2 X→Started(1), Started(2), ran 0 0, Done, X=7, X=7, Done, X=, ended main,s,1, ready main,s,1
-# Without a channel a global is set, and no channel's variable of that name.
+# Without a channel a global is set, and not a channel's variable with that name.
 [main]\nexten => s,1,Set(A=1)¦¦start main s\nstep 1\nset - A=2\nshow 1 A→Started(1), ran 0 0, Done, A=1, ready main,s,2, none
 # The local of the innermost frame that has the name.
 [main]\nexten => s,1,Gosub(sub,s,1(x))\nexten => s,2,NoOp()\n[sub]\nexten => s,1,Return()¦¦start main s\nstep 1\nset 1 ARG1=9\nshow 1 ARG1\nstep 1\nshow 1 ARG1→Started(1), ran 0 0, Done, ARG1=9, ran 1 0, ARG1=, ready main,s,2, none
-# A name with parentheses is a variable of that name, and neither a global nor the caller's number.
+# A name with parentheses is a variable with that name, and neither a global nor the caller's number.
 [main]\nexten => s,1,NoOp()¦¦start main s\nset 1 GLOBAL(X)=5\nshow 1 X\nshow 1 GLOBAL(X)→Started(1), Done, X=, GLOBAL(X)=5, ready main,s,1, none
-# A channel that is over keeps what it has, and one that is not there has nothing.
+# A channel that is over keeps its values, and a missing channel has none.
 [main]\nexten => s,1,Hangup()¦¦start main s\nstep 1\nset 1 A=5\nshow 1 A\nset 2 A=5\nset 0 A=5→Started(1), ran 0 0, Refused(Ended), A=, Refused(NoChannel), Refused(NoChannel), ended main,s,1, none
-# One that waits in a queue, talks, or calls devices.
+# A channel that waits in a queue, talks, or calls devices.
 [main]\nexten => s,1,Queue(q)¦[q]\nmember => Line/1¦start main s\nstep 1\nset 1 A=5\noffer q\nanswer Line/1\nset 1 B=6\nshow 1 A\nshow 1 B→Started(1), ran 0 0, Done, Offered { channel: 1, rung: 1 }, Done, Done, A=5, B=6, talking main,s,1, none
 [main]\nexten => s,1,Dial(Line/5)¦¦start main s\nstep 1\nset 1 A=5\nshow 1 A→Started(1), ran 0 0, Done, A=5, dialling main,s,1, none
 # A channel that is ready, waits for digits or waits for a time goes to the place.
@@ -34,7 +34,7 @@ const ROWS: &str = r"
 [main]\nexten => s,1,Wait(5)\n[out]\nexten => 9,3,NoOp()¦¦start main s\nstep 1\nsend 1 out,9,3\nstep 1→Started(1), ran 0 0, Done, ran 1 0, ready out,9,4, none
 # Its frames and variables are as they were.
 [main]\nexten => s,1,Gosub(sub,s,1(x))\nexten => s,2,NoOp()\nexten => r,1,Return()\n[sub]\nexten => s,1,NoOp()¦¦start main s\nstep 1\nset 1 A=5\nsend 1 main,r,1\nshow 1 ARG1\nstep 1\nshow 1 A→Started(1), ran 0 0, Done, Done, ARG1=x, ran 0 2, A=5, ready main,s,2, none
-# A place without an entry is met at the next step, and so is one that no entry can have.
+# A place without an entry is found out at the next step, and so is a place that no entry can have.
 [main]\nexten => s,1,NoOp()¦¦start main s\nsend 1 main,7,1\nstep 1→Started(1), Done, NoEntry, ended main,7,1, none
 [main]\nexten => s,1,NoOp()\nexten => i,1,NoOp()¦¦start main s\nsend 1 main,7,1\nstep 1→Started(1), Done, Invalid, ready main,i,1, none
 [main]\nexten => s,1,NoOp()¦¦start main s\nsend 1 main,s,4294967295\nstep 1→Started(1), Done, NoEntry, ended main,s,4294967295, none
@@ -134,7 +134,7 @@ fn told_on(alloc: Global, plan: &[u8], queues: &[u8], script: &str) -> Result<St
     Ok(out)
 }
 
-/// What a machine answers to events, some of them from outside.
+/// The answers of a machine to events, some of them from outside.
 struct FromOutside;
 
 impl Question for FromOutside {
@@ -148,7 +148,7 @@ impl Question for FromOutside {
     }
 }
 
-/// What is set and sent from outside does what the rules say, and changes nothing where memory is refused.
+/// What is set and sent from outside has the effect that the rules say, and changes nothing if memory runs out.
 #[test]
 fn names_are_set_and_channels_sent_from_outside(rt: HostRuntime) -> Result<(), Fail> {
     check::<FromOutside>(rt.alloc(), ROWS)

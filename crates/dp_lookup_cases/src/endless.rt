@@ -5,21 +5,22 @@ use std::alloc::Global;
 use std::str;
 use std::test::Fail;
 
-/// Lines of a dialplan, parted by `\n`, and each entry with the one of another extension that a call meets after it. A line of a context
-/// that is left out is one of `a`, and `exten => ` is left out too.
+/// Lines of a dialplan, separated by `
+/// `, and each entry with the entry of another extension that a call meets after it. If the header is left out, the context is `a`, and
+/// `exten => ` is left out too.
 const FALL_THROUGHS: &str = r"
 →none
-# The trap: the catch-all has one priority more.
+# The trap: the catch-all has one more priority.
 100,1,NoOp()\n100,2,NoOp()\n_X.,1,NoOp()\n_X.,2,NoOp()\n_X.,3,Dial(SIP/1)→a,100,2>a,_X.,3
 100,1,NoOp()\n100,2,NoOp()\n_X.,1,NoOp()\n_X.,2,NoOp()→none
 # The last of all, and the greatest priority.
 100,1,NoOp()\ns,2147483647,NoOp()→none
-# By way of an include.
+# Through an include.
 100,1,NoOp()\ninclude => b\n[b]\n_X.,2,NoOp()→a,100,1>b,_X.,2
 100,1,NoOp()\ninclude => b\n[b]\n100,2,NoOp()→none
 # The context's own names come first.
 100,1,NoOp()\n_X.,2,NoOp()\ninclude => b\n[b]\n100,2,NoOp()→a,100,1>a,_X.,2
-# A name of the same meaning is no other name.
+# A name with the same meaning is not another name.
 1-00,1,NoOp()\n100,2,NoOp()\n_X.,2,NoOp()→none
 1-00,1,NoOp()\n_X.,2,NoOp()→a,100,1>a,_X.,2
 # A pattern is another name than the plain one.
@@ -27,7 +28,7 @@ const FALL_THROUGHS: &str = r"
 # A gap, and the better of two names.
 100,1,NoOp()\n100,3,NoOp()\n_X.,2,NoOp()→a,100,1>a,_X.,2
 100,1,NoOp()\n_X.,2,NoOp()\n_1XX,2,NoOp()→a,100,1>a,_1XX,2
-# Entries of patterns are not told, and texts that do not match.
+# Entries of patterns are not reported, nor texts that do not match.
 _1XX,1,NoOp()\n_X.,2,NoOp()→none
 s,1,NoOp()\n_X.,2,NoOp()→none
 s,1,NoOp()\n_!,2,NoOp()→a,s,1>a,_!,2
@@ -41,11 +42,11 @@ const LOOPS: &str = r"
 s,1,Goto(1)→a,s,1
 s,1,Answer()\ns,2,Goto(s,1)→a,s,1
 s,1(top),NoOp()\ns,2,goto(top)→a,s,1
-# The way into a loop is not told.
+# The way into a loop is not reported.
 s,1,NoOp()\ns,2(top),NoOp()\ns,3,Goto(top)→a,s,2
-# Over two contexts.
+# Through two contexts.
 s,1,Goto(b,s,1)\n[b]\ns,1,NoOp()\ns,2,Goto(a,s,1)→a,s,1
-# An application that may wait ends the run, and so does a target that is computed or is not there.
+# An application that may wait ends the run, and so does a target that is computed or does not exist.
 s,1,WaitExten()\ns,2,Goto(1)→none
 s,1,Goto(${X},1)→none
 s,1,Goto(a,${EXTEN},1)→none
@@ -53,7 +54,7 @@ s,1,Goto(9)→none
 s,1,Goto(nowhere,s,1)→none
 s,1,Goto(a,b,c,1)→none
 s,1,NoOp()\ns,2,NoOp()→none
-# By way of includes and of patterns nothing is told.
+# Through includes and patterns nothing is reported.
 s,1,Goto(1,1)\ninclude => b\n[b]\n1,1,Goto(a,s,1)→none
 s,1,NoOp()\n_!,2,Goto(s,1)→none
 _X,1,Goto(1)→none
@@ -101,7 +102,7 @@ fn plan_of(alloc: Global, lines: &str) -> Result<Dialplan, Fail> {
     }
 }
 
-/// Adds where an entry stands, `CONTEXT,NAME,PRIORITY`.
+/// Adds the place of an entry, `CONTEXT,NAME,PRIORITY`.
 fn push_place(out: &mut String, plan: &Dialplan, id: EntryId) -> Result<(), NoMemory> {
     let Some(context) = plan.contexts().get(id.context) else {
         return Ok(());
@@ -115,7 +116,7 @@ fn push_place(out: &mut String, plan: &Dialplan, id: EntryId) -> Result<(), NoMe
     write!(out, ",{}", entry.priority.get())
 }
 
-/// Adds a blank before each place but the first.
+/// Adds a blank before each place except the first.
 fn separate(out: &mut String, is_first: bool) -> Result<(), NoMemory> {
     if is_first { Ok(()) } else { out.push(' ') }
 }

@@ -1,4 +1,4 @@
-//! Look-ups in tries, worked out by hand from the rules, and held against those in dialplans.
+//! Look-ups in tries, worked out by hand from the rules, and compared with those in dialplans.
 mod agreement;
 mod large;
 mod render;

@@ -1,4 +1,4 @@
--- The event of a channel that stands at an index.
+-- The event of a channel at an index of the list of channels.
 use Rattle.std.proofs.Common.{◌≡◌, ℕ, ◌+◌, ◌-◌, ◌<◌, ◌==◌, Bool, true, false, List, Some, None, Result, Ok, Err, OnOk, get_or, length, slice_get, slice_set, if◌then◌else◌, refl, sym, ap, ◌∙◌, arith, subst}
 use Rattle.std.proofs.lemmas.List.{set-get_or}
 use Rattle.std.proofs.lemmas.Option.{same_Some, slice_get_read}
@@ -32,7 +32,7 @@ module _ (before : Exchange) (channels : List Channel) (number index : ℕ) (c :
   pub acts-at : IsGoodWorld (world_in before channels) → MayAct before.shared number c
   acts-at good = may_act (world_in before channels) number c good here
 
-  -- the channels with it written back as it was
+  -- if the channel is unchanged, writing it back changes nothing
   kept-at : (d : Channel) → d ≡ c → slice_set channels index d ≡ channels
   kept-at d same = ap (slice_set channels index) (same ∙ value) ∙ set-get_or channels index c
 
@@ -45,15 +45,15 @@ module _ (before : Exchange) (channels : List Channel) (number index : ℕ) (c :
     abbrev beyond : World
     beyond = world_in after (slice_set channels index d)
 
-    -- what its row says of the channel
+    -- its row, for the channel
     abbrev own : Own
     own = own_row meanings asked before.plan before.shared number c
 
-    -- what its row says of the world
+    -- its row, for the world
     asked_here : asked_event meanings w number asked ≡ world_with_own w number own
     asked_here = ap (own_event w number (own_row meanings asked)) here
 
-    -- what its row makes of it, it makes of the world
+    -- what the row says of the channel carries over to the world
     pub makes-at : (r : Result Reply NoMemory) → Follows own before after c d r → Makes (asked_event meanings w number asked) w beyond r
     makes-at (Ok reply) follows = record {
       ok =

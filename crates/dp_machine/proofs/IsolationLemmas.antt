@@ -1,4 +1,5 @@
--- Two worlds that differ in nothing but one channel: each event of another gives both the same reply, and leaves them so.
+-- Two worlds that differ only in one channel: any event of another channel gives the same reply in both, and they still differ only in this
+-- channel.
 use Rattle.std.proofs.Common.{◌≡◌, ℕ, zero, suc, ◌+◌, ◌-◌, ◌==◌, nat_lt, Bool, true, false, not, List, [], ◌∷◌, ◌++◌, Option, Some, None, length, map, slice_get, if◌then◌else◌, refl, sym, ap, subst, ◌∙◌, arith, filter, zip, get_or, drop}
 use Rattle.std.specs.Prelude.{◌≢◌}
 use Rattle.std.proofs.lemmas.List.{length-append}
@@ -22,7 +23,7 @@ use Rattle.dp_machine.specs.declared.shared_state.SharedState.{SharedState}
 use Rattle.dp_machine.proofs.TieLemmas.{apart, by_number, channel_at-other, channel_at-same, length-set_at}
 use borrow.Author.Tests.{eqb-true}
 
--- as many channels, the same but for that of a number
+-- equally many channels, and the same ones except for that with a number
 record SameOthers (number : ℕ) (xs ys : List Channel) : Type 0 where
   count : length xs ≡ length ys
   others : (other : ℕ) → other ≢ number → channel_at xs other ≡ channel_at ys other
@@ -39,7 +40,7 @@ same_through number xs ys zs first second = record {
 same_back : (number : ℕ) (xs ys : List Channel) → SameOthers number xs ys → SameOthers number ys xs
 same_back number xs ys same = record { count = sym same.count; others = λ other apart. sym (same.others other apart) }
 
--- numbers that are apart, by the test
+-- numbers that differ do so by the test too
 differ : (a b : ℕ) → b ≢ a → (a == b) ≡ false
 differ a b apart = by (a == b) refl
   where
@@ -47,14 +48,14 @@ differ a b apart = by (a == b) refl
     by true same = absurd (apart (sym (eqb-true a b same)))
     by false differs = refl
 
--- the channel of the number itself is changed
+-- the channel with this number is changed
 same_own : (xs : List Channel) (number : ℕ) (c d : Channel) → channel_at xs number ≡ Some c → SameOthers number (with_channel xs number d) xs
 same_own xs number c d here = record {
   count = length-set_at xs (number - 1) d;
   others = λ other apart. channel_at-other xs number other c d here (differ number other apart);
 }
 
--- another one is changed in the same way
+-- another channel is changed in the same way in both
 same_both : (number other : ℕ) (xs ys : List Channel) (c d : Channel) → SameOthers number xs ys → channel_at xs other ≡ Some c → channel_at ys other ≡ Some c
     → SameOthers number (with_channel xs other d) (with_channel ys other d)
 same_both number other xs ys c d same here there = record {
@@ -64,7 +65,7 @@ same_both number other xs ys c d same here there = record {
       (λ differs. channel_at-other xs other m c d here differs ∙ (same.others m apart ∙ sym (channel_at-other ys other m c d there differs)));
 }
 
--- one more channel comes
+-- one more channel comes in
 get-more : (xs ys : List Channel) (i : ℕ) (x : Channel) → length xs ≡ length ys → slice_get xs i ≡ slice_get ys i
     → slice_get (xs ++ x ∷ []) i ≡ slice_get (ys ++ x ∷ []) i
 get-more [] [] i x count same = refl
@@ -84,7 +85,7 @@ same_more number xs ys x same = record {
     by true other here = refl
     by false other here = get-more xs ys (other - 1) x same.count here
 
--- what an event makes of two worlds that differ in one channel alone: the same reply, and worlds that do so too
+-- an event has the same effect in two worlds that differ only in one channel: the same reply, and they still differ only in this channel
 record Alike (number : ℕ) (a b : World × Reply) : Type 0 where
   reply : a.1 ≡ b.1
   world : AreSameBut number a.0 b.0
@@ -132,7 +133,7 @@ module _ (number : ℕ) (plan : PlanOf) (shared : SharedState) (xs ys : List Cha
           let own : Own = row plan shared other c in
           record { reply = refl; world = same_worlds number plan own.shared _ _ (same_both number other xs ys c own.channel same here there) }
 
-  -- the channels after an event of an agent, which may change the channel of the number too
+  -- the channels after an event of an agent, which may also change the channel with this number
   same-served : (s : Served) → SameOthers number (served_channels v s (channel_at xs s.who)) (served_channels w s (channel_at ys s.who))
   same-served s = by (s.who == number) refl
     where
@@ -159,7 +160,7 @@ module _ (number : ℕ) (plan : PlanOf) (shared : SharedState) (xs ys : List Cha
   alike-agent : (s : Served) → Alike number (agent_event v s) (agent_event w s)
   alike-agent s = record { reply = refl; world = same_worlds number plan s.shared _ _ (same-served s) }
 
-  -- another dialplan
+  -- a reload
   alike-reloaded : (functions : FunctionTable) (plan : Option PlanOf) → Alike number (reloaded_by functions v plan) (reloaded_by functions w plan)
   alike-reloaded functions None = record { reply = refl; world = same_worlds number plan shared xs ys same }
   alike-reloaded functions (Some p) = record { reply = refl; world = same_worlds number p (shared_with functions shared p.globals) xs ys same }
@@ -183,7 +184,7 @@ module _ (number : ℕ) (plan : PlanOf) (shared : SharedState) (xs ys : List Cha
   alike-row meanings (Assign (Some channel) name value) other = alike-own channel (assign_row meanings.functions name value) other
   alike-row meanings (Redirect channel place) other = alike-own channel (redirect_row place) other
 
--- an event that is not of the channel has the same reply in both worlds, and leaves them so
+-- an event that is not of the channel has the same reply in both worlds, and they still differ only in this channel
 alike-event : (meanings : Meanings) (number : ℕ) (v w : World) (event : Event) → is_of number event ≡ false → AreSameBut number v w
     → Alike number (event_row meanings v event) (event_row meanings w event)
 alike-event meanings number v w event other same =
@@ -200,7 +201,7 @@ own-alone w number other row is =
     by None here = same_all other w.channels
     by (Some c) here = same_own w.channels other c (row w.plan w.shared other c).channel here
 
--- what is said of a test that is not met
+-- what follows from a test that fails
 pub none-of : {A : Type 0} → false ≡ true → A
 none-of is = absurd (let no : false ≡ true = is in let b : ⊥ = cc in b)
 
@@ -222,12 +223,12 @@ others-alone meanings number w (Assign None name value) is = none-of is
 others-alone meanings number w (Assign (Some channel) name value) is = own-alone w number channel (assign_row meanings.functions name value) is
 others-alone meanings number w (Redirect channel place) is = own-alone w number channel (redirect_row place) is
 
--- the list without the events of an unseen channel: the others have the same replies, and the last world is the same but for the channel
+-- the list without the events of an unseen channel gives the other events the same replies, and the last world differs only in this channel
 pub record IsIsolated (meanings : Meanings) (number : ℕ) (v w : World) (events : List Event) : Type 0 where
   pub replies : replies_to meanings v (without number events) ≡ replies_without number events (replies_to meanings w events)
   pub world : AreSameBut number (world_after meanings v (without number events)) (world_after meanings w events)
 
--- one more event in front
+-- one more event at the front
 isolated-more : (meanings : Meanings) (number : ℕ) (v w : World) (event : Event) (events : List Event) → AreSameBut number v w
     → IsUnseen meanings number w (event ∷ events)
     → ((u : World) → AreSameBut number u (final_world meanings w event) → IsIsolated meanings number u (final_world meanings w event) events)
@@ -282,12 +283,12 @@ pub isolated : (meanings : Meanings) (w : World) (events : List Event) (number :
 isolated meanings w events number unseen = isolated-from meanings number w w events
     (record { plan = refl; shared = refl; count = refl; others = λ other apart. refl }) unseen
 
--- in no events each channel is unseen
+-- in a list of no events every channel is unseen
 pub unseen-none : (meanings : Meanings) (number : ℕ) (w : World) → IsUnseen meanings number w []
 unseen-none meanings number w [] event later whole is = absurd (omega (arith, ap length whole))
 unseen-none meanings number w (b ∷ before) event later whole is = absurd (omega (arith, ap length whole))
 
--- and in one more event in front, if it is private where it is one of the channel
+-- and so with one more event at the front, if the event is private or not of the channel
 pub unseen-more : (meanings : Meanings) (number : ℕ) (w : World) (event : Event) (events : List Event)
     → (is_of number event ≡ true → IsPrivate meanings w event) → IsUnseen meanings number (final_world meanings w event) events
     → IsUnseen meanings number w (event ∷ events)

@@ -1,4 +1,4 @@
--- What is known of the entry whose numbers a look-up answers.
+-- What is known of the entry that a look-up finds, given by its numbers.
 use Rattle.std.proofs.Common.{◌≡◌, ◌≤◌, ℕ, Option, Some, None, MatchOption, IsSome, refl, sym, ap, subst, ◌∙◌}
 use Rattle.std.proofs.lemmas.Option.{none-some, same_Some}
 use Rattle.std.specs.Option.{option_and_then, option_map}
@@ -18,7 +18,7 @@ use Rattle.dp_machine.specs.Events.{located_in, next_in}
 use Rattle.dp_machine.specs.Found.{Located, entry_found, id_at, id_found, located_entry}
 use Rattle.dp_machine.specs.declared.channel.Channel.{Channel}
 
--- it is the least of those that are asked for
+-- it is the least of those that the look-up is for
 least_at : (plan : PlanOf) (place : Place) (id : EntryId) → id_at plan place ≡ Some id
     → IsFound plan (search_order plan place.context) place.exten place.priority id
 unfolding id_found
@@ -27,11 +27,11 @@ least_at plan place id found =
     (IsFound plan (search_order plan place.context) place.exten place.priority)) found
     (found_entry-least plan (search_order plan place.context) place.exten place.priority)
 
--- it stands in the dialplan
+-- it is in the dialplan
 pub stands_there : (plan : PlanOf) (place : Place) (id : EntryId) → id_at plan place ≡ Some id → IsSome (entry_at plan id)
 stands_there plan place id found = subst IsSome (sym (least_at plan place id found).least.stands.there) refl
 
--- it has the priority that was asked for
+-- it has the priority of the look-up
 has_priority : (plan : PlanOf) (place : Place) (id : EntryId) (entry : Entry) → id_at plan place ≡ Some id → Some entry ≡ entry_at plan id
     → entry.priority ≡ place.priority
 has_priority plan place id entry found there =
@@ -51,7 +51,7 @@ unfolding entry_found id_found
 found_there plan place id entry found there =
     ap (option_and_then (located_entry plan)) found ∙ ap (option_map (λ (e : Entry). record { id = id; entry = e })) (sym there)
 
--- no numbers, no entry
+-- without numbers there is no entry
 pub not_found : (plan : PlanOf) (place : Place) → id_at plan place ≡ None → entry_found plan place ≡ None
 unfolding entry_found id_found
 not_found plan place none = ap (option_and_then (located_entry plan)) none
@@ -66,7 +66,7 @@ located_id plan place = by (id_at plan place) refl
         let least : IsFound plan (search_order plan place.context) place.exten place.priority id = least_at plan place id found in
         ap (option_map (λ (found : Located). found.id)) (found_there plan place id least.entry found (sym least.least.stands.there)) ∙ sym found
 
--- the numbers of the entry that the next step of a channel would run: it stands in the dialplan
+-- the entry that the next step of a channel would run is in the dialplan
 pub ahead_stands : (p : Phase) (plan : PlanOf) (c : Channel) (id : EntryId) → Some id ≡ next_in p plan c → IsSome (entry_at plan id)
 ahead_stands Ready plan c id is = stands_there plan c.place id (sym (located_id plan c.place) ∙ sym is)
 ahead_stands (Digits text is_background) plan c id is = absurd (none-some id (sym is))
@@ -76,7 +76,7 @@ ahead_stands (Talking queue agent goes_on) plan c id is = absurd (none-some id (
 ahead_stands (Dialling goes_on has_timer) plan c id is = absurd (none-some id (sym is))
 ahead_stands Ended plan c id is = absurd (none-some id (sym is))
 
--- it is the entry that is located there
+-- it is the entry at the channel's place
 pub ahead_located : (p : Phase) (plan : PlanOf) (c : Channel) (id : EntryId) (entry : Entry) → Some id ≡ next_in p plan c → Some entry ≡ entry_at plan id
     → located_in p plan c ≡ Some (record { id = id; entry = entry })
 ahead_located Ready plan c id entry is there = found_there plan c.place id entry (sym (located_id plan c.place) ∙ sym is) there
@@ -87,7 +87,7 @@ ahead_located (Talking queue agent goes_on) plan c id entry is there = absurd (n
 ahead_located (Dialling goes_on has_timer) plan c id entry is there = absurd (none-some id (sym is))
 ahead_located Ended plan c id entry is there = absurd (none-some id (sym is))
 
--- and where there are none, none is located
+-- and without such an entry, there is no entry at the place
 pub ahead_none : (p : Phase) (plan : PlanOf) (c : Channel) → None ≡ next_in p plan c → located_in p plan c ≡ None
 ahead_none Ready plan c is = not_found plan c.place (sym (located_id plan c.place) ∙ sym is)
 ahead_none (Digits text is_background) plan c is = refl

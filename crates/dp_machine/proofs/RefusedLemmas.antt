@@ -1,4 +1,4 @@
--- A refused event leaves the world as it was.
+-- A refused event leaves the world unchanged.
 use Rattle.std.proofs.Common.{◌≡◌, ℕ, zero, suc, ◌-◌, ◌+◌, ◌++◌, ◌==◌, nat_lt, length, Bool, true, false, ◌||◌, List, [], ◌∷◌, Option, Some, None, Result, Ok, Err, IfOk, slice_get, slice_set, if◌then◌else◌, refl, sym, ap, ◌∙◌}
 use Rattle.std.specs.declared.alloc.AllocError.{AllocError as NoMemory}
 use Rattle.std.proofs.lemmas.Option.{none-some, same_Some}
@@ -40,7 +40,7 @@ use Rattle.dp_machine.specs.declared.shared_state.SharedState.{SharedState}
 not_refused : {X : Type 0} → false ≡ true → X
 not_refused e = absurd cc
 
--- a refusal leaves the channel and what all channels share
+-- a refusal leaves the channel and what all channels share unchanged
 abbrev OwnKept : SharedState → Channel → Own → Type 0
 OwnKept shared c own = is_refused own.reply ≡ true → (own.channel ≡ c) × (own.shared ≡ shared)
 
@@ -168,7 +168,7 @@ module _ (plan : PlanOf) (shared : SharedState) (number : ℕ) (c : Channel) whe
   unfolding spec.redirect_row
   redirect_row_kept place = redirect_kept place c.phase
 
-  -- the row of each of a channel's events
+  -- the row of each event of a channel
   own_kept : (meanings : Meanings) (asked : ChannelEvent) → OwnKept shared c (spec.own_row meanings asked plan shared number c)
   unfolding spec.step_row spec.timeout_row spec.poll_row spec.hang_up_row spec.dial_result_row
   own_kept meanings asked_step = step_kept meanings c.phase
@@ -180,7 +180,7 @@ module _ (plan : PlanOf) (shared : SharedState) (number : ℕ) (c : Channel) whe
   own_kept meanings (asked_assign name value) = assign_kept meanings.functions name.now value.now
   own_kept meanings (asked_redirect place) = redirect_row_kept place.now
 
--- what stands at a place, written there again
+-- writing what is at a place to this place again changes nothing
 set-get : {X : Type 0} (xs : List X) (k : ℕ) (x : X) → slice_get xs k ≡ Some x → slice_set xs k x ≡ xs
 set-get [] k x here = refl
 set-get (y ∷ ys) zero x here = ap (λ z. z ∷ ys) (sym (same_Some y x here))
@@ -193,7 +193,7 @@ with_channel-same channels number c here = by (number == 0) here
     by true here = absurd (none-some c here)
     by false here = set-get channels (number - 1) c here
 
--- a refusal leaves the world
+-- a refusal leaves the world unchanged
 abbrev IsKept : World → World × Reply → Type 0
 IsKept w after = is_refused after.1 ≡ true → after.0 ≡ w
 
@@ -202,7 +202,7 @@ owned_kept w number c own here kept h =
     let same : (own.channel ≡ c) × (own.shared ≡ w.shared) = kept h in
     λ i. record { plan = w.plan; channels = (ap (with_channel w.channels number) same.0 ∙ with_channel-same w.channels number c here) i; shared = same.1 i }
 
--- a row that leaves each channel that it refuses
+-- a row that leaves each channel unchanged that it refuses
 row_kept : (w : World) (number : ℕ) (row : PlanOf → SharedState → ℕ → Channel → Own) → ((c : Channel) → OwnKept w.shared c (row w.plan w.shared number c))
     → IsKept w (spec.own_event w number row (channel_at w.channels number))
 row_kept w number row kept = by (channel_at w.channels number) refl
@@ -214,7 +214,7 @@ row_kept w number row kept = by (channel_at w.channels number) refl
 asked_kept : (meanings : Meanings) (w : World) (number : ℕ) (asked : ChannelEvent) → IsKept w (spec.own_event w number (spec.own_row meanings asked) (channel_at w.channels number))
 asked_kept meanings w number asked = row_kept w number (spec.own_row meanings asked) (λ c. own_kept w.plan w.shared number c meanings asked)
 
--- an offer that is refused
+-- a refused offer
 offer_by : (w : World) (queues : QueuesOf) (found : Result Rung OfferFault) → ((fault : OfferFault) → found ≡ Err fault → queues ≡ w.shared.queues)
     → IsKept w (spec.agent_event w (spec.unmet (spec.with_queues w.shared queues) (spec.offer_reply found)))
 offer_by w queues (Err fault) same = λ h. ap (λ q. record w { shared = spec.with_queues w.shared q }) (same fault refl)
@@ -224,7 +224,7 @@ offer_kept : (w : World) (queue : List ℕ) → IsKept w (spec.agent_event w (sp
 unfolding spec.serve_offer
 offer_kept w queue = offer_by w (offer_row w.shared.queues queue).0 (offer_row w.shared.queues queue).1 (offer-refused w.shared.queues queue)
 
--- an answer that is refused, by the agent's state
+-- an answer, given the agent's state
 answer_by : (w : World) (a : ℕ) (s : AgentState)
     → IsKept w (spec.agent_event w (spec.begin_talk (spec.with_queues w.shared (answer_row_at w.shared.queues a s).0) (answer_row_at w.shared.queues a s).1))
 answer_by w a Idle = λ h. refl
@@ -235,7 +235,7 @@ answer_kept : (w : World) (agent : List ℕ) → IsKept w (spec.agent_event w (s
 unfolding spec.serve_answer
 answer_kept w agent = answer_by w (agent_number w.shared.queues.agents agent) (state_at w.shared.queues.agents (agent_number w.shared.queues.agents agent))
 
--- one who declines nothing
+-- a decline by an agent that does not ring
 decline_by : (w : World) (a : ℕ) (s : AgentState)
     → IsKept w (spec.agent_event w (spec.unmet (spec.with_queues w.shared (decline_row_at w.shared.queues a s).0) (if (decline_row_at w.shared.queues a s).1 then Done else Refused NotRinging)))
 decline_by w a Idle = λ h. refl
@@ -246,7 +246,7 @@ decline_kept : (w : World) (agent : List ℕ) → IsKept w (spec.agent_event w (
 unfolding spec.serve_decline
 decline_kept w agent = decline_by w (agent_number w.shared.queues.agents agent) (state_at w.shared.queues.agents (agent_number w.shared.queues.agents agent))
 
--- one who is done with nothing
+-- a `done` of an agent that does not talk
 done_by : (w : World) (a : ℕ) (s : AgentState)
     → IsKept w (spec.agent_event w (spec.end_talk (spec.with_queues w.shared (done_row_at w.shared.queues a s).0) (done_row_at w.shared.queues a s).1))
 done_by w a Idle = λ h. refl
@@ -257,7 +257,7 @@ done_kept : (w : World) (agent : List ℕ) → IsKept w (spec.agent_event w (spe
 unfolding spec.agent_done
 done_kept w agent = done_by w (agent_number w.shared.queues.agents agent) (state_at w.shared.queues.agents (agent_number w.shared.queues.agents agent))
 
--- a call that is not let in
+-- a call that does not come in, because all numbers are spent
 start_by : (w : World) (context exten caller : List ℕ) (b : Bool)
     → IsKept w (spec.world_with_call w (if◌then◌else◌ {A = spec.Entered} b
     (record { channels = w.channels ++ spec.new_channel context exten caller ∷ []; reply = Started (length w.channels + 1) })
@@ -274,7 +274,7 @@ reload_by : (functions : FunctionTable) (w : World) (plan : Option PlanOf) → I
 reload_by functions w None = λ h. refl
 reload_by functions w (Some plan) = λ h. not_refused h
 
--- a refused event leaves the world as it was
+-- a refused event leaves the world unchanged
 pub refused-kept : (meanings : Meanings) (w : World) (event : Event) → IsKept w (spec.event_row meanings w event)
 refused-kept meanings w (Start context exten caller) = start_kept w context exten caller
 refused-kept meanings w (Step number) = asked_kept meanings w number asked_step
@@ -293,7 +293,7 @@ refused-kept meanings w (Assign (Some number) name value) =
     row_kept w number (spec.assign_row meanings.functions name value) (λ c. assign_kept w.plan w.shared number c meanings.functions name value)
 refused-kept meanings w (Redirect number place) = row_kept w number (spec.redirect_row place) (λ c. redirect_row_kept w.plan w.shared number c place)
 
--- so what an event answers says whether it changed anything
+-- so the reply to an event says whether it may have changed anything
 pub refused_after : (meanings : Meanings) (w after : World) (event : Event) (result : Result Reply NoMemory)
     → IfOk result (λ reply. spec.event_row meanings w event ≡ (after, reply)) → IfOk result (λ reply. is_refused reply ≡ true → after ≡ w)
 refused_after meanings w after event (Ok reply) row =

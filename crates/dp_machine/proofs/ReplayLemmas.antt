@@ -1,4 +1,4 @@
--- The replies to some events and to one more.
+-- The replies to a list of events with one more at its end.
 use Rattle.std.proofs.Common.{suc, ◌≡◌, ℕ, ◌+◌, ◌-◌, ◌≤◌, List, [], ◌∷◌, ◌++◌, length, take, refl, ap, ◌∙◌, arith}
 use Rattle.std.proofs.lemmas.List.{length-append, length-take-le}
 use Rattle.std.proofs.lemmas.List.Sums.{fold-append}
@@ -14,7 +14,7 @@ pub length-replies_to : (meanings : Meanings) (w : World) (events : List Event) 
 length-replies_to meanings w [] = refl
 length-replies_to meanings w (event ∷ events) = ap (λ n. suc n) (length-replies_to meanings (final_world meanings w event) events)
 
--- one more event is met by the world after the others
+-- the last event meets the world after the others
 pub replies_to-push : (meanings : Meanings) (w : World) (events : List Event) (event : Event)
     → replies_to meanings w (events ++ event ∷ []) ≡ replies_to meanings w events ++ (event_row meanings (world_after meanings w events) event).1 ∷ []
 replies_to-push meanings w [] event = refl

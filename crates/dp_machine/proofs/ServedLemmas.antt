@@ -12,7 +12,8 @@ use Rattle.dp_machine.specs.declared.exchange.Exchange.{Exchange}
 use Rattle.dp_machine.specs.declared.reply.Reply.TheVariants.{Done}
 use Rattle.dp_machine.specs.declared.shared_state.SharedState.{SharedState}
 
--- the channel of the call parted, in a dialplan that stayed, and then the queues are those after the end of the call
+-- if the channel of the call leaves its talk, and the dialplan stays the same, and then the queues are those after the end of the call,
+-- this is the row of the event
 pub done-makes : (before : Exchange) (plan : PlanOf) (channels beyond : List Channel) (agent : List ℕ) (call : Call) (queues : QueuesOf) (ended : Option Call)
     → plan ≡ before.plan → done_row before.shared.queues agent ≡ (queues, ended) → Some call ≡ (done_row before.shared.queues agent).1
     → ((shared after : SharedState) → agent_event (world_of before.plan channels shared) (end_talk after (Some call)) ≡ (world_of before.plan beyond after, Done))

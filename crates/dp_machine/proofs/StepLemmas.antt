@@ -1,4 +1,4 @@
--- What a lawful table leaves of a channel that takes a step.
+-- What a step over a lawful table preserves of a channel.
 use Rattle.std.proofs.Common.{◌≡◌, ◌≤◌, if◌then◌else◌, codes, ℕ, Bool, true, false, List, length, Option, Some, None, Ok, refl, sym, ap, subst, ◌∙◌}
 use Rattle.dp_plan.specs.Plan.{PlanOf}
 use Rattle.dp_plan.specs.declared.entry.Entry.{Entry}
@@ -25,11 +25,11 @@ use Rattle.dp_machine.specs.declared.exchange.Exchange.{Exchange}
 use Rattle.dp_machine.specs.declared.reply.Reply.TheVariants.{Invalid, NoEntry, Ran}
 use Rattle.dp_machine.specs.declared.shared_state.SharedState.{SharedState}
 
--- the channel after an application is sound where it goes
+-- after an application the channel is sound where it goes
 abbrev pub IsSoundAfter : PlanOf → Applied → Type 0
 IsSoundAfter plan beyond = IsSoundIn (after_application plan beyond.channel beyond.going).phase (after_application plan beyond.channel beyond.going)
 
--- a row that may be lacking is lawful, where it is there
+-- an optional row is lawful if it exists
 abbrev pub IsLawfulAt : Touch → Option Row → Type 0
 IsLawfulAt touch row = (meaning : Row) → row ≡ Some meaning → IsLawfulRow touch meaning
 
@@ -43,12 +43,12 @@ pub hung_up_sound : (plan : PlanOf) (c : Channel) → IsSoundIn (hung_up plan c)
 unfolding hung_up
 hung_up_sound plan c = hung_up_sound_by (runs_hang_up plan c) c (record (ready_in (without_frames c) (codes "h")) { is_closing = true }) refl
 
--- and so is one that lands at a place, or nowhere
+-- and so is one that goes to a target, whether or not the target is a place
 pub landed_sound : (plan : PlanOf) (c : Channel) (place : Option Place) → IsSoundIn (at_target plan c place).phase (at_target plan c place)
 landed_sound plan c None = hung_up_sound plan c
 landed_sound plan c (Some place) = tt
 
--- one that is parked where an application may park it is sound, if it is not closing and stands at a priority of an entry
+-- a channel that waits as its application allows is sound, if it is not closing and is at a priority of an entry
 pub parked_sound : (count : ℕ) (phase : Phase) (c : Channel) → MayPark count phase → c.place.priority ≤ most_priority → c.is_closing ≡ false
     → IsSoundIn phase (record c { phase = phase })
 parked_sound count Ready c may within closing = tt
@@ -59,7 +59,7 @@ parked_sound count (Talking queue agent goes_on) c may within closing = absurd m
 parked_sound count (Dialling goes_on has_timer) c may within closing = (within, closing)
 parked_sound count Ended c may within closing = absurd may
 
--- a closing channel is never parked
+-- a closing channel never begins to wait
 closed_false : (closing : Bool) (phase : Phase) → (closing ≡ true → ParksNowhere (Park phase)) → closing ≡ false
 closed_false true phase closes = absurd (closes refl)
 closed_false false phase closes = refl
@@ -89,7 +89,7 @@ went_sound touches rows lawful plan name arguments shared number c within beyond
     subst (λ n. IsSoundIn n.phase n) (sym gone)
     (subst (IsSoundAfter plan) after_run (applied_sound plan (touches name) (rows name) (lawful name) arguments shared number c within))
 
--- a step where no entry is found is not refused
+-- a step that finds no entry is not refused
 unfound_taken_by : (invalid : Bool) (after_application other : Own) → is_refused_at_once after_application.reply ≡ false → is_refused_at_once other.reply ≡ false
     → is_refused_at_once (if invalid then after_application else other).reply ≡ false
 unfound_taken_by true after_application other a b = a
@@ -107,7 +107,7 @@ pub found_taken : (meanings : Meanings) (plan : PlanOf) (shared : SharedState) (
 found_taken meanings plan shared number c None = unfound_taken plan shared c
 found_taken meanings plan shared number c (Some found) = refl
 
--- a step that finds its entry, runs its application and goes where that sends the channel
+-- the row of a step that finds its entry, runs its application and goes where that sends the channel
 pub follows-found : (meanings : Meanings) (number : ℕ) (before after : Exchange) (c d beyond : Channel) (shared : SharedState) (id : EntryId) (entry : Entry) (going : Option Move)
     → entry_found before.plan c.place ≡ Some (record { id = id; entry = entry })
     → application_outcome c (after_dispatch (meanings.rows entry.application) (arguments_seen meanings.functions before.shared number c entry.arguments) (cell_of before.shared number c))

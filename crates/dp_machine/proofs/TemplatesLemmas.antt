@@ -1,4 +1,4 @@
--- Templates of entries, one for each.
+-- Templates of entries, one for each entry.
 use Rattle.std.proofs.Common.{◌≡◌, arith, length, List, [], ◌∷◌, ◌++◌, Option, Some, None, MatchOption, IsSome, IfSome, sym, subst, true≢false}
 use Rattle.std.proofs.lemmas.List.{append_assoc, append-nil}
 use Rattle.std.proofs.lemmas.Slice.Zip.{AllZip-left}
@@ -12,22 +12,22 @@ use Rattle.dp_plan.specs.declared.entry.EntryId.{EntryId}
 use Rattle.dp_machine.specs.steps.Templates.{AreOf, AreTemplates, IsOf, template_at}
 use Rattle.dp_machine.specs.declared.templates.EntryTemplate.{EntryTemplate}
 
--- what goes with what is left goes, after what is done, with the whole
+-- if the rest of the list matches the remaining elements, then what is done so far, with that rest, matches the whole
 abbrev pub Goes : {X Y : Type 0} → (X → Y → Type 0) → List X → List X → List Y → Type 0
 Goes {X} {Y} R whole left done = (rest : List Y) → AllZip R left rest → AllZip R whole (done ++ rest)
 
--- one more is done
+-- one more element is done
 pub goes-next : {X Y : Type 0} (R : X → Y → Type 0) (whole : List X) (x : X) (after : List X) (done : List Y) (y : Y)
     → Goes R whole (x ∷ after) done → R x y → Goes R whole after (done ++ y ∷ [])
 goes-next R whole x after done y goes fits rest others =
     subst (AllZip R whole) (sym (append_assoc done (y ∷ []) rest)) (goes (y ∷ rest) (fits, others))
 
--- all is done
+-- all elements are done
 pub goes-last : {X Y : Type 0} (R : X → Y → Type 0) (whole left : List X) (done : List Y) → length left ≡ 0 → Goes R whole left done → AllZip R whole done
 goes-last R whole [] done none goes = subst (AllZip R whole) (append-nil done) (goes [] tt)
 goes-last R whole (x ∷ xs) done none goes = absurd (omega (arith, none))
 
--- an entry that stands in the dialplan has its template
+-- an entry of the dialplan has its template
 pub template_there : (plan : PlanOf) (templates : List (List EntryTemplate)) (id : EntryId) → AreTemplates plan.contexts templates
     → MatchOption (entry_at plan id) (Unit {0}) (λ entry. IsSomeAnd (template_at templates id) (IsOf entry))
 template_there plan templates id are = by (slice_get plan.contexts id.context) (slice_get templates id.context) (AllZip-left _ plan.contexts templates are id.context)
@@ -39,7 +39,7 @@ template_there plan templates id are = by (slice_get plan.contexts id.context) (
     by (Some context) None known = absurd known
     by (Some context) (Some held) known = AllZip-left IsOf context.entries held known id.entry
 
--- so none that stands there lacks its template
+-- so no entry of the dialplan lacks one
 pub lacks_none : (plan : PlanOf) (templates : List (List EntryTemplate)) (id : EntryId) → AreTemplates plan.contexts templates
     → IsSome (entry_at plan id) → template_at templates id ≡ None → ⊥
 lacks_none plan templates id are some none =
@@ -49,7 +49,7 @@ lacks_none plan templates id are some none =
     by None known some = true≢false (sym some)
     by (Some entry) known some = known
 
--- and the one that it has is one of its arguments
+-- and the template is one of the entry's arguments
 pub fits_there : (plan : PlanOf) (templates : List (List EntryTemplate)) (id : EntryId) (template : EntryTemplate) → AreTemplates plan.contexts templates
     → template_at templates id ≡ Some template → IfSome (entry_at plan id) (λ entry. IsOf entry template)
 fits_there plan templates id template are some =

@@ -1,4 +1,4 @@
--- What the step of a channel makes of it, over a lawful table of applications.
+-- The step of a channel over a lawful table of applications.
 use Rattle.std.proofs.Common.{◌≡◌, ℕ, ◌≤◌, Bool, true, false, List, length, Option, Some, None, refl, ap, if◌then◌else◌}
 use Rattle.dp_queue.specs.Queues.{QueuesOf}
 use Rattle.dp_plan.specs.Plan.{PlanOf}
@@ -27,11 +27,11 @@ use Rattle.dp_machine.proofs.TieQueues.{Rests}
 use Rattle.dp_machine.proofs.TieRows.{Acts}
 use Rattle.dp_machine.proofs.TieSteps.{hung_up-rests, hung_up-sound, ties-after_move, ties-rests}
 
--- the channel is tied to the queues after its event
+-- the channel agrees with the queues after its event
 abbrev pub IsTied : ℕ → QueuesOf → Own → Type 0
 IsTied number before own = Ties number before own.shared.queues own.channel.phase
 
--- a channel is sound after a move of its application
+-- a channel at the place of a target is sound
 at_target-sound : (plan : PlanOf) (c : Channel) (o : Option Place) → IsSoundIn (at_target plan c o).phase (at_target plan c o)
 at_target-sound plan c None = hung_up-sound plan c
 at_target-sound plan c (Some place) = tt
@@ -58,7 +58,7 @@ after_move-sound plan c count (Park phase) may goes within = parked-sound c coun
 after_move-sound plan c count Hang may goes within = hung_up-sound plan c
 
 module _ (plan : PlanOf) (shared : SharedState) (number : ℕ) (c : Channel) (ties : Ties number shared.queues shared.queues c.phase) where
-  -- a step where no entry is found
+  -- a step that finds no entry
   unfound-acts : Rests c.phase → Acts number shared.queues (unfound plan shared c)
   unfolding unfound
   unfound-acts rests = by (is_invalid plan c.place)
@@ -72,7 +72,7 @@ module _ (plan : PlanOf) (shared : SharedState) (number : ℕ) (c : Channel) (ti
       }
 
   module _ (touches : List ℕ → Touch) (meanings : Meanings) (lawful : IsLawful touches meanings.rows) where
-    -- a channel after its application is tied to the queues
+    -- after its application a channel agrees with the queues
     app-ties : (id : EntryId) (name arguments : List ℕ) (o : Option Row) → meanings.rows name ≡ o → Rests c.phase
         → IsTied number shared.queues (after_run plan id (application_outcome c (after_dispatch o arguments (cell_of shared number c))))
     app-ties id name arguments None is rests =
@@ -85,7 +85,7 @@ module _ (plan : PlanOf) (shared : SharedState) (number : ℕ) (c : Channel) (ti
         ties-after_move (touches name) shared.queues after.queues (law.keeps arguments cell).queues plan number
         (record c { caller = after.caller; store = after.store }) (row arguments cell).next c.phase ties rests (law.parks arguments cell) (law.waits arguments cell)
 
-    -- and sound
+    -- and is sound
     app-sound : (id : EntryId) (name arguments : List ℕ) (o : Option Row) → meanings.rows name ≡ o → c.place.priority ≤ most_priority
         → IsSoundOwn (after_run plan id (application_outcome c (after_dispatch o arguments (cell_of shared number c))))
     app-sound id name arguments None is within = hung_up-sound plan (record c { caller = c.caller; store = c.store })
@@ -96,7 +96,7 @@ module _ (plan : PlanOf) (shared : SharedState) (number : ℕ) (c : Channel) (ti
         after_move-sound plan (record c { caller = after.caller; store = after.store }) (length shared.queues.queues) (row arguments cell).next
         (law.parks arguments cell) (law.closes arguments cell) within
 
-    -- a step of a channel that is ready, by the entry that is found
+    -- a step of a channel that is ready, given the entry that is found
     at-ties : (o : Option Located) → Rests c.phase → IsTied number shared.queues (step_at meanings plan shared number c o)
     at-ties None rests = (unfound-acts rests).ties
     at-ties (Some found) rests = app-ties found.id found.entry.application (arguments_seen meanings.functions shared number c found.entry.arguments)
@@ -108,7 +108,7 @@ module _ (plan : PlanOf) (shared : SharedState) (number : ℕ) (c : Channel) (ti
     at-sound (Some found) rests within = app-sound found.id found.entry.application (arguments_seen meanings.functions shared number c found.entry.arguments)
         (meanings.rows found.entry.application) refl (within found refl)
 
-    -- a step by the channel's phase
+    -- a step, given the channel's phase
     in-ties : (p : Phase) → c.phase ≡ p → IsTied number shared.queues (step_in meanings p plan shared number c)
     in-ties Ready is = at-ties (entry_found plan c.place) (ap queue_in is, ap talk_in is)
     in-ties (Digits digits is_background) is = ties
@@ -129,12 +129,12 @@ module _ (plan : PlanOf) (shared : SharedState) (number : ℕ) (c : Channel) (ti
     in-sound (Dialling goes_on has_timer) is sound within = sound
     in-sound phase_ended is sound within = sound
 
-    -- the event `Step`: the channel is tied to the queues after it
+    -- the event `Step`: the channel agrees with the queues after it
     pub step-ties : IsTied number shared.queues (step_row meanings plan shared number c)
     unfolding step_row
     step-ties = in-ties c.phase refl
 
-    -- and is sound, where its place is at a priority of an entry if an entry is found there
+    -- and is sound, if its place is at a priority of an entry whenever an entry is found there
     pub step-sound : IsSoundIn c.phase c → ((found : Located) → entry_found plan c.place ≡ Some found → c.place.priority ≤ most_priority)
         → IsSoundOwn (step_row meanings plan shared number c)
     unfolding step_row

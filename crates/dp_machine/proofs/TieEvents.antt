@@ -35,7 +35,7 @@ use Rattle.dp_machine.proofs.TieRows.{Acts, assign_row-acts, redirect_row-acts, 
 use Rattle.dp_machine.proofs.TieServed.{good-agent_done, good-serve_answer, good-changed, good-serve_decline, good-serve_offer}
 use borrow.Author.Tests.{ltb-true}
 
--- where there is no channel, none has a number
+-- without channels no number has one
 none-at : (m : ℕ) → channel_at [] m ≡ None
 none-at m = by (m == 0)
   where
@@ -55,7 +55,7 @@ good-opening functions plan queues rest = record {
   };
 }
 
--- what holds of the channels with one more, whose place was empty
+-- a property of the channel at an index, after one more channel came in
 get-push : (P : Option Channel → Type 0) (xs : List Channel) (i : ℕ) (x : Channel) → P (slice_get xs i) → (slice_get xs i ≡ None → P (Some x))
     → P (slice_get (xs ++ x ∷ []) i)
 get-push P [] zero x old new = new refl
@@ -72,7 +72,7 @@ at-push P channels m x = by (m == 0)
     by true old new = old
     by false old new = get-push P channels (m - 1) x old new
 
--- channels stay tied where one more comes that neither waits nor talks
+-- channels and queues still agree after one more channel came in that neither waits nor talks
 tied-new_channel : (channels : List Channel) (queues : QueuesOf) (context exten caller : List ℕ) → AreTied channels queues
     → AreTied (channels ++ new_channel context exten caller ∷ []) queues
 tied-new_channel channels queues context exten caller tied = record {
@@ -105,17 +105,17 @@ good-start_call w context exten caller good = by (nat_lt (length w.channels) mos
     }
     by false full = record { within = good.within; tied = good.tied }
 
--- the event of a channel after which it is tied and sound
+-- an event of a channel after which it is sound and agrees with the queues
 pub good-world_with_own : (w : World) (number : ℕ) (c : Channel) (own : Own) → IsTiedWorld w → channel_at w.channels number ≡ Some c
     → IsTied number w.shared.queues own → IsSoundOwn own → IsTiedWorld (world_with_own w number own).0
 good-world_with_own w number c own good here ties sound = good-changed w number c own.channel own.shared good here ties sound
 
 module _ (w : World) (number : ℕ) (c : Channel) (good : IsTiedWorld w) (linked : IsGood w.shared.queues) (here : channel_at w.channels number ≡ Some c) where
-  -- what is known of the channel before
+  -- what is known of the channel before the event
   ties : Ties number w.shared.queues w.shared.queues c.phase
   ties = ties-self w.channels w.shared.queues number c good.tied here
 
-  -- an event after which the channel acts
+  -- such an event keeps the world good
   acted : (own : Own) → Acts number w.shared.queues own → IsTiedWorld (world_with_own w number own).0
   acted own acts = good-world_with_own w number c own good here acts.ties acts.sound
 
@@ -124,12 +124,12 @@ module _ (w : World) (number : ℕ) (c : Channel) (good : IsTiedWorld w) (linked
   good-digit digit = acted (digit_row digit w.plan w.shared number c)
       (digit-acts w.plan w.shared number c linked ties (subst IsSoundAt here (good.tied.sound number)) digit)
 
-  -- the end of a time
+  -- a time-out
   pub good-timeout : IsTiedWorld (world_with_own w number (timeout_row w.plan w.shared number c)).0
   good-timeout = acted (timeout_row w.plan w.shared number c)
       (timeout_row-acts w.plan w.shared number c linked ties (subst IsSoundAt here (good.tied.sound number)))
 
-  -- a question of a channel whether it is to leave
+  -- a channel asks whether it has to leave its queue
   pub good-poll : IsTiedWorld (world_with_own w number (poll_row w.plan w.shared number c)).0
   good-poll = acted (poll_row w.plan w.shared number c)
       (poll_row-acts w.plan w.shared number c linked ties (subst IsSoundAt here (good.tied.sound number)))
@@ -139,7 +139,7 @@ module _ (w : World) (number : ℕ) (c : Channel) (good : IsTiedWorld w) (linked
   good-hang_up = acted (hang_up_row w.plan w.shared number c)
       (hang_up_row-acts w.plan w.shared number c linked ties (subst IsSoundAt here (good.tied.sound number)))
 
-  -- what came of a call to devices
+  -- the result of a call to devices
   pub good-dial_result : (status : DialStatus) → IsTiedWorld (world_with_own w number (dial_result_row status w.plan w.shared number c)).0
   good-dial_result status = acted (dial_result_row status w.plan w.shared number c)
       (dial_result_row-acts w.plan w.shared number c linked ties (subst IsSoundAt here (good.tied.sound number)) status)
@@ -160,7 +160,7 @@ module _ (w : World) (number : ℕ) (c : Channel) (good : IsTiedWorld w) (linked
   good-step touches meanings lawful sound = good-world_with_own w number c (step_row meanings w.plan w.shared number c) good here
       (step-ties w.plan w.shared number c ties touches meanings lawful) sound
 
--- the event of a channel that there may not be
+-- an event of a channel, which may not exist
 pub good-own_event : (w : World) (number : ℕ) (row : PlanOf → SharedState → ℕ → Channel → Own) → IsTiedWorld w
     → ((c : Channel) → channel_at w.channels number ≡ Some c → IsTiedWorld (world_with_own w number (row w.plan w.shared number c)).0)
     → IsTiedWorld (own_event w number row (channel_at w.channels number)).0
@@ -170,12 +170,12 @@ good-own_event w number row good acts = by (channel_at w.channels number) refl
     by None here = good
     by (Some c) here = acts c here
 
--- another dialplan, where its text has no fault
+-- a reload, if the text has no fault
 good-reloaded : (functions : FunctionTable) (w : World) (plan : Option PlanOf) → IsTiedWorld w → IsTiedWorld (reloaded_by functions w plan).0
 good-reloaded functions w None good = good
 good-reloaded functions w (Some plan) good = record { within = good.within; tied = good.tied }
 
--- the world stays good after each event, over a lawful table
+-- over a lawful table the world stays good after each event
 pub good-event : (touches : List ℕ → Touch) (meanings : Meanings) (w : World) (event : Event) → IsLawful touches meanings.rows → IsGood w.shared.queues → IsTiedWorld w
     → StepsSoundly meanings w event → IsTiedWorld (event_row meanings w event).0
 good-event touches meanings w (Start context exten caller) lawful linked good steps = good-start_call w context exten caller good
@@ -202,7 +202,7 @@ good-event touches meanings w (Assign (Some number) name value) lawful linked go
 good-event touches meanings w (Redirect number place) lawful linked good steps = good-own_event w number (redirect_row place) good
     (λ c here. good-redirect w number c good linked here place)
 
--- so channels and queues are tied after what a call of the machine answers: the world of the event's row, or the world as it was
+-- so channels and queues agree after a function call of the machine: the world is that of the event's row, or is unchanged
 tied-after : (touches : List ℕ → Touch) (meanings : Meanings) (before after : World) (event : Event) (r : Result Reply NoMemory)
     → IsLawful touches meanings.rows → IsGood before.shared.queues → IsTiedWorld before → Makes (event_row meanings before event) before after r
     → OnOk r (StepsSoundly meanings before event) → IsTiedWorld after
@@ -210,7 +210,7 @@ tied-after touches meanings before after event (Ok reply) lawful linked tied mak
     subst IsTiedWorld (ap (λ (p : World × Reply). p.0) makes.ok) (good-event touches meanings before event lawful linked tied steps)
 tied-after touches meanings before after event (Err e) lawful linked tied makes steps = subst IsTiedWorld (sym makes.err) tied
 
--- and the world is good there, since its queues are
+-- and the world is good, since its queues are
 pub good-after : (touches : List ℕ → Touch) (meanings : Meanings) (before after : World) (event : Event) (r : Result Reply NoMemory)
     → IsLawful touches meanings.rows → IsGoodWorld before → Makes (event_row meanings before event) before after r
     → OnOk r (StepsSoundly meanings before event) → IsGood after.shared.queues → IsGoodWorld after
@@ -218,7 +218,7 @@ good-after touches meanings before after event r lawful good makes steps queues 
     let tied : IsTiedWorld after = tied-after touches meanings before after event r lawful good.queues (record { within = good.within; tied = good.tied }) makes steps in
     record { within = tied.within; tied = tied.tied; queues = queues }
 
--- and so is the world of an exchange before the first call, with no channel
+-- and so is the world of an exchange before the first call, without channels
 pub good-fresh : (functions : FunctionTable) (plan : PlanOf) (queues : QueuesOf) (exchange : Exchange) (channels : List Channel) → channels ≡ []
     → world_in exchange [] ≡ opening_with functions plan queues → IsAtRest queues → IsGood exchange.shared.queues → IsGoodWorld (world_in exchange channels)
 good-fresh functions plan queues exchange channels none first rest linked =

@@ -1,4 +1,4 @@
--- Channels and queues stay tied after a change of one channel and of the queues.
+-- Channels and queues still agree after a change of one channel and of the queues.
 use Rattle.std.proofs.Common.{◌≡◌, ℕ, zero, suc, ◌-◌, ◌==◌, Bool, true, false, ◌||◌, List, [], ◌∷◌, Some, None, refl, sym, ap, ◌∙◌, arith, slice_get, subst, length, ◌≤◌, if◌then◌else◌}
 use Rattle.std.specs.Prelude.{slice_set}
 use Rattle.std.proofs.lemmas.Option.{none-some}
@@ -14,12 +14,12 @@ use Rattle.dp_machine.specs.World.{World, channel_at, most_channels, with_channe
 use Rattle.dp_machine.specs.declared.channel.Channel.{Channel}
 use borrow.Author.Tests.{eqb-true, eq-eqb}
 
--- a world in which channels are no more than have numbers, and tied to the queues
+-- a world with no more channels than there are numbers, which agree with the queues
 pub record IsTiedWorld (w : World) : Type 0 where
   pub within : length w.channels ≤ most_channels
   pub tied : AreTied w.channels w.shared.queues
 
--- what holds of a number, and of every other number, holds of all
+-- what holds for a number and for every other number holds for all
 pub by_number : (P : ℕ → Type 0) (number m : ℕ) → P number → ((number == m) ≡ false → P m) → P m
 by_number P number m here other = by (number == m) refl
   where
@@ -27,18 +27,18 @@ by_number P number m here other = by (number == m) refl
     by true same = subst P (eqb-true number m same) here
     by false differs = other differs
 
--- numbers that the test tells apart
+-- numbers that differ by the test
 pub apart : (a b : ℕ) → (a == b) ≡ false → a ≡ b → ⊥
 apart a b differs same = let yes : (a == b) ≡ true = eq-eqb a b same in cc
 
 module _ {X : Type 0} where
-  -- what stands where an element was set
+  -- the element at the place that was written
   get-set_same : (xs : List X) (i : ℕ) (x y : X) → slice_get xs i ≡ Some x → slice_get (slice_set xs i y) i ≡ Some y
   get-set_same [] i x y here = absurd (none-some x here)
   get-set_same (z ∷ xs) zero x y here = refl
   get-set_same (z ∷ xs) (suc i) x y here = get-set_same xs i x y here
 
-  -- and at another place
+  -- and at any other place
   get-set_other : (xs : List X) (i j : ℕ) (y : X) → (i ≡ j → ⊥) → slice_get (slice_set xs i y) j ≡ slice_get xs j
   get-set_other [] i j y other = refl
   get-set_other (z ∷ xs) zero zero y other = absurd (other refl)
@@ -46,13 +46,13 @@ module _ {X : Type 0} where
   get-set_other (z ∷ xs) (suc i) zero y other = refl
   get-set_other (z ∷ xs) (suc i) (suc j) y other = get-set_other xs i j y (λ same. other (ap suc same))
 
-  -- the length after a write
+  -- a write keeps the length
   pub length-set_at : (xs : List X) (i : ℕ) (y : X) → length (slice_set xs i y) ≡ length xs
   length-set_at [] i y = refl
   length-set_at (z ∷ xs) zero y = refl
   length-set_at (z ∷ xs) (suc i) y = ap suc (length-set_at xs i y)
 
--- the channel of a number that was changed
+-- the channel with a number after it was changed
 pub channel_at-same : (channels : List Channel) (number : ℕ) (c d : Channel) → channel_at channels number ≡ Some c
     → channel_at (with_channel channels number d) number ≡ Some d
 channel_at-same channels number c d here = by (number == 0) here
@@ -62,7 +62,7 @@ channel_at-same channels number c d here = by (number == 0) here
     by true here = absurd (none-some c here)
     by false here = get-set_same channels (number - 1) c d here
 
--- and of another number
+-- and the channel with another number
 pub channel_at-other : (channels : List Channel) (number m : ℕ) (c d : Channel) → channel_at channels number ≡ Some c
     → (number == m) ≡ false → channel_at (with_channel channels number d) m ≡ channel_at channels m
 channel_at-other channels number m c d here differs = by (number == 0) (m == 0) refl refl here
@@ -77,12 +77,12 @@ channel_at-other channels number m c d here differs = by (number == 0) (m == 0) 
         positions : (number ≡ 0 → ⊥) → (m ≡ 0 → ⊥) → number - 1 ≡ m - 1 → number ≡ m
         positions not_zero is_not same = omega (arith, not_zero, is_not, same)
 
--- no agent talks with a channel with which none of a number does
+-- if no agent talks with a channel by its state, none talks with it
 is_talking-none_of : (agents : List Agent) (c : ℕ) → ((a : ℕ) → talks_with c (state_at agents a) ≡ false) → is_talking agents c ≡ false
 is_talking-none_of [] c none = refl
 is_talking-none_of (a ∷ agents) c none = (λ i. none 0 i || is_talking-none_of agents c (λ b. none (suc b)) i)
 
--- before an event all is known of a channel that may act
+-- in a good world the facts on a channel before an event hold
 pub may_act : (w : World) (number : ℕ) (c : Channel) → IsGoodWorld w → channel_at w.channels number ≡ Some c → MayAct w.shared number c
 may_act w number c good here = record {
   waits = good.tied.waits number ∙ ap queue_of here;
@@ -100,7 +100,7 @@ may_act w number c good here = record {
             ∙ ap (λ n. talk_of (channel_at w.channels n)) (sym (eqb-true d number same)) ∙ good.tied.talking a queue d is))
         by false differs = refl
 
--- queues after a change that concerns the channel of a number alone: it waits and talks by this phase, and the others as before
+-- queues after a change that concerns only the channel with a number: it waits and talks as this phase says, and the others as before
 pub record Ties (number : ℕ) (before after : QueuesOf) (phase : Phase) : Type 0 where
   pub waits : waits_in after.queues number ≡ queue_in phase
   pub others : (m : ℕ) → (number == m) ≡ false → waits_in after.queues m ≡ waits_in before.queues m
@@ -111,7 +111,7 @@ pub record Ties (number : ℕ) (before after : QueuesOf) (phase : Phase) : Type 
   pub still_talks : (agent queue m : ℕ) → (number == m) ≡ false → state_at before.agents agent ≡ Talking queue m
       → state_at after.agents agent ≡ Talking queue m
 
--- channels and queues stay tied where a channel comes into such a phase and is sound in it
+-- channels and queues still agree if a channel gets such a phase and is sound in it
 pub tied-changed : (channels : List Channel) (number : ℕ) (c d : Channel) (before after : QueuesOf) → channel_at channels number ≡ Some c
     → Ties number before after d.phase → IsSoundIn d.phase d → AreTied channels before → AreTied (with_channel channels number d) after
 tied-changed channels number c d before after here ties sound tied = record {

@@ -1,4 +1,4 @@
--- Offers and what agents decline leave who waits and who talks as they were.
+-- Offers and declines do not change who waits and who talks.
 use Rattle.std.proofs.Common.{◌≡◌, ℕ, zero, suc, ◌<◌, ◌==◌, true, List, [], ◌∷◌, Option, Some, None, Ok, Err, refl, sym, ap, ◌∙◌, slice_get, length}
 use Rattle.std.specs.List.{All}
 use Rattle.std.proofs.lemmas.List.Elements.{All-nil, All-head, All-tail, All-weaker}
@@ -18,7 +18,7 @@ use Rattle.dp_queue.proofs.WaitingLemmas.{lines-changed_at, waits_in-same}
 use Rattle.dp_machine.proofs.TieQueues.{SameTies, ringing_not_talking, set_here, set_there, talking_not_idle}
 use borrow.Author.Tests.{eqb-true}
 
--- agents of which each talks with whom it talked
+-- each agent talks with the same channel as before
 pub record SameTalks (before after : List Agent) : Type 0 where
   pub talking : (agent queue m : ℕ) → state_at after agent ≡ Talking queue m → state_at before agent ≡ Talking queue m
   pub talks : (agent queue m : ℕ) → state_at before agent ≡ Talking queue m → state_at after agent ≡ Talking queue m
@@ -27,11 +27,11 @@ pub record SameTalks (before after : List Agent) : Type 0 where
 talks-self : (agents : List Agent) → SameTalks agents agents
 talks-self agents = record { talking = λ agent queue m is. is; talks = λ agent queue m is. is }
 
--- a state in which an agent talks with nobody
+-- an agent in this state talks with nobody
 abbrev pub IsSilent : AgentState → Type 0
 IsSilent s = (queue m : ℕ) → s ≡ Talking queue m → ⊥
 
--- an agent that talks with nobody comes into a state in which it talks with nobody
+-- an agent that talks with nobody gets a state in which it talks with nobody
 pub talks-set : (before agents : List Agent) (a : ℕ) (s : AgentState) → a < length agents → IsSilent (state_at agents a) → IsSilent s
     → SameTalks before agents → SameTalks before (with_state_at a s agents)
 talks-set before agents a s within silent new_silent same = record {
@@ -49,7 +49,7 @@ idle-silent Idle idle queue m is = talking_not_idle queue m is
 idle-silent (Ringing k c) idle queue m is = absurd (cc)
 idle-silent (Talking k c) idle queue m is = absurd (cc)
 
--- who talks where an agent came to ring talked before
+-- whoever talks after an agent began to ring talked before
 talking-rung : (k c a b queue m : ℕ) (agents : List Agent) → state_at (with_state_at a (Ringing k c) agents) b ≡ Talking queue m
     → state_at agents b ≡ Talking queue m
 talking-rung k c a b queue m [] is = is
@@ -58,7 +58,7 @@ talking-rung k c zero (suc b) queue m (x ∷ xs) is = is
 talking-rung k c (suc a) zero queue m (x ∷ xs) is = is
 talking-rung k c (suc a) (suc b) queue m (x ∷ xs) is = talking-rung k c a b queue m xs is
 
--- and who talked talks, where it was one that talks with nobody
+-- and whoever talked still talks, if the agent talked with nobody
 talks-rung : (k c a b queue m : ℕ) (agents : List Agent) → IsSilent (state_at agents a) → state_at agents b ≡ Talking queue m
     → state_at (with_state_at a (Ringing k c) agents) b ≡ Talking queue m
 talks-rung k c a b queue m [] silent is = is
@@ -71,7 +71,7 @@ talks-rung k c (suc a) (suc b) queue m (x ∷ xs) silent is = talks-rung k c a b
 abbrev pub IsSilentIn : List Agent → Member → Type 0
 IsSilentIn agents member = IsSilent (state_at agents member.agent)
 
--- the agents of such members come to ring
+-- the agents of such members begin to ring
 talks-rings : (before : List Agent) (k c : ℕ) (members : List Member) (agents : List Agent) → SameTalks before agents
     → All (IsSilentIn before) members → SameTalks before (all_ringing k c members agents)
 talks-rings before k c [] agents same silent = same

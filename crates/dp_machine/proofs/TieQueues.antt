@@ -1,4 +1,4 @@
--- How each change of the queues ties the channel that it concerns.
+-- How each change of the queues concerns a channel: it agrees with the queues afterwards.
 use Rattle.std.proofs.Common.{◌≡◌, ℕ, zero, suc, ◌+◌, ◌<◌, nat_lt, not, arith, ◌==◌, Bool, true, false, List, [], ◌∷◌, Option, Some, None, refl, sym, ap, ◌∙◌, subst, length, if◌then◌else◌}
 use Rattle.std.proofs.lemmas.Option.{none-some, some_pair_parts}
 use Rattle.std.proofs.lemmas.Bool.{lt-ltb}
@@ -30,7 +30,7 @@ use borrow.Author.Tests.{eqb-true, eq-eqb}
 abbrev pub Rests : Phase → Type 0
 Rests phase = (queue_in phase ≡ None) × (talk_in phase ≡ None)
 
--- a test that passes, and one that does not
+-- a test that passes, and one that fails
 pub if_true : {X : Type 0} (b : Bool) (x y : X) → b ≡ true → (if b then x else y) ≡ x
 if_true true x y e = refl
 if_true false x y e = absurd (cc)
@@ -49,7 +49,7 @@ ringing_not_talking j e queue c same = cc
 pub same_talking : (j e queue c : ℕ) → ◌≡◌ {A = AgentState} (Talking j e) (Talking queue c) → (j ≡ queue) × (e ≡ c)
 same_talking j e queue c same = (cc, cc)
 
--- before a change the channel is tied by its phase
+-- before a change the channel agrees with the queues, by its phase
 pub ties-self : (channels : List Channel) (q : QueuesOf) (number : ℕ) (c : Channel) → AreTied channels q
     → channel_at channels number ≡ Some c → Ties number q q c.phase
 ties-self channels q number c tied here = record {
@@ -61,7 +61,7 @@ ties-self channels q number c tied here = record {
   still_talks = λ agent queue m differs is. is;
 }
 
--- a phase that says the same of waiting and talking
+-- a phase that says the same about waiting and talking
 pub ties-same : (number : ℕ) (before after : QueuesOf) (p r : Phase) → Ties number before after p → queue_in p ≡ queue_in r → talk_in p ≡ talk_in r
     → Ties number before after r
 ties-same number before after p r ties same_queue same_talk = record {
@@ -73,13 +73,13 @@ ties-same number before after p r ties same_queue same_talk = record {
   still_talks = ties.still_talks;
 }
 
--- queues in which nobody comes to wait or leaves, and no talk begins or ends
+-- queues in which nobody begins or stops waiting, and no talk begins or ends
 pub record SameTies (before after : QueuesOf) : Type 0 where
   pub waits : (m : ℕ) → waits_in after.queues m ≡ waits_in before.queues m
   pub talking : (agent queue m : ℕ) → state_at after.agents agent ≡ Talking queue m → state_at before.agents agent ≡ Talking queue m
   pub talks : (agent queue m : ℕ) → state_at before.agents agent ≡ Talking queue m → state_at after.agents agent ≡ Talking queue m
 
--- such queues tie a channel as before
+-- a channel that agreed with the queues agrees with such queues
 pub ties-kept : (number : ℕ) (q before after : QueuesOf) (phase : Phase) → SameTies before after → Ties number q before phase → Ties number q after phase
 ties-kept number q before after phase same ties = record {
   waits = same.waits number ∙ ties.waits;
@@ -90,7 +90,7 @@ ties-kept number q before after phase same ties = record {
   still_talks = λ agent queue m differs is. same.talks agent queue m (ties.still_talks agent queue m differs is);
 }
 
--- and are tied to the same channels
+-- and so do all channels
 pub tied-same : (channels : List Channel) (before after : QueuesOf) → SameTies before after → AreTied channels before → AreTied channels after
 tied-same channels before after same tied = record {
   waits = λ m. same.waits m ∙ tied.waits m;
@@ -99,7 +99,7 @@ tied-same channels before after same tied = record {
   sound = tied.sound;
 }
 
--- an agent that is freed of a channel talks as before
+-- an agent that stops ringing for a channel talks as before
 idle_if_ringing-talking : (c : ℕ) (s : AgentState) (queue m : ℕ) → freed_state c s ≡ Talking queue m → s ≡ Talking queue m
 idle_if_ringing-talking c Idle queue m is = absurd (talking_not_idle queue m is)
 idle_if_ringing-talking c (Ringing j d) queue m is = by (d == c) is
@@ -130,19 +130,19 @@ ties-after_leaving number k q p r good ties waits silent rests = record {
     back : (agent queue m : ℕ) → state_at (all_freed number q.agents) agent ≡ Talking queue m → state_at q.agents agent ≡ Talking queue m
     back agent queue m is = idle_if_ringing-talking number (state_at q.agents agent) queue m (sym (state_at-idle_if_ringing number q.agents agent) ∙ is)
 
--- the same by the row
+-- the same, for the row
 pub ties-leave : (number k : ℕ) (q : QueuesOf) (p r : Phase) → IsGood q → Ties number q q p → queue_in p ≡ Some k → talk_in p ≡ None → Rests r
     → Ties number q (leave_row q number).0 r
 ties-leave number k q p r good ties waits silent rests =
     subst (λ (o : Option ℕ). Ties number q (leave_row_at q number o).0 r) (sym (ties.waits ∙ waits)) (ties-after_leaving number k q p r good ties waits silent rests)
 
--- agents of which one comes into another state
+-- agents of which one gets another state
 module _ (agents : List Agent) (a : ℕ) (s : AgentState) (within : a < length agents) where
-  -- that one is in the new state
+  -- that one has the new state
   pub set_here : (b : ℕ) → (a == b) ≡ true → state_at (with_state_at a s agents) b ≡ s
   set_here b same = ap (state_at (with_state_at a s agents)) (sym (eqb-true a b same)) ∙ state_at-same a s agents within
 
-  -- and the others are in theirs
+  -- and the others have theirs
   pub set_there : (b : ℕ) → (a == b) ≡ false → state_at (with_state_at a s agents) b ≡ state_at agents b
   set_there b differs = state_at-other a s agents b (λ same. apart a b differs (sym same))
 
@@ -175,13 +175,13 @@ ties-after_talk number a k q p r good ties is_with rests = record {
         (λ (differs : (a == agent) ≡ false). apart a agent differs (some_pair_parts k queue a agent (sym (ties.talking a k is_with)
         ∙ ties.talking agent queue (sym (set_there q.agents a Idle within agent differs) ∙ is))).1)
 
--- an agent that talks with a channel is found as its talker
+-- an agent that talks with a channel is found as the one that does
 module _ (number : ℕ) where
   -- whether an agent talks with it
   talks : Agent → Bool
   talks agent = talks_with number agent.state
 
-  -- the place of the first that does
+  -- the place of the first agent that does
   first-talks : (xs : List Agent) (a : ℕ) → talks_with number (state_at xs a) ≡ true
       → (position_or_len talks xs < length xs) × (talks_with number (state_at xs (position_or_len talks xs)) ≡ true)
   unfolding talks
@@ -209,7 +209,7 @@ module _ (number : ℕ) where
       ap (λ (o : Option ℕ). talks_with number (state_at agents (unwrap_or o (length agents))))
       (if_true (nat_lt (position_or_len talks agents) (length agents)) (Some (position_or_len talks agents)) None (lt-ltb _ _ found.0)) ∙ found.1
 
--- the talk of the channel ends, by the row
+-- the talk of the channel ends, for the row
 pub ties-end_talk : (number a k : ℕ) (q : QueuesOf) (p r : Phase) → IsGood q → Ties number q q p → talk_in p ≡ Some (k, a) → Rests r
     → Ties number q (end_talk_row q number).0 r
 ties-end_talk number a k q p r good ties is_with rests =

@@ -1,4 +1,4 @@
--- What each event of a channel makes of it: it is tied to the queues after the event, and sound.
+-- The effect of each event of a channel: the channel is sound and agrees with the queues after it.
 use Rattle.std.proofs.Common.{◌≡◌, ℕ, ◌+◌, ◌||◌, ◌++◌, Bool, true, false, List, [], ◌∷◌, Some, None, refl, ap, ◌∙◌, subst, if◌then◌else◌}
 use Rattle.std.specs.Prelude.{codes}
 use Rattle.dp_queue.specs.Good.{IsGood}
@@ -26,7 +26,7 @@ use Rattle.dp_machine.proofs.TieLemmas.{Ties}
 use Rattle.dp_machine.proofs.TieQueues.{Rests, ties-end_talk, ties-leave}
 use Rattle.dp_machine.proofs.TieSteps.{hung_up-rests, hung_up-sound, ties-rests}
 
--- after a channel's event the channel is tied to the queues, and sound
+-- after a channel's event the channel is sound and agrees with the queues
 pub record Acts (number : ℕ) (before : QueuesOf) (own : Own) : Type 0 where
   pub ties : Ties number before own.shared.queues own.channel.phase
   pub sound : IsSoundIn own.channel.phase own.channel
@@ -39,7 +39,7 @@ IsQuiet c = Rests c.phase × IsSoundIn c.phase c
 pub hung_up-quiet : (plan : PlanOf) (c : Channel) → IsQuiet (hung_up plan c)
 hung_up-quiet plan c = (hung_up-rests plan c, hung_up-sound plan c)
 
--- one that waited for digits
+-- one that has waited for digits
 after_wait-quiet : (plan : PlanOf) (c : Channel) → IsQuiet (after_wait plan c)
 after_wait-quiet plan c = by (is_found plan c.place.context c.place.exten (c.place.priority + 1)) (is_found plan c.place.context (codes "t") 1)
   where
@@ -53,7 +53,7 @@ timed_out-quiet plan c [] true = ((refl, refl), tt)
 timed_out-quiet plan c [] false = after_wait-quiet plan c
 timed_out-quiet plan c (b ∷ bs) is_background = ((refl, refl), tt)
 
--- one whose call to devices came to something
+-- one whose call to devices has ended
 after_dialling-quiet : (plan : PlanOf) (c : Channel) (status : DialStatus) (goes_on : Bool) → IsQuiet (after_dialling plan c status goes_on)
 after_dialling-quiet plan c status goes_on = by (ends_call status goes_on)
   where
@@ -75,21 +75,21 @@ sound-kept phase_ended c store caller alive sound = absurd (over alive)
     over : true ≡ false → ⊥
     over is = cc
 
--- a channel of which this is known acts
+-- the effect of events on a channel with these properties
 module _ (plan : PlanOf) (shared : SharedState) (number : ℕ) (c : Channel) (good : IsGood shared.queues)
     (ties : Ties number shared.queues shared.queues c.phase) (sound : IsSoundIn c.phase c) where
-  -- all stays as it was
+  -- nothing changes
   still : (reply : Reply) → Acts number shared.queues (record { channel = c; shared = shared; reply = reply })
   still reply = record { ties = ties; sound = sound }
 
-  -- a channel that neither waits nor talks comes to be quiet
+  -- a channel that neither waits nor talks changes to such a channel that is sound
   pub quiet : (d : Channel) (reply : Reply) → Rests c.phase → IsQuiet d → Acts number shared.queues (record { channel = d; shared = shared; reply = reply })
   quiet d reply rests is_quiet = record {
     ties = ties-rests number shared.queues shared.queues c.phase d.phase ties rests is_quiet.0;
     sound = is_quiet.1;
   }
 
-  -- a channel leaves its queue, and comes to be quiet
+  -- a channel leaves its queue, and changes to such a channel
   leaves : (d : Channel) (queue : ℕ) → queue_in c.phase ≡ Some queue → talk_in c.phase ≡ None → IsQuiet d
       → Acts number shared.queues (take_event (without_caller shared number) d)
   leaves d queue waits silent is_quiet = record {
@@ -97,7 +97,7 @@ module _ (plan : PlanOf) (shared : SharedState) (number : ℕ) (c : Channel) (go
     sound = is_quiet.1;
   }
 
-  -- its phase is known
+  -- the phase is known
   rests_by : (p : Phase) → c.phase ≡ p → Rests p → Rests c.phase
   rests_by p is rests = (ap queue_in is ∙ rests.0, ap talk_in is ∙ rests.1)
 
@@ -118,7 +118,7 @@ module _ (plan : PlanOf) (shared : SharedState) (number : ℕ) (c : Channel) (go
   way_out-acts true queue goes_on has_timer place is = leaves (ready_at c place) queue (ap queue_in is) (ap talk_in is) ((refl, refl), tt)
   way_out-acts false queue goes_on has_timer place is = still Done
 
-  -- a digit of a telephone
+  -- a telephone digit
   dial-acts : (digit : ℕ) (p : Phase) → c.phase ≡ p → Acts number shared.queues (dial_in p digit plan shared number c)
   dial-acts digit Ready is = still (Refused NotWaiting)
   dial-acts digit (Digits digits is_background) is =
@@ -140,7 +140,7 @@ module _ (plan : PlanOf) (shared : SharedState) (number : ℕ) (c : Channel) (go
       by true = dial-acts digit c.phase refl
       by false = still (Refused BadDigit)
 
-  -- the end of a time
+  -- a time-out
   timeout-acts : (p : Phase) → c.phase ≡ p → Acts number shared.queues (timeout_in p plan shared number c)
   timeout-acts Ready is = still (Refused NotWaiting)
   timeout-acts (Digits digits is_background) is =
@@ -159,7 +159,7 @@ module _ (plan : PlanOf) (shared : SharedState) (number : ℕ) (c : Channel) (go
   unfolding timeout_row
   timeout_row-acts = timeout-acts c.phase refl
 
-  -- a channel asks whether it is to leave
+  -- a channel asks whether it has to leave its queue
   polled-acts : (b : Bool) (queue : ℕ) (goes_on has_timer : Bool) → c.phase ≡ Queued queue goes_on has_timer
       → Acts number shared.queues (poll_queue b shared number c)
   polled-acts true queue goes_on has_timer is =
@@ -234,7 +234,7 @@ module _ (plan : PlanOf) (shared : SharedState) (number : ℕ) (c : Channel) (go
   unfolding redirect_row
   redirect_row-acts place = redirect-acts place c.phase refl
 
-  -- what came of a call to devices
+  -- the result of a call to devices
   result-acts : (status : DialStatus) (p : Phase) → c.phase ≡ p → Acts number shared.queues (dial_result_in p status plan shared number c)
   result-acts status Ready is = still (Refused NotDialling)
   result-acts status (Digits digits is_background) is = still (Refused NotDialling)

@@ -23,7 +23,7 @@ use Rattle.dp_machine.proofs.TieOffers.{same-declined, same-offered}
 use Rattle.dp_machine.proofs.TieQueues.{ties-after_answer, ties-after_talk, ties-self, tied-same}
 use Rattle.dp_machine.proofs.TieRows.{IsQuiet, hung_up-quiet}
 
--- a channel is changed and stays tied and sound
+-- a channel changes, is still sound and agrees with the queues
 pub good-changed : (w : World) (number : ℕ) (c d : Channel) (shared : SharedState) → IsTiedWorld w → channel_at w.channels number ≡ Some c
     → Ties number w.shared.queues shared.queues d.phase → IsSoundIn d.phase d
     → IsTiedWorld (record w { channels = with_channel w.channels number d; shared = shared })
@@ -48,7 +48,7 @@ good-serve_decline w agent good = record {
   tied = tied-same w.channels w.shared.queues (decline_row w.shared.queues agent).0 (same-declined w.shared.queues agent) good.tied;
 }
 
--- a channel that waits in a queue is as sound when it talks
+-- a channel that waits in a queue is sound in a talk too
 talks-sound : (c : Channel) (p : Phase) (k : ℕ) → queue_in p ≡ Some k → IsSoundIn p c → (c.place.priority ≤ most_priority) × (c.is_closing ≡ false)
 talks-sound c Ready k waits sound = absurd (none-some k waits)
 talks-sound c (Digits digits is_background) k waits sound = sound
@@ -58,7 +58,7 @@ talks-sound c (PhaseTalking queue agent goes_on) k waits sound = sound
 talks-sound c (Dialling goes_on has_timer) k waits sound = sound
 talks-sound c Ended k waits sound = absurd (none-some k waits)
 
--- a channel whose talk ends is quiet
+-- a channel whose talk ends is sound, and neither waits nor talks
 after_talk-quiet : (plan : PlanOf) (c : Channel) (goes_on : Bool) → IsQuiet (after_talk plan c goes_on)
 after_talk-quiet plan c true = ((refl, refl), tt)
 after_talk-quiet plan c false = hung_up-quiet plan c

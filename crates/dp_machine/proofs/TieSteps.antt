@@ -1,4 +1,4 @@
--- How a move of its application ties a channel.
+-- The effect of a move of its application on a channel and the queues.
 use Rattle.std.proofs.Common.{◌≡◌, ℕ, zero, suc, ◌<◌, ◌==◌, Bool, true, false, List, [], ◌∷◌, ◌++◌, Option, Some, None, refl, sym, ap, ◌∙◌, length, if◌then◌else◌, codes}
 use Rattle.std.proofs.lemmas.Option.{none-some}
 use Rattle.dp_conf.specs.Changes.{changed_at}
@@ -48,7 +48,7 @@ pub at_target-rests : (plan : PlanOf) (c : Channel) (o : Option Place) → Rests
 at_target-rests plan c None = hung_up-rests plan c
 at_target-rests plan c (Some place) = (refl, refl)
 
--- a channel that neither waits nor talks, and comes to do neither
+-- a channel neither waits nor talks, before and after
 pub ties-rests : (number : ℕ) (before after : QueuesOf) (p r : Phase) → Ties number before after p → Rests p → Rests r → Ties number before after r
 ties-rests number before after p r ties old new = ties-same number before after p r ties (old.0 ∙ sym new.0) (old.1 ∙ sym new.1)
 
@@ -59,7 +59,7 @@ lines-joined (q ∷ qs) c zero = refl
 lines-joined (q ∷ qs) c (suc k) = ap (λ (ls : List (List ℕ)). q.waiting ∷ ls) (lines-joined qs c k)
 
 module _ (touch : Touch) (before after : QueuesOf) (keeps : KeepsQueues touch before after) where
-  -- an application that leaves the waiting lists
+  -- an application that leaves the waiting lists unchanged
   pub same-kept : waiting_lists after ≡ waiting_lists before → SameTies before after
   same-kept kept = record {
     waits = λ m. waits_in-same after.queues before.queues m kept;
@@ -67,7 +67,7 @@ module _ (touch : Touch) (before after : QueuesOf) (keeps : KeepsQueues touch be
     talks = λ agent queue m is. keeps.states agent ∙ is;
   }
 
-  -- an application by which the channel joins a queue
+  -- an application that makes the channel join a queue
   pub ties-joined : (number k : ℕ) (p r : Phase) → Ties number before before p → Rests p → k < length before.queues
       → waiting_lists after ≡ changed_at (λ waiting. waiting ++ number ∷ []) k (waiting_lists before) → queue_in r ≡ Some k → talk_in r ≡ None
       → Ties number before after r
@@ -84,7 +84,7 @@ module _ (touch : Touch) (before after : QueuesOf) (keeps : KeepsQueues touch be
       beyond m = waits_in-same after.queues (changed_at (with_caller number) k before.queues) m (joined ∙ sym (lines-joined before.queues number k))
           ∙ waits_in-joined before.queues number k m within (ties.waits ∙ rests.0)
 
-  -- a channel is parked by its application
+  -- an application that makes the channel wait
   ties-parked : (number : ℕ) (p r : Phase) → Ties number before before p → Rests p → MayPark (length before.queues) r
       → waiting_lists after ≡ waiting_parked (waiting_lists before) number r → Ties number before after r
   ties-parked number p Ready ties rests may waits = absurd may

@@ -5,11 +5,11 @@ use dp_machine_fixture::{Ask, Exchange, answer_on, call, notes_of, push_called, 
 use std::alloc::Global;
 use std::test::Fail;
 
-/// What stands after the line of the application.
+/// The lines after that of the application.
 const BEHIND: &[u8] = b"\nexten => 100,2,NoOp()\nexten => 200,1,NoOp()\nexten => 200,3,Hangup()\n\
 [out]\nexten => 100,1,NoOp()\nexten => 200,5,NoOp()\n";
 
-/// An application at priority 1 of `100` in `main`, and what a call to it answers to two steps: `REPLY -> STATE ; REPLY -> STATE`.
+/// An application at priority 1 of `100` in `main`, and the answers of a call to it to two steps: `REPLY -> STATE ; REPLY -> STATE`.
 const ROWS: &str = r"
 # One part.
 Goto(2)→ran main,100,1 Goto -> ready main,100,2 ; ran main,100,2 NoOp -> ready main,100,3
@@ -45,13 +45,13 @@ Goto((200,1))→ran main,100,1 Goto -> ended main,100,1 ; refused 49 Ended -> en
 Goto(2-00,1)→ran main,100,1 Goto -> ready main,2-00,1 ; ran main,200,1 NoOp -> ready main,2-00,2
 Goto(--200-,3)→ran main,100,1 Goto -> ready main,--200-,3 ; ran main,200,3 Hangup -> ended main,--200-,3
 Goto(-,1)→ran main,100,1 Goto -> ready main,-,1 ; no entry -> ended main,-,1
-# Priorities that are numbers of a target.
+# Priorities that are numbers in a target.
 Goto(200,001)→ran main,100,1 Goto -> ready main,200,1 ; ran main,200,1 NoOp -> ready main,200,2
 Goto(000000000000000000000000000000000000002)→ran main,100,1 Goto -> ready main,100,2 ; ran main,100,2 NoOp -> ready main,100,3
 Goto(2147483647)→ran main,100,1 Goto -> ready main,100,2147483647 ; no entry -> ended main,100,2147483647
 Goto(2147483648)→ran main,100,1 Goto -> ready main,100,2147483648 ; no entry -> ended main,100,2147483648
 Goto(out,200,02147483648)→ran main,100,1 Goto -> ready out,200,2147483648 ; no entry -> ended out,200,2147483648
-# Arguments of `Goto` that are no target: the call hangs up where it stands.
+# Arguments of `Goto` that are not a target: the call hangs up at its place.
 # No priority.
 Goto→ran main,100,1 Goto -> ended main,100,1 ; refused 49 Ended -> ended main,100,1
 Goto()→ran main,100,1 Goto -> ended main,100,1 ; refused 49 Ended -> ended main,100,1
@@ -67,7 +67,7 @@ Goto(out,100,1,)→ran main,100,1 Goto -> ended main,100,1 ; refused 49 Ended ->
 Goto(out,100,1,x)→ran main,100,1 Goto -> ended main,100,1 ; refused 49 Ended -> ended main,100,1
 Goto(main,out,100,1)→ran main,100,1 Goto -> ended main,100,1 ; refused 49 Ended -> ended main,100,1
 Goto(a,b,c,d,1)→ran main,100,1 Goto -> ended main,100,1 ; refused 49 Ended -> ended main,100,1
-# Numbers that are none of a target.
+# Numbers that are not priorities of a target.
 Goto(0)→ran main,100,1 Goto -> ended main,100,1 ; refused 49 Ended -> ended main,100,1
 Goto(200,000)→ran main,100,1 Goto -> ended main,100,1 ; refused 49 Ended -> ended main,100,1
 Goto(2147483649)→ran main,100,1 Goto -> ended main,100,1 ; refused 49 Ended -> ended main,100,1
@@ -93,7 +93,7 @@ Hangup→ran main,100,1 Hangup -> ended main,100,1 ; refused 49 Ended -> ended m
 hangup()→ran main,100,1 hangup -> ended main,100,1 ; refused 49 Ended -> ended main,100,1
 HANGUP(16)→ran main,100,1 HANGUP -> ended main,100,1 ; refused 49 Ended -> ended main,100,1
 HangUp(2)→ran main,100,1 HangUp -> ended main,100,1 ; refused 49 Ended -> ended main,100,1
-# Devices that are called: the channel waits. With none it goes on.
+# Devices that are called: the channel waits. Without devices it goes on.
 Dial(Line/5,20)→ran main,100,1 Dial -> dialling main,100,1 ; refused 41 NotReady -> dialling main,100,1
 dIAL(200)→ran main,100,1 dIAL -> dialling main,100,1 ; refused 41 NotReady -> dialling main,100,1
 Dial→ran main,100,1 Dial -> ready main,100,2 ; ran main,100,2 NoOp -> ready main,100,3
@@ -107,7 +107,7 @@ No Op()→ran main,100,1 No Op -> ended main,100,1 ; refused 49 Ended -> ended m
 No→ran main,100,1 No -> ended main,100,1 ; refused 49 Ended -> ended main,100,1
 GotoX(200,1)→ran main,100,1 GotoX -> ended main,100,1 ; refused 49 Ended -> ended main,100,1
 Go to(200,1)→ran main,100,1 Go to -> ended main,100,1 ; refused 49 Ended -> ended main,100,1
-# A name that is no UTF-8 is printed with U+FFFD for each such byte.
+# A name that is not UTF-8 is printed with U+FFFD for each such byte.
 \xCE\xCF\xCF\xD0()→ran main,100,1 \xEF\xBF\xBD\xEF\xBF\xBD\xEF\xBF\xBD\xEF\xBF\xBD -> ended main,100,1 ; refused 49 Ended -> ended main,100,1
 ";
 
@@ -119,7 +119,7 @@ fn plan_with(alloc: Global, application: &[u8]) -> Result<Vec<u8>, NoMemory> {
     Ok(text)
 }
 
-/// What a call to `100` in `main` answers to two steps.
+/// The answers of a call to `100` in `main` to two steps.
 struct TwoSteps;
 
 impl Ask for TwoSteps {
@@ -143,7 +143,7 @@ fn check_no_notes(alloc: Global, text: &[u8]) -> Result<(), Fail> {
     }
 }
 
-/// What a call to an application answers to two steps, in a dialplan that has no notes.
+/// The answers of a call to an application to two steps, in a dialplan without notes.
 struct Applied;
 
 impl Question for Applied {

@@ -9,7 +9,7 @@ use dp_vars::{Globals, Store};
 use std::alloc::Global;
 use std::test::Fail;
 
-/// The names of applications with their arguments after a bar. The parts of a target stand between bars.
+/// The names of applications with their arguments after a bar. The parts of a target are between bars.
 const GOING: &str = r"
 # Those that go on and those that end the call.
 NoOp|→next
@@ -58,7 +58,7 @@ Macro|m→no such application
 |→no such application
 ";
 
-/// The parts of a target between bars, where there are at most three.
+/// The parts of a target between bars, if there are at most three.
 fn push_parts(out: &mut String, parts: &TargetParts) -> Result<(), NoMemory> {
     let Some((front, last)) = parts.apart() else {
         return out.push_str("by more than three parts");
@@ -95,7 +95,7 @@ fn push_move(out: &mut String, going: &Move) -> Result<(), NoMemory> {
     Ok(())
 }
 
-/// Where an application sends a channel that has nothing set, where nothing is shared.
+/// Where an application sends a channel that has nothing set, if nothing is shared.
 fn going_of(alloc: Global, name: &[u8], arguments: &[u8]) -> Result<Option<Move>, NoMemory> {
     let place = Place {
         context: Text::copy_of(alloc, b"main")?,

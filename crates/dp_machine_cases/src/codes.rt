@@ -1,4 +1,4 @@
-//! The numbers and the printed names of the refusals, and the names of what comes of a call to devices.
+//! The numbers and the printed names of the refusals, and the names of the results of a call to devices.
 use dp_case_tables::{check_same, push_bytes};
 use dp_machine::{DialStatus, NoMemory, Refusal};
 use std::alloc::Global;
@@ -46,7 +46,7 @@ const STATUSES: [DialStatus; 5] = [
     DialStatus::ChanUnavail,
 ];
 
-/// What comes of a call to devices, each with its name.
+/// The results of a call to devices, each with its name.
 const NAMES: &str = "Answer ANSWER
 Busy BUSY
 NoAnswer NOANSWER

@@ -1,12 +1,12 @@
-//! What `Dial` makes of its arguments, worked out by hand from the rules.
+//! The effect of `Dial` with its arguments, worked out by hand from the rules.
 use dp_case_tables::{Question, bytes_of, check};
 use dp_machine::{Event, NoMemory, Phase};
 use dp_machine_fixture::{Ask, Exchange, answer_on, call, push_state, push_value};
 use std::alloc::Global;
 use std::test::Fail;
 
-/// Arguments of `Dial` in a channel of which `DIALSTATUS` is `before`: how the channel waits after it or where it stands, and
-/// `DIALSTATUS` then; and after the `;` the same in a channel that runs its extension `h`.
+/// Arguments of `Dial` in a channel whose `DIALSTATUS` is `before`: how the channel then waits or where it is, and its `DIALSTATUS`; and
+/// after the `;` the same for a channel that runs its extension `h`.
 const ROWS: &str = r"
 # No devices: nothing is called, and the channel goes on, in `h` too.
 →ready main,100,3, CHANUNAVAIL ; ready main,h,2, CHANUNAVAIL
@@ -16,7 +16,7 @@ const ROWS: &str = r"
  , 20 , g→ready main,100,3, CHANUNAVAIL ; ready main,h,2, CHANUNAVAIL
 ,,,http://x→ready main,100,3, CHANUNAVAIL ; ready main,h,2, CHANUNAVAIL
 ${NONE}→ready main,100,3, CHANUNAVAIL ; ready main,h,2, CHANUNAVAIL
-# Devices, which nothing looks into: the channel waits, and in `h` it is hung up. Neither sets a variable.
+# Devices, which nothing looks into: the channel waits, and in `h` it is hung up. No variable is set.
 Line/5→dialling, before ; ended main,h,1, before
  Line/5 →dialling, before ; ended main,h,1, before
 Line/5&Line/6→dialling, before ; ended main,h,1, before
@@ -47,7 +47,7 @@ Line/5,,(g,)→dialling, before ; ended main,h,1, before
 Line/5,,G→dialling, before ; ended main,h,1, before
 Line/5,,t→dialling, before ; ended main,h,1, before
 Line/5,,→dialling, before ; ended main,h,1, before
-# It is an option in the third part alone, and what stands after that has no effect.
+# It is an option only in the third part, and what comes after that has no effect.
 Line/5,g→dialling timer, before ; ended main,h,1, before
 g→dialling, before ; ended main,h,1, before
 Line/5,,,g→dialling, before ; ended main,h,1, before
@@ -68,7 +68,7 @@ fn plan_of(alloc: Global, arguments: &[u8]) -> Result<Vec<u8>, NoMemory> {
     Ok(text)
 }
 
-/// How a channel waits for its call to devices, or its state where it does not.
+/// How a channel waits for its call to devices, or its state if it does not.
 fn push_wait(out: &mut String, machine: &Exchange, channel: u32) -> Result<(), NoMemory> {
     match machine.phase(channel) {
         Some(Phase::Dialling { goes_on, has_timer }) => {
@@ -80,7 +80,7 @@ fn push_wait(out: &mut String, machine: &Exchange, channel: u32) -> Result<(), N
     }
 }
 
-/// Takes a step of a channel, and adds how it waits then, and what it reads of its call.
+/// Takes a step of a channel, and adds how it then waits, and the status that it reads.
 fn push_dialled(
     out: &mut String,
     alloc: Global,
@@ -100,7 +100,7 @@ fn begin(alloc: Global, machine: &mut Exchange, channel: u32) -> Result<(), NoMe
     Ok(())
 }
 
-/// What becomes of two calls, of which the second is hung up first.
+/// The states of two calls, of which the second is hung up first.
 struct TwoCalls;
 
 impl Ask for TwoCalls {
@@ -116,7 +116,7 @@ impl Ask for TwoCalls {
     }
 }
 
-/// What `Dial` of these arguments makes of two calls.
+/// The effect of `Dial` with these arguments on two calls.
 struct Dialled;
 
 impl Question for Dialled {
@@ -127,7 +127,7 @@ impl Question for Dialled {
     }
 }
 
-/// `Dial` waits, goes on or hangs up, and sets its status only where it has no devices.
+/// `Dial` waits, goes on or hangs up, and sets its status only if it has no devices.
 #[test]
 fn dial_waits_goes_on_or_hangs_up(rt: HostRuntime) -> Result<(), Fail> {
     check::<Dialled>(rt.alloc(), ROWS)

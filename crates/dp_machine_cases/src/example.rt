@@ -45,7 +45,7 @@ fn call_to(alloc: Global, number: &str) -> Result<Event, NoMemory> {
     })
 }
 
-/// Gives the machine a call and two steps of it, and adds the replies and what the call waits for in the end.
+/// Gives the machine a call and two steps of it, and adds the replies and what the call finally waits for.
 fn push_call(
     out: &mut String,
     alloc: Global,
@@ -62,7 +62,7 @@ fn push_call(
     Ok(())
 }
 
-/// What a program prints that asks which entry answers 105, and lets a call to it run.
+/// The output of a program that asks which entry answers 105, and lets a call to it run.
 fn push_all(out: &mut String, alloc: Global) -> Result<(), Fail> {
     let (plan, _notes) = Dialplan::load(alloc, PLAN)?;
     push_answering(out, alloc, &plan, "105")?;

@@ -1,7 +1,7 @@
 //! Cases of machines: what happens in a dialplan, as stories and tables with their answers; of applications, of variables in their
-//! arguments, of a machine with another table of applications, and of what is unknown to a table.
+//! arguments, of a machine with another table of applications, and of what a table does not know.
 //!
-//! A crate with tests is proved twice, so the cases of the libraries stand in crates of their own, where each is proved once.
+//! A crate with tests is proved twice, so the cases of the libraries are in crates of their own, where each is proved once.
 #![tactic(auto)]
 
 #[cfg(test)]

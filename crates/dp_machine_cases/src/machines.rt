@@ -25,7 +25,7 @@ fn push_events(events: &mut Vec<Event>, lines: &[ScriptLine]) -> Result<(), NoMe
     Ok(())
 }
 
-/// The events of a script, where `reload` gives the empty dialplan.
+/// The events of a script, in which `reload` gives the empty dialplan.
 fn events_of(alloc: Global, script: &[u8]) -> Result<Vec<Event>, Fail> {
     let empty = b"".as_slice();
     let lines = read_script(alloc, Some(empty), script)?;
@@ -38,7 +38,7 @@ fn ran_entry(context: usize, entry: usize) -> Reply {
     Reply::Ran(EntryId { context, entry })
 }
 
-/// A machine that is new has its dialplan.
+/// A new machine has its dialplan.
 fn check_plan(machine: &Exchange) -> Result<(), Fail> {
     check_that(machine.plan().globals().len() == 1, "one global variable")?;
     match machine.plan().contexts() {
@@ -90,7 +90,7 @@ fn check_states(alloc: Global, machine: &Exchange, want: &str) -> Result<(), Fai
     check_same("the machine", &got, want)
 }
 
-/// The replies to the runs, after the one that is there before: to a run of no event there is none.
+/// The replies to the runs, after an existing one: a run without events has none.
 fn check_replies(replies: &[Reply]) -> Result<(), Fail> {
     let want = [
         Reply::NoEntry,
@@ -135,7 +135,7 @@ fn check_runs(alloc: Global, machine: &mut Exchange, replies: &mut Vec<Reply>) -
     check_states(alloc, machine, "ended out,t,1\nended out,t,1\nnone\n")
 }
 
-/// The replies stand after those that are there already, and the machine is the one after the last event.
+/// The replies come after the existing ones, and the machine is the one after the last event.
 struct Runs;
 
 impl Checked for Runs {
@@ -155,7 +155,7 @@ fn check_unchanged(alloc: Global, machine: &Exchange, before: &str) -> Result<()
     check_same("a refused event", &after, before)
 }
 
-/// Gives an event, and once more where memory is refused; then the channel is as before.
+/// Gives an event, and again if memory runs out; then the channel is as before.
 fn give_again(
     alloc: Global,
     machine: &mut Exchange,
@@ -169,7 +169,7 @@ fn give_again(
     Ok(())
 }
 
-/// Gives an event so, and adds the state after it.
+/// Gives an event in this way, and adds the state after it.
 fn push_given_again(
     out: &mut String,
     alloc: Global,
@@ -183,7 +183,7 @@ fn push_given_again(
     Ok(())
 }
 
-/// Where memory is refused the machine is as before, so that the event, given again, has its own reply.
+/// If memory runs out, the machine is as before, so the event, given again, has its own reply.
 struct GivenAgain;
 
 impl Checked for GivenAgain {
@@ -198,7 +198,7 @@ impl Checked for GivenAgain {
     }
 }
 
-/// Gives the events to the machine, and where memory is refused those again that have no reply yet.
+/// Gives the events to the machine, and if memory runs out again those without a reply.
 fn run_on(
     alloc: Global,
     machine: &mut Exchange,
@@ -229,7 +229,7 @@ fn check_a_run_goes_on(
     check_that(replies.as_slice() == want.as_slice(), "the replies")
 }
 
-/// Where memory is refused the replies say how far a run came, so that it goes on from there.
+/// If memory runs out, the replies say how far a run came, so it goes on from there.
 struct GoesOn;
 
 impl Checked for GoesOn {
@@ -295,7 +295,7 @@ fn check_again(alloc: Global) -> Result<(), Fail> {
     check_on::<GoesOn>(alloc, PLAN)
 }
 
-/// What goes on where memory is refused.
+/// What goes on after memory ran out.
 #[test]
 fn events_are_retried_after_no_memory(rt: HostRuntime) -> Result<(), Fail> {
     check_again(rt.alloc())

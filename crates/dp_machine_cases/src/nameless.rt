@@ -1,5 +1,5 @@
-//! Applications on a queue with a member of the empty name, worked out by hand from their pages in the Asterisk documentation's
-//! application reference. No file and no application makes such a member, so a call of the queues does.
+//! Applications on a queue that has a member with the empty name, worked out by hand from their pages in the Asterisk documentation's
+//! application reference. No file and no application makes such a member, so a function of the queues does.
 ghost use Rattle.std.specs.Prelude.{IfOk};
 ghost use Rattle.dp_queue.specs.Rest.{IsAtRest};
 
@@ -13,8 +13,8 @@ use std::test::Fail;
 /// The queue, with a member of the file.
 const QUEUE: &[u8] = b"[q]\nmember => Line/1\n";
 
-/// An application, and what a call to it reports, with the members of the queue after it: ` NAME` and ` paused`, each between
-/// pointed brackets.
+/// An application, and the report of a call to it, with the members of the queue after it: ` NAME` and ` paused`, each between pointed
+/// brackets.
 const ROWS: &str = r"
 # An empty interface names no member, in a queue and in all of them.
 PauseQueueMember(q,)→NOTFOUND < Line/1>< >
@@ -25,14 +25,14 @@ PauseQueueMember→NOTFOUND < Line/1>< >
 UnpauseQueueMember(q,)→NOTFOUND < Line/1>< >
 UnpauseQueueMember(,)→NOTFOUND < Line/1>< >
 UnpauseQueueMember→NOTFOUND < Line/1>< >
-# A member with a name is paused beside it.
+# A member with a name is paused even so.
 PauseQueueMember(,Line/1)→PAUSED < Line/1 paused>< >
-# Where members come and go, an empty interface is the channel's name.
+# When members are added or removed, an empty interface is the channel's name.
 AddQueueMember(q,)→ADDED < Line/1>< >< Channel/1>
 RemoveQueueMember(q,)→NOTINQUEUE < Line/1>< >
 ";
 
-/// The queue with one member more, whose name is empty, and which the queue's own calls find.
+/// The queue with one more member, whose name is empty, and which the functions of the queues find.
 fn queues_with_nameless(alloc: Global) -> Result<Queues, Fail>
     ensures rest { IfOk result IsAtRest }
 {
@@ -53,7 +53,7 @@ fn machine_with(alloc: Global, application: &[u8]) -> Result<Exchange, Fail> {
     Ok(machine)
 }
 
-/// What the applications report: one of them has run, so one of the variables has a value.
+/// The report of the applications: one of them has run, so one of the variables has a value.
 fn push_reports(out: &mut String, alloc: Global, machine: &Exchange) -> Result<(), NoMemory> {
     for name in ["AQMSTATUS", "RQMSTATUS", "PQMSTATUS", "UPQMSTATUS"] {
         push_value(out, alloc, machine, 1, name)?;
@@ -76,7 +76,7 @@ fn push_members(out: &mut String, queues: &Queues, queue: &Queue) -> Result<(), 
     Ok(())
 }
 
-/// What a call to the application reports, and the members of the queue after it.
+/// The report of a call to the application, and the members of the queue after it.
 fn push_run(out: &mut String, alloc: Global, machine: &mut Exchange) -> Result<(), NoMemory> {
     let call = call(alloc, b"main", b"s", b"")?;
     let _started = machine.apply(alloc, call)?;
@@ -89,7 +89,7 @@ fn push_run(out: &mut String, alloc: Global, machine: &mut Exchange) -> Result<(
     }
 }
 
-/// What becomes of the members of a queue of which one has the empty name.
+/// The members of a queue, one of which has the empty name, after an application.
 struct Members;
 
 impl Question for Members {
@@ -102,7 +102,7 @@ impl Question for Members {
     }
 }
 
-/// A member of the empty name is none that an application of pauses names.
+/// No application that pauses members names a member with the empty name.
 #[test]
 fn applications_never_name_a_nameless_member(rt: HostRuntime) -> Result<(), Fail> {
     check::<Members>(rt.alloc(), ROWS)

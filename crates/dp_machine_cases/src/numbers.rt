@@ -5,7 +5,7 @@ use dp_machine_fixture::{Checked, Exchange, call, check_on};
 use std::alloc::Global;
 use std::test::Fail;
 
-/// Whether a reply is the one that is wanted, to a step of a channel, or to a call for channel 0.
+/// Whether a reply is the expected one, to a step of a channel, or to a call for channel 0.
 fn check_reply(channel: u32, got: Reply, want: Reply) -> Result<(), Fail> {
     if got == want {
         return Ok(());
@@ -60,7 +60,7 @@ impl Checked for Spent {
     }
 }
 
-/// After 65,535 calls each further one is refused, also where calls have ended.
+/// After 65,535 calls each further one is refused, even if calls have ended.
 #[test]
 fn calls_are_refused_once_channel_numbers_are_spent(rt: HostRuntime) -> Result<(), Fail> {
     check_on::<Spent>(rt.alloc(), b"[main]\nexten => s,1,Hangup()\n")

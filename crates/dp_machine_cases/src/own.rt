@@ -1,4 +1,4 @@
-//! A machine over a table of applications of another maker.
+//! A machine over a table of applications by another author.
 use dp_case_tables::{check_same, push_bytes};
 use dp_machine::{Dialplan, Event, Machine, NoMemory, Queues};
 use dp_machine_fixture::call;
@@ -8,11 +8,11 @@ use std::test::Fail;
 
 type OwnMachine = Machine<OwnApps>;
 
-/// A dialplan that names both applications, one of them in another case, and one that the table has not.
+/// A dialplan that names both applications, one of them in another case, and one that the table does not have.
 const PLAN: &[u8] = b"[main]\nexten => s,1,Ping(7)\nexten => s,2,sTAY()\nexten => s,3,NoOp()\n";
 
-/// `Ping` sets `P` and goes on, `Stay` waits, and a step does not end the wait. A time-out ends it, and a name of the program's own
-/// table ends the call.
+/// `Ping` sets `P` and goes on, `Stay` waits, and a step does not end the wait. A time-out ends it, and a name that only the program's own
+/// table has ends the call.
 const STORY: &str = "\
 Started(1)
 Ran(EntryId { context: 0, entry: 0 })
@@ -53,7 +53,7 @@ fn push_waiting(out: &mut String, alloc: Global, machine: &OwnMachine) -> Result
     write!(out, ", {:?}\n", machine.phase(1))
 }
 
-/// A time-out with the priority after it, and one more step with the phase after it.
+/// A time-out and the next priority, and one more step and the phase after it.
 fn push_end(out: &mut String, alloc: Global, machine: &mut OwnMachine) -> Result<(), NoMemory> {
     push_applied(out, alloc, machine, Event::Timeout { channel: 1 })?;
     write!(out, "{:?}\n", machine.place(1).map(|place| place.priority))?;
@@ -73,13 +73,13 @@ fn own_machine(alloc: Global) -> Result<OwnMachine, Fail> {
     Ok(Machine::new(alloc, plan, Queues::none(alloc))?)
 }
 
-/// What becomes of a call in a machine over the table.
+/// The course of a call in a machine over the table.
 fn push_run(out: &mut String, alloc: Global) -> Result<(), Fail> {
     let mut machine = own_machine(alloc)?;
     push_story(out, alloc, &mut machine)
 }
 
-/// A table of two applications that the program has not.
+/// A table of two applications that the program does not have.
 #[test]
 fn a_machine_runs_another_table(rt: HostRuntime) -> Result<(), Fail> {
     let mut story = String::new(rt.alloc());

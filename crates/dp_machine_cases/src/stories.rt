@@ -15,7 +15,7 @@ main:100→started 1 -> ready main,100,1
 1→ran main,100,1 NoOp -> ready main,100,2
 1→ran main,100,2 Goto -> ready main,200,1
 1→ran main,200,1 Hangup -> ended main,200,1
-# Events of channels that are not there or are over.
+# Events of channels that do not exist or are over.
 plan [main]\nexten => s,1,Hangup()→0 notes
 0→refused 40 NoChannel -> none
 1→refused 40 NoChannel -> none
@@ -37,7 +37,7 @@ main:s→started 2 -> ready main,s,1
 1→no entry -> ended ,,1
 2→no entry -> ended main,s,1
 3→refused 40 NoChannel -> none
-# Contexts are found by their bytes, and the settings and the global variables are none.
+# Contexts are found by their bytes, and the settings and the global variables are not contexts.
 plan [general]\nexten => s,1,NoOp()\n[globals]\ns=1\n[main]\nexten => s,1,NoOp()→0 notes
 Main:s→started 1 -> ready Main,s,1
 general:s→started 2 -> ready general,s,1
@@ -81,7 +81,7 @@ main:X→started 6 -> ready main,X,1
 4→no entry -> ended main,100,1
 5→no entry -> ended main,5,1
 6→ran main,X,1 NoOp -> ready main,X,2
-# The next priority of another extension, or a later one of the same, does not stand in.
+# The next priority of another extension, or a later one of the same, does not take its place.
 plan [main]\nexten => 1,1,NoOp()\nexten => 2,2,NoOp()\nexten => 1,3,NoOp()\n[out]\nexten => 1,2,NoOp()→0 notes
 main:1→started 1 -> ready main,1,1
 1→ran main,1,1 NoOp -> ready main,1,2
@@ -90,7 +90,7 @@ main:1→started 1 -> ready main,1,1
 main:2→started 2 -> ready main,2,1
 2→no entry -> ended main,2,1
 2→refused 49 Ended -> ended main,2,1
-# After the greatest priority of an entry stands a place where no entry can be.
+# After the greatest priority of an entry there is a place where no entry can be.
 plan [main]\nexten => s,1,Goto(2147483647)\nexten => s,2147483647,NoOp()\nexten => t,1,Goto(s,2147483648)→0 notes
 main:s→started 1 -> ready main,s,1
 1→ran main,s,1 Goto -> ready main,s,2147483647
@@ -100,7 +100,7 @@ main:s→started 1 -> ready main,s,1
 main:t→started 2 -> ready main,t,1
 2→ran main,t,1 Goto -> ready main,s,2147483648
 2→no entry -> ended main,s,2147483648
-# Lines stand in any order, and over two sections of one context; of two lines of a place the first stands.
+# Lines may be in any order, and in two sections of one context; of two lines for a place the first counts.
 plan [main]\nexten => s,3,Hangup()\nexten => s,1,Goto(2)\nexten => s,1,Hangup()\n[out]\nexten => s,1,Hangup()\n[main]\nexten => s,2,noop(x)\nexten => s,3,NoOp()→2 notes
 main:s→started 1 -> ready main,s,1
 1→ran main,s,1 Goto -> ready main,s,2
@@ -109,7 +109,7 @@ main:s→started 1 -> ready main,s,1
 1→refused 49 Ended -> ended main,s,3
 out:s→started 2 -> ready out,s,1
 2→ran out,s,1 Hangup -> ended out,s,1
-# A call reads its own place, also where it is at the extension of another; its number is not given again.
+# A call reads its own place, even at the entry of another extension; its number is not used again.
 plan [a]\nexten => 1,1,NoOp()\nexten => 1,2,Goto(b,2,1)\n[b]\nexten => 2,1,NoOp()\nexten => 2,2,Goto(a,1,1)\nexten => 2,3,NoOp()→0 notes
 a:1→started 1 -> ready a,1,1
 1→ran a,1,1 NoOp -> ready a,1,2
@@ -128,7 +128,7 @@ a:1→started 4 -> ready a,1,1
 1→ran b,2,2 Goto -> ready a,1,1
 4→ran a,1,1 NoOp -> ready a,1,2
 2→ran b,2,2 Goto -> ready a,1,1
-# Where a context has no `h` and no `i`, a call that hangs up is over.
+# If a context has no `h` and no `i`, a call that hangs up is over.
 plan [main]\nexten => 1,1,Hangup()\nexten => 2,1,Macro()\nexten => 3,1,Goto(x)→0 notes
 main:1→started 1 -> ready main,1,1
 main:2→started 2 -> ready main,2,1
@@ -151,7 +151,7 @@ value 1 EXTEN→200
 value 1 PRIORITY→2
 1→no entry -> ended main,200,2
 value 1 EXTEN→200
-# A step is expanded in what its own call sees.
+# A step is expanded with what its own call sees.
 plan [main]\nexten => _X,1,Goto(${CHANNEL}-${EXTEN},1)→0 notes
 main:1→started 1 -> ready main,1,1
 main:2→started 2 -> ready main,2,1
@@ -159,14 +159,14 @@ main:2→started 2 -> ready main,2,1
 main:3→started 3 -> ready main,3,1
 1→ran main,_X,1 Goto -> ready main,Channel/1-1,1
 3→ran main,_X,1 Goto -> ready main,Channel/3-3,1
-# A machine that is new has no channel.
+# A new machine has no channel.
 plan [globals]\nN=1\n[main]\nexten => s,1,NoOp()\nexten => s,2,Goto(out,t,1)\n[out]\nexten => t,1,Hangup()→0 notes
 state 0→none
 state 1→none
 state 2→none
 state 65535→none
 state 4294967295→none
-# A channel is read by its number, and where it has ended it keeps its place.
+# A channel is read by its number, and keeps its place after its end.
 plan [globals]\nN=1\n[main]\nexten => s,1,NoOp()\nexten => s,2,Goto(out,t,1)\n[out]\nexten => t,1,Hangup()→0 notes
 main:s→started 1 -> ready main,s,1
 main:x→started 2 -> ready main,x,1
@@ -194,7 +194,7 @@ fn push_call(
     push_called(out, alloc, machine, call)
 }
 
-/// Adds what the machine answers to a call or a step.
+/// Adds the answer of the machine to a call or a step.
 fn push_event(
     out: &mut String,
     alloc: Global,
@@ -207,7 +207,7 @@ fn push_event(
     }
 }
 
-/// Adds what the machine answers to a line of a story.
+/// Adds the answer of the machine to a line of a story.
 fn push_line(
     out: &mut String,
     alloc: Global,
@@ -226,14 +226,14 @@ fn push_line(
     }
 }
 
-/// Holds what the machine answers to a line against what is wanted.
+/// Compares the answer of the machine to a line with the expected one.
 fn check_line(alloc: Global, machine: &mut Exchange, asked: &str, want: &str) -> Result<(), Fail> {
     let mut got = String::new(alloc);
     push_line(&mut got, alloc, machine, asked)?;
     check_same(asked, &got, want)
 }
 
-/// Checks each line of a story, up to the first with another answer. There is nothing more to say.
+/// Checks each line of a story, up to the first with another answer.
 struct InStory;
 
 impl Ask for InStory {
@@ -267,7 +267,7 @@ fn check_story(alloc: Global, plan: &str, lines: &str) -> Result<(), Fail> {
     check_lines(alloc, &text, notes, lines)
 }
 
-/// Checks each story. Before the first stands its heading.
+/// Checks each story. Before the first one comes its heading.
 fn check_stories(alloc: Global) -> Result<(), Fail> {
     for story in STORIES.split("\nplan ") {
         match story.split_once('\n') {

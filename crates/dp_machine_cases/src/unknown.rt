@@ -1,5 +1,5 @@
-//! What is unknown ahead of a channel, and what is set from outside, over a table of another maker and over the program's own. The
-//! answers are worked out by hand from the rules.
+//! What is unknown ahead of a channel, and what is set from outside, over a table by another author and over the program's own. The answers
+//! are worked out by hand from the rules.
 use dp_case_tables::{Question, check};
 use dp_machine_fixture::told_ahead;
 use dp_own_table::OwnApps;
@@ -7,15 +7,15 @@ use dp_table::StandardApps;
 use std::alloc::Global;
 use std::test::Fail;
 
-/// The cases of `told_ahead` over the table of another maker.
+/// The cases of `told_ahead` over the table by another author.
 const OWN: &str = r"
-# A cell is known once something wrote it, also the empty text.
+# A cell is known once something set it, even to the empty text.
 1,Ping(${BOX(a)})¦?→BOX(a)
 1,Ping(${BOX(a)})¦1 BOX(a)=5;?;step;$P→none, P=5
 1,Ping(${BOX(a)})¦1 BOX(a)=;?;step;$P→none, P=
 1,Ping(${BOX(a)})¦- BOX(a)=7;?;step;$P→none, P=7
 1,Ping(${BOX(a)})¦1 BOX(b)=5;?→BOX(a)
-# It is a variable of that very name, and a step that is taken all the same reads nothing.
+# It is a variable with that very name, and a step that is taken nevertheless reads nothing.
 1,Ping(${BOX(a)})¦?;step;$P→BOX(a), P=
 # A function that is never known, and one that is computed.
 1,Ping(${AWAY(1)})¦?→AWAY(1)
@@ -32,14 +32,14 @@ const OWN: &str = r"
 1,Ping(${LEN(${BOX(a)})})¦?→BOX(a)
 1,Ping($[${BOX(a)} + 1])¦?→BOX(a)
 1,Ping($[${BOX(a)} + 1])¦1 BOX(a)=4;?;step;$P→none, P=5
-# A name that is no call is known, and so is a function of the program, a plain text, and an opening without its end.
+# A name that is not a call is known, and so are a function of the program, a plain text, and an opening without an end.
 1,Ping(${NAME}${EXTEN})¦?;step;$P→none, P=s
 1,Ping(${LEN(abc)}${GLOBAL(x)}${NOSUCH(x)})¦?;step;$P→none, P=3
 1,Ping(plain)¦?→none
 1,Ping(${BOX(a)¦?→none
 # An application that the table lacks comes first.
 1,NoOp(${BOX(a)})¦?→application NoOp
-# A variable that is known where it was set.
+# A variable that is known if it was set.
 1,Ping(${STATUS}${BOX(a)})¦?→STATUS
 1,Ping(${STATUS:1:2})¦?;1 STATUS=abcd;?;step;$P→STATUS, none, P=bc
 1,Ping(${BOX(${STATUS})})¦?→STATUS
@@ -55,11 +55,11 @@ const OWN: &str = r"
 1,Ping(?${AWAY(1)})¦?→AWAY(1)
 1,Ping(??)¦?→none
 1,pING(x)¦?→none
-# Nothing is unknown where no entry would be run.
+# Nothing is unknown if no entry would be run.
 1,Stay()\n2,Ping(${BOX(a)})¦?;step;?;time;?→none, none, BOX(a)
 3,Ping(${BOX(a)})¦?→none
 1,NoOp()¦step;?→none
-# An expression that is not known, which comes after what stands inside of it, one that is `0`, and one that has its value.
+# An expression that is unknown, which comes after what is inside it, one that is `0`, and one that has its value.
 1,Ping($[?])¦?→$[?]
 1,Ping(a$[!]b$[1 + 2])¦?;step;$P→none, P=a0b3
 1,Ping($[${LEN()}]$[?]${BOX(a)})¦?→$[?]
@@ -68,9 +68,9 @@ const OWN: &str = r"
 1,Ping($[${BOX(a)}])¦1 BOX(a)=!;?;step;$P→none, P=0
 1,Ping($[${BOX(a)}])¦1 BOX(a)=4;?;step;$P→none, P=4
 1,Ping(${LEN($[?])})¦?→$[?]
-# A text in which the table reads other groups is not known itself.
+# A text in which the table reads other groups is itself unknown.
 1,Ping(${[})¦?→${[}
-# What a name is that is set is the table's to say: a global, the caller's number, nothing, a local where there is no frame, a variable.
+# The table says what a name sets: a global, the caller's number, nothing, a local without a frame, a variable.
 1,Ping(${GLOBAL(ALL)}${ALL})¦1 ALL=3;step;$P→P=33
 1,Ping(${CALLERID(num)})¦1 WHO=99;step;$P→P=99
 1,Ping(${NONE}.)¦1 NONE=5;step;$P→P=.
@@ -89,7 +89,7 @@ const STANDARD: &str = r"
 1,Set(P=${CALLERID(num)}${WHO})¦1 WHO=99;step;$P→P=99
 ";
 
-/// What is unknown over the table of another maker.
+/// What is unknown over the table by another author.
 struct OwnUnknown;
 
 impl Question for OwnUnknown {
@@ -107,7 +107,7 @@ impl Question for StandardUnknown {
     }
 }
 
-/// A table's functions are asked in the order of expansion, and what a name sets is theirs to say.
+/// A table's functions are asked in the order of expansion, and they say what a name sets.
 #[test]
 fn what_is_unknown_ahead_of_a_channel(rt: HostRuntime) -> Result<(), Fail> {
     check::<OwnUnknown>(rt.alloc(), OWN)?;

@@ -5,7 +5,7 @@ use dp_machine_fixture::{Ask, Exchange, answer_on, call, push_value, state_of};
 use std::alloc::Global;
 use std::test::Fail;
 
-/// A dialplan with the globals that stand between ` ; `, and with `Goto` of these arguments at `main`, `100`, 1.
+/// A dialplan with the globals that are separated by ` ; `, and with `Goto` of these arguments at `main`, `100`, 1.
 fn plan_of(alloc: Global, globals: &str, arguments: &str) -> Result<String, NoMemory> {
     let mut text = String::new(alloc);
     text.push_str("[globals]\n")?;
@@ -17,7 +17,7 @@ fn plan_of(alloc: Global, globals: &str, arguments: &str) -> Result<String, NoMe
     Ok(text)
 }
 
-/// What a machine with such a dialplan answers.
+/// The answer of a machine with such a dialplan.
 fn answer_with<A: Ask>(
     alloc: Global,
     globals: &str,
@@ -41,7 +41,7 @@ fn call_and_step(alloc: Global, machine: &mut Exchange) -> Result<(), NoMemory> 
     Ok(())
 }
 
-/// What stands before the last ` ; `, and what after it.
+/// The text before the last ` ; `, and the text after it.
 fn cut(asked: &str) -> (&str, &str) {
     asked.rsplit_once(" ; ").unwrap_or(("", asked))
 }
@@ -60,7 +60,7 @@ impl Ask for ValueOf {
     }
 }
 
-/// The value of a name in a channel, where globals stand before it: `NAME=VALUE ; .. ; CHANNEL NAME`.
+/// The value of a name in a channel, after globals: `NAME=VALUE ; .. ; CHANNEL NAME`.
 struct Valued;
 
 impl Question for Valued {
@@ -76,7 +76,7 @@ N=200 ; M=${N}1 ; 1 M→2001
 M=${N}1 ; N=200 ; 1 M→1
 M=${M}1 ; 1 M→1
 N=${LEN(abc)} ; M=$[${N} * 2] ; 1 M→6
-# One that stands twice is expanded in turn, and the second may read the first.
+# A name that occurs twice is expanded in turn, and the second value may read the first.
 N=1 ; N=${N}2 ; 1 N→12
 N=1 ; M=${N} ; N=2 ; 1 M→1
 N=1 ; M=${N} ; N=2 ; 1 N→2
@@ -85,7 +85,7 @@ N=${N}x ; N=${N}y ; N=${N}z ; 1 N→xyz
 A=$ ; B=${A}{N} ; N=1 ; 1 B→${N}
 A=$ ; B=${A}{N} ; N=1 ; C=${B} ; 1 C→${N}
 A=$ ; B=${A}[1 + 1] ; C=${LEN(${B})} ; 1 C→8
-# While they are expanded there is no channel.
+# Globals are expanded without a channel.
 E=<${EXTEN}${CONTEXT}${PRIORITY}${CHANNEL}${CALLERID(num)}${LOCAL(E)}> ; 1 E→<>
 E=${QUEUE_WAITING_COUNT(q)} ; 1 E→0
 EXTEN=x ; E=<${EXTEN}> ; 1 E→<>
@@ -98,7 +98,7 @@ EXTEN=x ; 1 EXTEN→100
 CONTEXT=x ; 1 CONTEXT→main
 PRIORITY=x ; 1 PRIORITY→1
 CHANNEL=x ; 1 CHANNEL→Channel/1
-# A name is read as it is, and a function is none.
+# A name is read as it is, and a function is not a name.
 LEN(x)=seven ; 1 LEN(x)→seven
 LEN(x)=seven ; E=${LEN(x)} ; 1 E→1
 LEN(x)=seven ; E=${GLOBAL(LEN(x))} ; 1 E→seven
@@ -108,7 +108,7 @@ n=1 ; 1 N→
 N=1 ; 1  N→
 N=1 ; 1 →
 =1 ; 1 →
-# No such name, and no such channel.
+# Neither such a name nor such a channel.
 N=1 ; 1 M→
 N=1 ; 0 N→
 N=1 ; 2 N→
@@ -116,7 +116,7 @@ N=1 ; 2 EXTEN→
 N=1 ; 4294967295 CHANNEL→
 ";
 
-/// The extension at which a call stands after its first step, which stands between `<` and `>`, without these two.
+/// The extension of a call after its first step, without the `<` and `>` around it.
 struct GoneTo;
 
 impl Ask for GoneTo {
@@ -138,7 +138,7 @@ fn goto_target(alloc: Global, globals: &str, text: &str) -> Result<String, Fail>
     answer_with::<GoneTo>(alloc, globals, &arguments, "")
 }
 
-/// What arguments are expanded to where globals stand before them: `NAME=VALUE ; .. ; ARGUMENTS`.
+/// The expansion of arguments, after globals: `NAME=VALUE ; .. ; ARGUMENTS`.
 struct Arguments;
 
 impl Question for Arguments {
@@ -190,7 +190,7 @@ ${len(x)}→
 ${ LEN(x)}→
 ${CALLERID( num)}→
 ${CALLERID(name)}→
-# Functions with no `)`, with something after it, and with a faulty cut.
+# Functions without a `)`, with something after it, and with a faulty cut.
 ${F(}→
 ${LEN(abc:1}→
 ${LEN(a)b}→1
@@ -235,7 +235,7 @@ impl Question for Went {
 }
 
 const TARGETS: &str = r"
-# Commas and parentheses of a value take part in the cutting.
+# Commas and parentheses of a value separate arguments too.
 T=200,1 ; ${T}→ready main,200,1
 T=out,200,5 ; ${T}→ready out,200,5
 T=,1 ; 200${T}→ready main,200,1
@@ -267,7 +267,7 @@ fn repeat_piece(alloc: Global, openings: usize, ends: usize) -> Result<String, N
     Ok(text)
 }
 
-/// The sizes of so many openings and ends where they are arguments, and where they are a global: `OPENINGS ENDS`.
+/// The sizes of this number of openings and ends as arguments, and as a global: `OPENINGS ENDS`.
 struct Nested;
 
 impl Question for Nested {
@@ -311,7 +311,7 @@ fn check_variables(alloc: Global) -> Result<(), Fail> {
     check::<Nested>(alloc, NESTING)
 }
 
-/// The values of names, what arguments are expanded to, where a `Goto` of such goes, and the limit of nesting.
+/// The values of names, the expansion of arguments, the place of a `Goto` with them, and the limit of nesting.
 #[test]
 fn variables_are_expanded(rt: HostRuntime) -> Result<(), Fail> {
     check_variables(rt.alloc())

@@ -1,4 +1,4 @@
-//! What is unknown ahead of a channel in a machine over some table, and what is set from outside.
+//! What is unknown ahead of a channel in a machine with some table, and what is set from outside.
 use crate::call;
 use dp_app::{AppTable, KnownTable};
 use dp_case_tables::{bytes_of, push_bytes};
@@ -50,7 +50,7 @@ fn set_event(alloc: Global, channel: &str, rest: &str) -> Result<Event, Fail> {
     })
 }
 
-/// The event of a word, or None where the word asks something.
+/// The event of a word, or None if the word is a question.
 fn event_of(alloc: Global, word: &str) -> Result<Option<Event>, Fail> {
     match word {
         "step" => Ok(Some(Event::Step { channel: 1 })),
@@ -62,7 +62,7 @@ fn event_of(alloc: Global, word: &str) -> Result<Option<Event>, Fail> {
     }
 }
 
-/// Adds the answer to a word that asks something.
+/// Adds the answer to a word that is a question.
 fn push_answer<T: KnownTable>(
     out: &mut String,
     alloc: Global,
@@ -116,7 +116,7 @@ fn push_line(text: &mut String, line: &str) -> Result<(), NoMemory> {
     text.push('\n')
 }
 
-/// The dialplan with these lines, of which one that begins with `[` or `exten` is itself, and any other is one of the extension `s`.
+/// The dialplan with these lines. A line that begins with `[` or `exten` is used as it is, and any other belongs to the extension `s`.
 fn plan_of(alloc: Global, lines: &str) -> Result<Dialplan, Fail> {
     let mut text = String::new(alloc);
     text.push_str("[main]\n")?;
@@ -135,9 +135,10 @@ fn told_on<T: KnownTable>(alloc: Global, lines: &str, words: &str) -> Result<Str
     Ok(out)
 }
 
-/// The answers of a case: the lines of the extension `s` in `main`, parted by `\n`, and after a `¦` what is done to the call there,
-/// parted by `;`. The words are `step`, `time` for the end of a time, `CHANNEL NAME=VALUE` for a name that is set, with `-` for no
-/// channel; `?` is answered by what is unknown ahead, and `$NAME` by the value of a name.
+/// The answers of a case: the lines of the extension `s` in `main`, separated by `
+/// `, and after a `¦` what happens to the call there, separated by `;`. The words are `step`, `time` for a time-out, and `CHANNEL
+/// NAME=VALUE` for a name that is set, with `-` for no channel. The answer to `?` is what is unknown ahead, and to `$NAME` the value of a
+/// name.
 pub fn told_ahead<T: KnownTable>(alloc: Global, asked: &str) -> Result<String, Fail> {
     let (lines, words) = asked.split_once('¦').ok_or("no words")?;
     let lines = bytes_of(alloc, lines)?;

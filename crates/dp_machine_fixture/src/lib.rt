@@ -1,9 +1,9 @@
-//! Machines that are asked and told things in cases, and what they answer, as text.
+//! Machines that cases give events and ask questions, and their answers as text.
 //!
-//! Each way out of a function that owns a machine is proved with the drop of all that a machine holds. So the functions that own one stand
-//! here alone, where they are proved once, and whoever asks or checks something takes it by reference.
+//! Each way out of a function that owns a machine is proved with the drop of everything in the machine. So only the functions here own one,
+//! and are proved once; whoever asks or checks something takes the machine by reference.
 //!
-//! This is for tests alone.
+//! This is only for tests.
 #![tactic(auto)]
 
 mod ahead;
@@ -18,26 +18,26 @@ use std::test::Fail;
 /// A machine with the applications of the program.
 pub type Exchange = Machine<StandardApps>;
 
-/// What is asked of a machine.
+/// A question to a machine.
 pub trait Ask {
-    /// The answer of a machine to what is asked, as text.
+    /// The answer of a machine to a question, as text.
     fn answer(alloc: Global, machine: &mut Exchange, asked: &str) -> Result<String, Fail>;
 }
 
-/// What is checked on a machine.
+/// A check of a machine.
 pub trait Checked {
     /// Whether the machine does what it should.
     fn check(alloc: Global, machine: &mut Exchange) -> Result<(), Fail>;
 }
 
-/// A machine with the dialplan of a text, and no queues.
+/// A machine with the dialplan of a text, without queues.
 fn machine_of(alloc: Global, text: &[u8]) -> Result<Exchange, Fail> {
     let (plan, _) = Dialplan::load(alloc, text)?;
     let machine = Exchange::new(alloc, plan, Queues::none(alloc))?;
     Ok(machine)
 }
 
-/// What a new machine with the dialplan of a text answers.
+/// The answer of a new machine with the dialplan of a text.
 pub fn answer_on<A: Ask>(alloc: Global, text: &[u8], asked: &str) -> Result<String, Fail> {
     let mut machine = machine_of(alloc, text)?;
     A::answer(alloc, &mut machine, asked)
@@ -49,13 +49,13 @@ pub fn check_on<C: Checked>(alloc: Global, text: &[u8]) -> Result<(), Fail> {
     C::check(alloc, &mut machine)
 }
 
-/// How many notes the dialplan of a text loads with.
+/// The number of notes with which the dialplan of a text loads.
 pub fn notes_of(alloc: Global, text: &[u8]) -> Result<usize, Fail> {
     let (_, notes) = Dialplan::load(alloc, text)?;
     Ok(notes.len())
 }
 
-/// A call to the extension of the context, of a caller with this number.
+/// A call to the extension of the context, from a caller with this number.
 pub fn call(alloc: Global, context: &[u8], exten: &[u8], caller: &[u8]) -> Result<Event, NoMemory> {
     let context = Text::copy_of(alloc, context)?;
     let exten = Text::copy_of(alloc, exten)?;
@@ -67,7 +67,7 @@ pub fn call(alloc: Global, context: &[u8], exten: &[u8], caller: &[u8]) -> Resul
     })
 }
 
-/// The entry of a number as `CONTEXT,NAME,PRIORITY APPLICATION`.
+/// The entry with a number, as `CONTEXT,NAME,PRIORITY APPLICATION`.
 fn push_entry(
     out: &mut String,
     alloc: Global,
@@ -159,7 +159,7 @@ fn push_answer(
     push_state(out, machine, channel)
 }
 
-/// The channel of which the state is shown after a call: none is numbered 0.
+/// The channel whose state is shown after an event: none has the number 0.
 fn channel_started(reply: Reply) -> u32 {
     match reply {
         Reply::Started(channel) => channel,
@@ -189,7 +189,7 @@ pub fn push_stepped(
     push_answer(out, alloc, machine, reply, channel)
 }
 
-/// The number of the channel that an event is about, or None where it is about none.
+/// The number of the channel that an event is about, or None if it is not about a channel.
 fn about(reply: Reply, named: u32) -> Option<u32> {
     match (reply, named) {
         (Reply::Started(channel), _) => Some(channel),
@@ -198,7 +198,7 @@ fn about(reply: Reply, named: u32) -> Option<u32> {
     }
 }
 
-/// Gives an event, and adds the reply and the state of its channel after it, or the reply alone where it is about no channel.
+/// Gives an event, and adds the reply and the state of its channel after it, or only the reply if it is not about a channel.
 pub fn push_given(
     out: &mut String,
     alloc: Global,
@@ -212,7 +212,7 @@ pub fn push_given(
     }
 }
 
-/// Adds the value of a name in a channel, in characters of the numbers of its bytes.
+/// Adds the value of a name in a channel, each byte as the character with its number.
 pub fn push_value(
     out: &mut String,
     alloc: Global,

@@ -1,1 +1,3 @@
 mod LoadingLemmas
+mod MacroLemmas
+mod PlainLemmas

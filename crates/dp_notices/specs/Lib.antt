@@ -1,6 +1,9 @@
 pub mod Checks
 pub mod LineNotices
 pub mod Loading
+pub mod MacroEnds
 pub mod Notices
 pub mod PlanFiles
+pub mod Preparation
 pub mod Printing
+pub mod TimedIncludes

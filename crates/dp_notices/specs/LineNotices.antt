@@ -1,4 +1,4 @@
--- The notices on each line of the files: each goes to its line, unless the line has one of its number and its name.
+-- The notices on each line of the files. Each goes to its line, unless the line already has one with the same number and name.
 use Rattle.std.specs.Prelude.{ℕ, Bool, true, false, ◌&&◌, ◌==◌, Option, Some, None, List, [], ◌∷◌, ◌++◌, length, map, filter, sum, fold, if◌then◌else◌}
 use Rattle.std.specs.List.{list_any}
 use Rattle.dp_conf.specs.Changes.{changed_at}
@@ -16,15 +16,15 @@ same_number None (Some n) = false
 same_number (Some m) None = false
 same_number (Some m) (Some n) = m == n
 
--- whether two notices have one number and one name
+-- whether two notices have the same number and the same name
 abbrev pub is_same : Notice → Notice → Bool
 is_same notice other = same_number (wording other).number (wording notice).number && same_text (wording other).name (wording notice).name
 
--- whether a notice of this number and this name is there
+-- whether there is a notice with the same number and the same name
 abbrev pub has_notice : Notice → List Notice → Bool
 has_notice notice notices = list_any (is_same notice) notices
 
--- with a notice, unless it is there
+-- the notices with one more, unless it is there already
 abbrev pub with_notice : Notice → List Notice → List Notice
 with_notice notice notices = if has_notice notice notices then notices else notices ++ notice ∷ []
 
@@ -44,7 +44,7 @@ after_notice lines notice = changed_at (noted notice.notice) notice.source lines
 abbrev pub after_notices : List NotedLine → List NoticeAt → List NotedLine
 after_notices lines notices = fold after_notice lines notices
 
--- the lines with the notices on each
+-- the lines, each with its notices
 abbrev pub noted_lines : List SourceLine → List NoticeAt → List NotedLine
 noted_lines lines notices = after_notices (map without_notices lines) notices
 

@@ -1,4 +1,4 @@
--- Lines that are loaded as a dialplan: each fault of the loader, the lines that load, and the notes on these.
+-- Loading lines as a dialplan: all faults of the loader, the lines that load, and the notes on these lines.
 use Rattle.std.specs.Prelude.{ℕ, ◌-◌, List, [], ◌∷◌, ◌++◌, length, map, sum, fold, Option, Some, None, slice_get, unwrap_or, Result, Ok, Err}
 use Rattle.std.specs.List.{flat_map}
 use Rattle.std.specs.Option.{option_to_list}
@@ -28,21 +28,21 @@ use Rattle.dp_plan.specs.declared.fault.Word.{Word}
 use Rattle.dp_plan.specs.declared.fault.Word.TheVariants.{IncludeTimes}
 use Rattle.dp_plan.specs.declared.note.Note.{Note}
 
--- a notice on the line of a number of the text
+-- a notice on the line of the text with a number
 abbrev pub numbered : ℕ → Notice → NumberedNotice
 numbered line notice = record { line = line; notice = notice }
 
--- an include with times is one for which no moment is given
+-- the fault of a line that is left out; for an include with times, it is that no moment is given
 abbrev pub left_out_fault : Word → NoticeFault
 left_out_fault IncludeTimes = Reading NoClock
 left_out_fault word = Plan (LeftOut word)
 
--- why a line is left out that the loader refuses
+-- why a line that the loader refuses is left out
 abbrev pub loader_fault : PlanKind → NoticeFault
 loader_fault (LeftOut word) = left_out_fault word
 loader_fault kind = Plan kind
 
--- the notice of a fault, where it is at a line
+-- the notice of a fault, if the fault is at a line
 abbrev pub fault_notice : LoadFault → Option NumberedNotice
 fault_notice (Conf (At line kind)) = Some (numbered line (fault_kind (Reading (Line kind))))
 fault_notice (Conf conf_no_memory) = None
@@ -54,7 +54,7 @@ fault_notice NoMemory = None
 abbrev pub fault_notices : LoadFault → List NumberedNotice
 fault_notices fault = option_to_list (fault_notice fault)
 
--- the notices of the faults of a text: of its lines, or of the text itself
+-- the notices of the faults of a text: the faults of its lines, or the fault of the text itself
 abbrev pub notices_of : Result (List LoadFault) LoadFault → List NumberedNotice
 notices_of (Ok faults) = flat_map fault_notices faults
 notices_of (Err fault) = fault_notices fault
@@ -63,16 +63,16 @@ notices_of (Err fault) = fault_notices fault
 abbrev pub faults_in_text : List ℕ → List NumberedNotice
 faults_in_text text = notices_of (faults_of text)
 
--- a notice on a line, at the line that it is made of
+-- a notice on a line, put at the line of a file from which it is made
 abbrev pub at_source : Notice → Option MadeLine → List NoticeAt
 at_source notice None = []
 at_source notice (Some line) = record { source = line.source; notice = notice } ∷ []
 
--- a notice on the line of a number, at the line that this is made of
+-- a notice on the line with a number, put at the line of a file from which it is made
 abbrev pub notice_at_source : List MadeLine → NumberedNotice → List NoticeAt
 notice_at_source lines notice = at_source notice.notice (slice_get lines (notice.line - 1))
 
--- a note of the loader, likewise
+-- the same for a note of the loader
 abbrev pub note_at_source : List MadeLine → Note → List NoticeAt
 note_at_source lines note = notice_at_source lines (numbered note.line (Loaded note.kind))
 
@@ -80,15 +80,15 @@ note_at_source lines note = notice_at_source lines (numbered note.line (Loaded n
 abbrev pub without_text : MadeLine → MadeLine
 without_text line = record { source = line.source; text = [] }
 
--- the line at a place is empty
+-- the line at a place is made empty
 abbrev pub emptied_at : ℕ → List MadeLine → List MadeLine
 emptied_at place lines = changed_at without_text place lines
 
--- the lines without those that have these faults
+-- each line with one of these faults is made empty
 abbrev pub without_faulty : List NumberedNotice → List MadeLine → List MadeLine
 without_faulty faults lines = fold (λ lines (fault : NumberedNotice). emptied_at (fault.line - 1) lines) lines faults
 
--- how many entries the contexts have, all together
+-- how many entries the contexts have in total
 abbrev pub entries_in : List PlanContext → ℕ
 entries_in contexts = sum (map (λ context. length context.entries) contexts)
 
@@ -101,30 +101,30 @@ pub record LoadingOf : Type 0 where
   pub counts : PlanCounts
   pub notes : List Note
 
--- of no dialplan
+-- the counts and notes of no dialplan
 abbrev pub nothing_loaded : LoadingOf
 nothing_loaded = record { counts = record { contexts = 0; entries = 0 }; notes = [] }
 
--- what a text loads as, where it does
+-- what a text loads as, if it does
 abbrev pub loading_in : Result (PlanOf × List Note) LoadFault → Option LoadingOf
 loading_in (Ok read) = Some (record { counts = counts_of read.0; notes = read.1 })
 loading_in (Err fault) = None
 
--- what a text loads as
+-- what a text loads as, or an empty dialplan if it does not load
 abbrev pub loading_of : Result (PlanOf × List Note) LoadFault → LoadingOf
 loading_of read = unwrap_or (loading_in read) nothing_loaded
 
--- what a call gave
+-- the result of a call
 abbrev pub loading_now : Loading → LoadingOf
 loading_now loading = record { counts = loading.counts; notes = loading.notes.items }
 
--- the lines that load, the notices on the lines that they are made of, and the counts of the dialplan
+-- the lines that load, the notices at the lines of files from which they are made, and the counts of the dialplan
 pub record LoadedOf : Type 0 where
   pub lines : List MadeLine
   pub notices : List NoticeAt
   pub counts : PlanCounts
 
--- by the faults, the lines without the faulty ones, and what these load as
+-- the same, given the lines, their faults, and what the lines without the faulty ones load as
 abbrev pub loaded_by : List MadeLine → List NumberedNotice → LoadingOf → LoadedOf
 loaded_by lines faults loading = record {
   lines = without_faulty faults lines;
@@ -138,6 +138,6 @@ loaded_lines lines =
     loaded_by lines (faults_in_text (text_of lines))
     (loading_of (plan_and_notes (text_of (without_faulty (faults_in_text (text_of lines)) lines))))
 
--- what a call gave
+-- the result of a call
 abbrev pub loaded_now : LoadedLines → LoadedOf
 loaded_now loaded = record { lines = loaded.lines.items; notices = loaded.notices.items; counts = loaded.counts }

@@ -9,19 +9,17 @@ use Rattle.dp_files.specs.declared.remark.Note.TheVariants.{OpenComment, Exec, A
 use Rattle.dp_files.specs.declared.remark.RemarkKind.{RemarkKind}
 use Rattle.dp_files.specs.declared.remark.RemarkKind.TheVariants.{Note as note_kind, Fault as fault_kind}
 use Rattle.dp_pattern.specs.Codes.{name_code, fault_name}
-use Rattle.dp_pattern.specs.declared.fault.NameFault.{NameFault}
 use Rattle.dp_plan.specs.Codes.{note_name, plan_code, plan_name}
 use Rattle.dp_plan.specs.declared.fault.PlanKind.{PlanKind}
 use Rattle.dp_plan.specs.declared.fault.PlanKind.TheVariants.{LeftOut}
 use Rattle.dp_plan.specs.declared.fault.Word.{Word}
 use Rattle.dp_plan.specs.declared.fault.Word.TheVariants.{Switch, IgnorePat, CallerId, IncludeTimes, Variable, Hint, OldForm, PriorityWord}
-use Rattle.dp_plan.specs.declared.note.NoteKind.{NoteKind}
 use Rattle.dp_notices.specs.declared.notice.NoticeFault.{NoticeFault}
 use Rattle.dp_notices.specs.declared.notice.NoticeFault.TheVariants.{Reading, Name, Plan}
 use Rattle.dp_notices.specs.declared.notice.Notice.{Notice}
 use Rattle.dp_notices.specs.declared.notice.Notice.TheVariants.{Read, Loaded, Fault as fault_notice}
 
--- the name of a note of what reads the files
+-- the name of a note of the file reader
 abbrev pub reading_note_name : Note → List ℕ
 reading_note_name OpenComment = codes "OpenComment"
 reading_note_name Exec = codes "Exec"
@@ -33,24 +31,24 @@ reading_note_name switch_note = codes "Switch"
 reading_note_name AutoFallThrough = codes "AutoFallThrough"
 reading_note_name caller_note = codes "CallerId"
 
--- the number and the name that are printed of a fault: some faults of what reads the files have no number
+-- the number and the name with which a notice is printed; some faults of the file reader have no number
 pub record Wording : Type 0 where
   pub number : Option ℕ
   pub name : List ℕ
 
--- of a fault with a number
+-- the wording of a fault with a number
 abbrev pub numbered : ℕ → List ℕ → Wording
 numbered number name = record { number = Some number; name = name }
 
--- of a note, or of a fault without a number
+-- the wording of a note, or of a fault without a number
 abbrev pub named : List ℕ → Wording
 named name = record { number = None; name = name }
 
--- of a line that is none of a configuration file
+-- the wording of a line that is not valid in a configuration file
 abbrev pub line_wording : LineKind → Wording
 line_wording kind = numbered (line_code kind) (line_name kind)
 
--- the name of what this program leaves out, with its kind
+-- the name of the fault `LeftOut`, with the kind of what this program leaves out
 abbrev pub left_out_name : Word → List ℕ
 left_out_name Switch = codes "LeftOut Switch"
 left_out_name IgnorePat = codes "LeftOut IgnorePat"
@@ -66,7 +64,7 @@ abbrev pub loader_name : PlanKind → List ℕ
 loader_name (LeftOut word) = left_out_name word
 loader_name kind = plan_name kind
 
--- of what reads the files
+-- the wording of a fault of the file reader
 abbrev pub reading_wording : Fault → Wording
 reading_wording IncludeDepth = named (codes "IncludeDepth")
 reading_wording NotFound = numbered 7 (codes "ReadFailed")
@@ -75,25 +73,25 @@ reading_wording (Line kind) = line_wording kind
 reading_wording old_form = named (codes "OldForm")
 reading_wording NoClock = named (codes "NoClock")
 
--- of a fault
+-- the wording of a fault
 abbrev pub fault_wording : NoticeFault → Wording
 fault_wording (Reading fault) = reading_wording fault
 fault_wording (Name fault) = numbered (name_code fault) (fault_name fault)
 fault_wording (Plan kind) = numbered (plan_code kind) (loader_name kind)
 
--- of a notice; a note has no number
+-- the wording of a notice; a note has no number
 abbrev pub wording : Notice → Wording
 wording (Read note) = named (reading_note_name note)
 wording (Loaded kind) = named (note_name kind)
 wording (fault_notice fault) = fault_wording fault
 
--- whether it is a fault
+-- whether a notice is a fault
 abbrev pub is_fault : Notice → Bool
 is_fault (Read note) = false
 is_fault (Loaded kind) = false
 is_fault (fault_notice fault) = true
 
--- the notice of a remark of what reads the files
+-- the notice of a remark of the file reader
 abbrev pub of_reading : RemarkKind → Notice
 of_reading (note_kind note) = Read note
 of_reading (fault_kind fault) = fault_notice (Reading fault)

@@ -1,5 +1,5 @@
 -- A dialplan that is read from files, with the notices on their lines.
-use Rattle.std.specs.Prelude.{ℕ, List, ◌++◌, map, Result, Ok}
+use Rattle.std.specs.Prelude.{ℕ, List, ◌++◌, map, Option, Result, Ok}
 use Rattle.dp_conf.specs.Answers.{◌>>=◌}
 use Rattle.dp_files.specs.Dialplan.{DialplanOf, dialplan_of}
 use Rattle.dp_files.specs.Sources.{Files}
@@ -10,23 +10,25 @@ use Rattle.dp_files.specs.declared.source_line.SourceFile.{SourceFile}
 use Rattle.dp_notices.specs.LineNotices.{noted_lines}
 use Rattle.dp_notices.specs.Loading.{LoadedOf, loaded_lines}
 use Rattle.dp_notices.specs.Notices.{of_reading}
+use Rattle.dp_notices.specs.Preparation.{prepared_lines}
 use Rattle.dp_notices.specs.declared.line_notices.NotedLine.{NotedLine}
 use Rattle.dp_notices.specs.declared.line_notices.NoticeAt.{NoticeAt}
 use Rattle.dp_notices.specs.declared.loading.PlanCounts.{PlanCounts}
 use Rattle.dp_notices.specs.declared.plan_files.PlanFiles.{PlanFiles}
+use Rattle.dp_wide.specs.declared.times.Moment.{Moment}
 
--- the files, their lines with the notices on each, the lines that load, and what they load as
+-- the files, their lines with the notices on each, the lines that load, and the counts of the dialplan that they load as
 pub record PlanFilesOf : Type 0 where
   pub files : List SourceFile
   pub lines : List NotedLine
   pub made : List MadeLine
   pub counts : PlanCounts
 
--- the notice of a remark of what reads the files
+-- the notice of a remark of the file reader
 abbrev pub reading_notice : Remark → NoticeAt
 reading_notice remark = record { source = remark.source; notice = of_reading remark.kind }
 
--- what was read, by what its lines load as
+-- the dialplan of files that were read, given what their lines load as
 abbrev pub plan_with : DialplanOf → LoadedOf → PlanFilesOf
 plan_with read loaded = record {
   files = read.files;
@@ -35,15 +37,15 @@ plan_with read loaded = record {
   counts = loaded.counts;
 }
 
--- a dialplan of files that were read
-abbrev pub plan_by : DialplanOf → PlanFilesOf
-plan_by read = plan_with read (loaded_lines read.made)
+-- the dialplan of files that were read, at a moment if one is given
+abbrev pub plan_by : Option Moment → DialplanOf → PlanFilesOf
+plan_by clock read = plan_with read (loaded_lines (prepared_lines clock read.made))
 
--- the dialplan of the file of this name
-abbrev pub plan_of : Files → List ℕ → Result PlanFilesOf ReadingFault
-plan_of files name = dialplan_of files name >>= λ read. Ok (plan_by read)
+-- the dialplan of the file with this name
+abbrev pub plan_of : Option Moment → Files → List ℕ → Result PlanFilesOf ReadingFault
+plan_of clock files name = dialplan_of files name >>= λ read. Ok (plan_by clock read)
 
--- what a call gave
+-- the result of a call
 abbrev pub plan_now : PlanFiles → PlanFilesOf
 plan_now plan = record {
   files = plan.files.items;

@@ -1,4 +1,4 @@
--- The lines that are printed of notices, in the order of the lines that they are on.
+-- The printed lines of notices, in the order of the lines that they are on.
 use Rattle.std.specs.Prelude.{ℕ, Bool, true, false, ◌||◌, List, [], ◌++◌, Option, Some, None, slice_get, codes, decimal, if◌then◌else◌}
 use Rattle.std.specs.List.{flat_map}
 use Rattle.std.specs.Option.{option_map_or}
@@ -21,32 +21,32 @@ use Rattle.dp_notices.specs.declared.notice.NoticeFault.TheVariants.{Reading, Na
 use Rattle.dp_notices.specs.declared.printing.Shown.{Shown}
 use Rattle.dp_notices.specs.declared.printing.Shown.TheVariants.{All, Faults, Unfollowed}
 
--- the name of the file of a number
+-- the name of the file with a number
 abbrev pub file_name : List SourceFile → ℕ → List ℕ
 file_name files number = option_map_or (λ file. file.name) (slice_get files number) []
 
--- the path at which it is opened, by that of the first file
+-- the path at which a file is opened, given the path of the first file
 abbrev pub file_path : List SourceFile → ℕ → List ℕ
 file_path files number = path_of (file_name files 0) (file_name files number)
 
--- where a line stands, `FILE:LINE: `
+-- the place of a line, `FILE:LINE: `
 abbrev pub place_text : List ℕ → ℕ → List ℕ
 place_text file line = file ++ codes ":" ++ decimal line ++ codes ": "
 
--- a number and a blank, where there is a number
+-- a number and a blank, if there is a number
 abbrev pub number_text : Option ℕ → List ℕ
 number_text None = []
 number_text (Some number) = decimal number ++ codes " "
 
--- the word before a notice
+-- the word with which a printed notice begins
 abbrev pub first_word : Notice → List ℕ
 first_word notice = if is_fault notice then codes "fault " else codes "note "
 
--- what is printed of a notice: `note KIND`, `fault CODE NAME`, or `fault NAME` of a fault without a number
+-- the printed words of a notice: `note KIND`, `fault CODE NAME`, or `fault NAME` if the fault has no number
 abbrev pub notice_text : Notice → List ℕ
 notice_text notice = first_word notice ++ number_text (wording notice).number ++ (wording notice).name
 
--- whether a fault is that a file is not there
+-- whether a fault of the file reader says that a file is not there
 abbrev pub is_not_found : Fault → Bool
 is_not_found IncludeDepth = false
 is_not_found NotFound = true
@@ -55,13 +55,13 @@ is_not_found (Line kind) = false
 is_not_found OldForm = false
 is_not_found NoClock = false
 
--- the same of any fault
+-- the same for any fault
 abbrev pub is_missing_fault : NoticeFault → Bool
 is_missing_fault (Reading fault) = is_not_found fault
 is_missing_fault (Name fault) = false
 is_missing_fault (Plan kind) = false
 
--- whether a notice is that a file is not there
+-- whether a notice says that a file is not there
 abbrev pub is_missing_file : Notice → Bool
 is_missing_file (Read note) = false
 is_missing_file (Loaded kind) = false
@@ -71,19 +71,19 @@ is_missing_file (fault_notice fault) = is_missing_fault fault
 abbrev pub name_behind : List ℕ → List ℕ
 name_behind text = codes " " ++ included_name (directive_of (content_of text))
 
--- the same where the notice is that the file is not there
+-- the same, if the notice says that the file is not there
 abbrev pub missing_name : List ℕ → Notice → List ℕ
 missing_name text notice = if is_missing_file notice then name_behind text else []
 
--- the line of a notice: behind a file that is not there stands its name
+-- the printed line of a notice; if it says that a file is not there, the name of the file follows
 abbrev pub notice_line : List ℕ → SourceLine → Notice → List ℕ
 notice_line file line notice =
     place_text file line.line ++ notice_text notice ++ missing_name line.text notice ++ codes "\n"
 
--- whether a note is on what is left out although calls may depend on it
+-- whether a note is on a line that is left out although calls may depend on it
 abbrev pub is_unfollowed_note : Note → Bool
 is_unfollowed_note OpenComment = false
-is_unfollowed_note Exec = false
+is_unfollowed_note Exec = true
 is_unfollowed_note AfterHint = false
 is_unfollowed_note DoubleLabel = false
 is_unfollowed_note Hint = false
@@ -92,7 +92,7 @@ is_unfollowed_note Switch = true
 is_unfollowed_note AutoFallThrough = true
 is_unfollowed_note CallerId = true
 
--- the same of a notice
+-- the same for a notice
 abbrev pub is_unfollowed : Notice → Bool
 is_unfollowed (Read note) = is_unfollowed_note note
 is_unfollowed (Loaded kind) = false
@@ -104,15 +104,15 @@ is_shown All notice = true
 is_shown Faults notice = is_fault notice
 is_shown Unfollowed notice = is_fault notice || is_unfollowed notice
 
--- the lines of the notices on a line that are printed
+-- the printed lines of the notices on a line, without those that are not shown
 abbrev pub notice_lines : Shown → List ℕ → SourceLine → List Notice → List ℕ
 notice_lines shown file line notices =
     flat_map (λ notice. if is_shown shown notice then notice_line file line notice else []) notices
 
--- the same of a line of some files
+-- the same for a line of some files
 abbrev pub noted_text : Shown → List SourceFile → NotedLine → List ℕ
 noted_text shown files noted = notice_lines shown (file_path files noted.line.file) noted.line noted.notices
 
--- those of all lines
+-- the same for all lines
 unfoldable pub notices_text : Shown → PlanFilesOf → List ℕ
 notices_text shown plan = flat_map (noted_text shown plan.files) plan.lines

@@ -1,4 +1,4 @@
-//! What is reported of a dialplan that is read from files.
+//! The report on a dialplan that is read from files.
 ghost use Rattle.std.specs.Prelude.{◌≡◌, ◌++◌, IfOk, OnOk};
 ghost use Rattle.dp_notices.specs.Checks as spec;
 ghost use Rattle.dp_notices.specs.PlanFiles.{plan_now};
@@ -11,7 +11,7 @@ use dp_conf::NoMemory;
 use itoa::Buffer;
 use std::alloc::Global;
 
-/// What is reported of a dialplan.
+/// The report on a dialplan.
 #[derive(Drop)]
 pub struct CheckReport {
     pub text: Vec<u8>,
@@ -19,7 +19,7 @@ pub struct CheckReport {
     pub faults: u128,
 }
 
-/// Adds the line that a dialplan loads.
+/// Adds the line of a dialplan that loads, `ok C contexts E entries`.
 fn push_counts(out: &mut Vec<u8>, counts: PlanCounts) -> Result<(), NoMemory>
     ensures { OnOk result (out.new.items ≡ out.old.items ++ spec.counts_line counts) }
 {
@@ -32,7 +32,7 @@ fn push_counts(out: &mut Vec<u8>, counts: PlanCounts) -> Result<(), NoMemory>
     Ok(())
 }
 
-/// Adds the line that there are so many faults.
+/// Adds the line of a dialplan with faults, `N faults`.
 fn push_faults(out: &mut Vec<u8>, faults: u128) -> Result<(), NoMemory>
     ensures { OnOk result (out.new.items ≡ out.old.items ++ spec.faults_line faults) }
 {
@@ -42,7 +42,7 @@ fn push_faults(out: &mut Vec<u8>, faults: u128) -> Result<(), NoMemory>
     Ok(())
 }
 
-/// Adds the last line: the counts, or how many faults there are.
+/// Adds the last line: the counts, or the number of faults if there are any.
 fn push_last(out: &mut Vec<u8>, counts: PlanCounts, faults: u128) -> Result<(), NoMemory>
     ensures { OnOk result (out.new.items ≡ out.old.items ++ spec.last_line counts faults) }
 {
@@ -53,8 +53,8 @@ fn push_last(out: &mut Vec<u8>, counts: PlanCounts, faults: u128) -> Result<(), 
     }
 }
 
-/// What is reported of a dialplan that is read from files: the lines of all its notices, and then `ok C contexts E entries`, or
-/// `N faults` where it has any. The error comes only where a growth was refused.
+/// Reports on a dialplan that is read from files. The report has the lines of all its notices, and then `ok C contexts E entries`, or
+/// `N faults` if there are any. The error comes only if a growth was refused.
 #[tactic(auto, unfolding(crate::specs::Checks::check_text))]
 pub fn check_plan(alloc: Global, plan: &PlanFiles) -> Result<CheckReport, NoMemory>
     ensures text { IfOk result (λ report. report.text.items ≡ spec.check_text (plan_now plan.now)) }

@@ -1,18 +1,23 @@
-//! Notices on the lines of a dialplan's files: notes and faults of what reads the files and of the loader, each at the line of the file
-//! that it is about.
+//! Notices on the lines of a dialplan's files: the notes and faults of the file reader and of the loader, each at the line of the file that
+//! it is about.
 #![tactic(auto)]
 
 mod check;
 mod line_notices;
 mod loading;
+mod macro_ends;
 mod notice;
 mod plan_files;
+mod preparation;
 mod printing;
+mod timed_includes;
 
 pub use check::{CheckReport, check_plan};
 pub use dp_conf::NoMemory;
+pub use dp_wide::{Moment, read_moment};
 pub use line_notices::{LineNotices, NotedLine, NoticeAt};
 pub use loading::PlanCounts;
 pub use notice::{Notice, NoticeFault};
 pub use plan_files::{PlanFiles, read_folder_plan, read_plan};
+pub use preparation::show_plain_lines_stand;
 pub use printing::{Shown, print_notices};

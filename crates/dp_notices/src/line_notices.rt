@@ -8,14 +8,14 @@ use dp_files::SourceLine;
 use std::alloc::Global;
 use std::marker::Model;
 
-/// A notice on the line at a place among the lines of all files.
+/// A notice, and the place of its line among the lines of all files.
 #[derive(Clone, Copy, Debug, PartialEq, Eq)]
 pub struct NoticeAt {
     pub source: usize,
     pub notice: Notice,
 }
 
-/// Whether two notices have one number and one name.
+/// Whether two notices have the same number and the same name.
 fn is_same(notice: Notice, other: Notice) -> bool
     ensures { result ≡ spec.is_same notice other }
 {
@@ -33,7 +33,7 @@ fn same_number(a: Option<u8>, b: Option<u8>) -> bool
     }
 }
 
-/// The notices on one line, each once.
+/// The notices on one line. None of them is there twice.
 #[derive(Drop)]
 pub struct LineNotices {
     notices: Vec<Notice>,
@@ -53,7 +53,7 @@ impl LineNotices {
     ghost use Rattle.dp_notices.specs.LineNotices as spec;
     ghost use Rattle.dp_notices.specs.Notices.{is_fault};
 
-    /// None. It never allocates.
+    /// Makes an empty list. It never allocates.
     fn new(alloc: Global) -> Self
         ensures { result ≡ [] }
     {
@@ -69,14 +69,14 @@ impl LineNotices {
         self.notices.as_slice()
     }
 
-    /// Whether a notice of this number and this name is there.
+    /// Whether there is a notice with the same number and the same name.
     fn has(&self, notice: Notice) -> bool
         ensures { result ≡ spec.has_notice notice self.now }
     {
         self.notices.iter().any(|other| is_same(notice, *other))
     }
 
-    /// Adds a notice, unless it is there.
+    /// Adds a notice, unless it is there already.
     fn add(&mut self, notice: Notice) -> Result<(), NoMemory>
         ensures { OnOk result (self.new ≡ spec.with_notice notice self.old) }
     {
@@ -104,7 +104,7 @@ pub struct NotedLine {
     pub notices: LineNotices,
 }
 
-/// Lines without a notice.
+/// Gives each line an empty list of notices.
 fn without_notices(alloc: Global, lines: Vec<SourceLine>) -> Result<Vec<NotedLine>, NoMemory>
     ensures { IfOk result (λ noted. noted.items ≡ map spec.without_notices lines.items) }
 {
@@ -118,7 +118,7 @@ fn without_notices(alloc: Global, lines: Vec<SourceLine>) -> Result<Vec<NotedLin
     Ok(noted)
 }
 
-/// Adds a notice to the line that it is on.
+/// Adds a notice to its line.
 fn add_notice(lines: &mut Vec<NotedLine>, notice: NoticeAt) -> Result<(), NoMemory>
     ensures { OnOk result (lines.new.items ≡ spec.after_notice lines.old.items notice) }
 {
@@ -128,7 +128,7 @@ fn add_notice(lines: &mut Vec<NotedLine>, notice: NoticeAt) -> Result<(), NoMemo
     Ok(())
 }
 
-/// Adds notices to the lines that they are on.
+/// Adds notices to their lines.
 fn add_notices(lines: &mut Vec<NotedLine>, notices: &[NoticeAt]) -> Result<(), NoMemory>
     ensures { OnOk result (lines.new.items ≡ spec.after_notices lines.old.items notices.now) }
 {
@@ -138,7 +138,7 @@ fn add_notices(lines: &mut Vec<NotedLine>, notices: &[NoticeAt]) -> Result<(), N
     Ok(())
 }
 
-/// The lines with the notices on each.
+/// The lines, each with its notices.
 pub(crate) fn noted_lines(
     alloc: Global,
     lines: Vec<SourceLine>,
@@ -151,7 +151,7 @@ pub(crate) fn noted_lines(
     Ok(noted)
 }
 
-/// How many faults there are. No list is longer than a `usize`, so that 128 bits hold the sum.
+/// How many faults there are. The length of each list fits a `usize`, so the sum fits 128 bits.
 pub(crate) fn count_faults(lines: &[NotedLine]) -> u128
     ensures { result ≡ spec.faults_in lines.now }
 {

@@ -1,17 +1,20 @@
-//! Lines that are loaded as a dialplan, and the notices of the loader.
-ghost use Rattle.std.specs.Prelude.{◌≡◌, ◌++◌, ◌-◌, IfOk, OnOk, Some, slice_get};
+//! Loads lines as a dialplan, and collects the notices of the loader.
+ghost use Rattle.std.specs.Prelude.{◌≡◌, ◌++◌, ◌-◌, IfOk, IfSome, OnOk, Some, slice_get};
 ghost use Rattle.std.specs.List.{flat_map};
 ghost use Rattle.std.specs.Option.{option_map};
 ghost use Rattle.dp_files.specs.DialplanText.{text_of};
 ghost use Rattle.dp_notices.specs.Loading as spec;
+ghost use Rattle.dp_notices.specs.MacroEnds.{ends_of, ends_of_text};
 ghost use Rattle.dp_plan.specs.Loaded.{plan_and_notes};
 
 use crate::line_notices::NoticeAt;
+use crate::macro_ends::{AddedLine, macro_ends};
 use crate::notice::{Notice, NoticeFault};
 use dp_conf::{ConfFault, NoMemory, Text};
 use dp_files::{Fault, MadeLine, text_of};
 use dp_plan::{
-    Context, Dialplan, LoadFault, Note, PlanKind, Word, plan_faults, show_faults_decide_loading,
+    Context, Dialplan, LoadFault, LoadedPlan, Note, PlanKind, Word, plan_faults,
+    show_faults_decide_loading,
 };
 use std::alloc::Global;
 
@@ -22,24 +25,24 @@ pub struct PlanCounts {
     pub entries: u128,
 }
 
-/// A notice on the line of a number, counted from 1, of the text that is loaded.
+/// A notice, and the number of its line in the loaded text, counted from 1.
 #[derive(Clone, Copy)]
 pub(crate) struct NumberedNotice {
-    line: usize,
-    notice: Notice,
+    pub(crate) line: usize,
+    pub(crate) notice: Notice,
 }
 
-/// What loading lines gives.
+/// The result of loading lines.
 #[derive(Drop)]
 pub(crate) struct LoadedLines {
-    /// The lines that load: a line with a fault is empty.
+    /// The lines that load. A line with a fault is empty.
     pub(crate) lines: Vec<MadeLine>,
     /// The faults, and then the notes.
     pub(crate) notices: Vec<NoticeAt>,
     pub(crate) counts: PlanCounts,
 }
 
-/// Why a line is left out that the loader refuses. An include with times is one for which no moment is given.
+/// Why a line that the loader refuses is left out. For an include with times, the reason is that no moment is given.
 fn loader_fault(kind: PlanKind) -> NoticeFault
     ensures { result ≡ spec.loader_fault kind }
 {
@@ -49,7 +52,7 @@ fn loader_fault(kind: PlanKind) -> NoticeFault
     }
 }
 
-/// The notice of a fault, where it is at a line.
+/// The notice of a fault, if the fault is at a line.
 fn fault_notice(fault: LoadFault) -> Option<NumberedNotice>
     ensures { result ≡ spec.fault_notice fault }
 {
@@ -70,7 +73,7 @@ fn fault_notice(fault: LoadFault) -> Option<NumberedNotice>
     }
 }
 
-/// Adds the notice of a fault, where it is at a line.
+/// Adds the notice of a fault, if the fault is at a line.
 fn push_fault(faults: &mut Vec<NumberedNotice>, fault: LoadFault) -> Result<(), NoMemory>
     ensures { OnOk result (faults.new.items ≡ faults.old.items ++ spec.fault_notices fault) }
 {
@@ -103,8 +106,8 @@ fn notices_of_text_fault(alloc: Global, fault: LoadFault) -> Result<Vec<Numbered
     Ok(notices)
 }
 
-/// The notices of the faults of a text: those of its lines, or of the text itself.
-fn faults_in_text(alloc: Global, text: &[u8]) -> Result<Vec<NumberedNotice>, NoMemory>
+/// The notices of the faults of a text: the faults of its lines, or the fault of the text itself.
+pub(crate) fn faults_in_text(alloc: Global, text: &[u8]) -> Result<Vec<NumberedNotice>, NoMemory>
     ensures { IfOk result (λ notices. notices.items ≡ spec.faults_in_text text.now) }
 {
     match plan_faults(alloc, text) {
@@ -114,14 +117,14 @@ fn faults_in_text(alloc: Global, text: &[u8]) -> Result<Vec<NumberedNotice>, NoM
     }
 }
 
-/// The line of a number, counted from 1, where there is one.
-fn line_of_number(lines: &[MadeLine], number: usize) -> Option<&MadeLine>
+/// The line with a number, counted from 1, if there is one.
+pub(crate) fn line_of_number(lines: &[MadeLine], number: usize) -> Option<&MadeLine>
     ensures { option_map (λ line. line.now) result ≡ slice_get lines.now (number - 1) }
 {
     lines.get(number.saturating_sub(1))
 }
 
-/// Adds the notice on the line that a line of the text is made of.
+/// Adds a notice on a line of the text. It is put at the line of a file from which that line is made.
 fn push_notice(
     notices: &mut Vec<NoticeAt>,
     lines: &[MadeLine],
@@ -141,7 +144,7 @@ fn push_notice(
     }
 }
 
-/// Adds the notices on the lines that lines of the text are made of.
+/// Adds notices on lines of the text. Each is put at the line of a file from which its line is made.
 fn push_notices(
     notices: &mut Vec<NoticeAt>,
     lines: &[MadeLine],
@@ -173,7 +176,7 @@ fn push_notes(
     Ok(())
 }
 
-/// Makes the line at a place empty.
+/// Empties the line at a place.
 fn empty_line(alloc: Global, lines: &mut Vec<MadeLine>, place: usize) -> Result<(), NoMemory>
     ensures { OnOk result (lines.new.items ≡ spec.emptied_at place lines.old.items) }
 {
@@ -184,8 +187,8 @@ fn empty_line(alloc: Global, lines: &mut Vec<MadeLine>, place: usize) -> Result<
     Ok(())
 }
 
-/// Makes the lines empty that have these faults.
-fn empty_lines(
+/// Empties the lines that have these faults.
+pub(crate) fn empty_lines(
     alloc: Global,
     lines: &mut Vec<MadeLine>,
     faults: &[NumberedNotice],
@@ -198,7 +201,7 @@ fn empty_lines(
     Ok(())
 }
 
-/// How many entries the contexts have, all together. No list is longer than a `usize`, so that 128 bits hold the sum.
+/// How many entries the contexts have in total. The length of each list fits a `usize`, so the sum fits 128 bits.
 fn count_entries(contexts: &[Context]) -> u128
     ensures { result ≡ spec.entries_in contexts.now }
 {
@@ -209,33 +212,56 @@ fn count_entries(contexts: &[Context]) -> u128
     count
 }
 
-/// What a text loads as: its counts and its notes.
+/// The result of loading a text: its counts, its notes, and the lines that end its macros.
 #[derive(Drop)]
-struct Loading {
-    counts: PlanCounts,
-    notes: Vec<Note>,
+pub(crate) struct Loading {
+    pub(crate) counts: PlanCounts,
+    pub(crate) notes: Vec<Note>,
+    pub(crate) ends: Vec<AddedLine>,
 }
 
-/// What a text loads as, or None where it does not load.
-fn load_text(alloc: Global, text: &[u8]) -> Result<Option<Loading>, NoMemory>
-    ensures { IfOk result (λ loading. option_map spec.loading_now loading ≡ spec.loading_in (plan_and_notes text.now)) }
+/// The counts and the notes of a loaded dialplan, and the lines that end its macros.
+fn loading_of(alloc: Global, loaded: LoadedPlan) -> Result<Loading, NoMemory>
+    ensures loading { IfOk result (λ loading. spec.loading_now loading
+        ≡ record { counts = spec.counts_of loaded.plan; notes = loaded.notes.items }) }
+    ensures ends { IfOk result (λ loading. loading.ends.items ≡ ends_of loaded.plan loaded.lines) }
 {
-    match Dialplan::load(alloc, text) {
-        Ok((plan, notes)) => {
-            let counts = PlanCounts {
-                contexts: plan.contexts().len(),
-                entries: count_entries(plan.contexts()),
-            };
-            Ok(Some(Loading { counts, notes }))
+    let counts = PlanCounts {
+        contexts: loaded.plan.contexts().len(),
+        entries: count_entries(loaded.plan.contexts()),
+    };
+    let ends = macro_ends(alloc, &loaded)?;
+    let LoadedPlan {
+        plan: _,
+        notes,
+        lines: _,
+    } = loaded;
+    Ok(Loading {
+        counts,
+        notes,
+        ends,
+    })
+}
+
+/// Loads a text. The result is `None` if the text does not load.
+#[tactic(auto, using(crate::proofs::LoadingLemmas::loading_loaded, crate::proofs::LoadingLemmas::ends_loaded))]
+pub(crate) fn load_text(alloc: Global, text: &[u8]) -> Result<Option<Loading>, NoMemory>
+    ensures loading { IfOk result (λ loading. option_map spec.loading_now loading ≡ spec.loading_in (plan_and_notes text.now)) }
+    ensures ends { IfOk result (λ loading. IfSome loading (λ loading. loading.ends.items ≡ ends_of_text text.now)) }
+{
+    match Dialplan::load_with_lines(alloc, text) {
+        Ok(loaded) => {
+            let loading = loading_of(alloc, loaded)?;
+            Ok(Some(loading))
         }
         Err(LoadFault::NoMemory) => Err(NoMemory),
         Err(_) => Ok(None),
     }
 }
 
-/// Lines that have no fault, by what they load as.
+/// Loads lines without a fault, given the result of loading their text.
 #[tactic(auto)]
-fn load_faultless(
+pub(crate) fn load_faultless(
     alloc: Global,
     lines: Vec<MadeLine>,
     loading: &Loading,
@@ -253,9 +279,11 @@ fn load_faultless(
     })
 }
 
-/// What a text loads as, and nothing where it does not load.
-fn load_or_nothing(alloc: Global, text: &[u8]) -> Result<Loading, NoMemory>
-    ensures { IfOk result (λ loading. spec.loading_now loading ≡ spec.loading_of (plan_and_notes text.now)) }
+/// Loads a text. The result is that of an empty dialplan if the text does not load.
+#[tactic(auto, using(crate::proofs::LoadingLemmas::nothing_ended))]
+pub(crate) fn load_or_nothing(alloc: Global, text: &[u8]) -> Result<Loading, NoMemory>
+    ensures loading { IfOk result (λ loading. spec.loading_now loading ≡ spec.loading_of (plan_and_notes text.now)) }
+    ensures ends { IfOk result (λ loading. loading.ends.items ≡ ends_of_text text.now) }
 {
     match load_text(alloc, text)? {
         Some(loading) => Ok(loading),
@@ -265,11 +293,12 @@ fn load_or_nothing(alloc: Global, text: &[u8]) -> Result<Loading, NoMemory>
                 entries: 0,
             },
             notes: Vec::new(alloc),
+            ends: Vec::new(alloc),
         }),
     }
 }
 
-/// Lines of which some have a fault, by their text.
+/// Loads lines of which some have a fault, given their text.
 #[tactic(auto, unfolding(crate::specs::Loading::loaded_lines))]
 fn load_faulty(
     alloc: Global,
@@ -293,7 +322,7 @@ fn load_faulty(
     })
 }
 
-/// Loads lines without those that have a fault. Where none has one, the text is read once.
+/// Loads lines without those that have a fault. If no line has a fault, the text is read once.
 pub(crate) fn load_lines(alloc: Global, lines: Vec<MadeLine>) -> Result<LoadedLines, NoMemory>
     ensures { IfOk result (λ loaded. spec.loaded_now loaded ≡ spec.loaded_lines lines.items) }
 {

@@ -9,9 +9,9 @@ use dp_plan::{NoteKind, PlanKind, Word};
 /// Why a line is left out.
 #[derive(Clone, Copy, Debug, PartialEq, Eq)]
 pub enum NoticeFault {
-    /// What reads the files leaves it out.
+    /// The file reader leaves the line out.
     Reading(Fault),
-    /// The name of an extension is none.
+    /// The name of an extension is not valid.
     Name(NameFault),
     /// The loader refuses the line.
     Plan(PlanKind),
@@ -20,15 +20,15 @@ pub enum NoticeFault {
 /// A notice on a line: a note, or a fault.
 #[derive(Clone, Copy, Debug, PartialEq, Eq)]
 pub enum Notice {
-    /// A note of what reads the files.
+    /// A note of the file reader.
     Read(Note),
     /// A note of the loader.
     Loaded(NoteKind),
-    /// A fault, for which the line is left out.
+    /// A fault: the reason why the line is left out.
     Fault(NoticeFault),
 }
 
-/// The name of a note of what reads the files.
+/// The name of a note of the file reader.
 fn note_name(note: Note) -> &'static str
     ensures { result.now ≡ spec.reading_note_name note }
 {
@@ -45,7 +45,7 @@ fn note_name(note: Note) -> &'static str
     }
 }
 
-/// The name of what this program leaves out, with its kind.
+/// The name of the fault `LeftOut`, with the kind of what this program leaves out.
 fn left_out_name(word: Word) -> &'static str
     ensures { result.now ≡ spec.left_out_name word }
 {
@@ -71,7 +71,7 @@ fn loader_name(kind: PlanKind) -> &'static str
     }
 }
 
-/// The name of a fault of what reads the files.
+/// The name of a fault of the file reader.
 fn reading_name(fault: Fault) -> &'static str
     ensures { result.now ≡ (spec.reading_wording fault).name }
 {
@@ -85,7 +85,7 @@ fn reading_name(fault: Fault) -> &'static str
     }
 }
 
-/// The number of a fault of what reads the files, where it has one.
+/// The number of a fault of the file reader, if it has one.
 fn reading_number(fault: Fault) -> Option<u8>
     ensures { result ≡ (spec.reading_wording fault).number }
 {
@@ -101,7 +101,7 @@ impl NoticeFault {
     ghost use Rattle.std.specs.Prelude.{◌≡◌};
     ghost use Rattle.dp_notices.specs.Notices.{fault_wording};
 
-    /// The name of the fault, as it is printed. Behind what this program leaves out stands its kind.
+    /// The name of the fault, as it is printed. `LeftOut` is followed by the kind of what this program leaves out.
     pub fn name(self) -> &'static str
         ensures { result.now ≡ (fault_wording self).name }
     {
@@ -112,7 +112,7 @@ impl NoticeFault {
         }
     }
 
-    /// The number of the fault, where it has one.
+    /// The number of the fault, if it has one.
     pub fn number(self) -> Option<u8>
         ensures { result ≡ (fault_wording self).number }
     {
@@ -139,7 +139,7 @@ impl Notice {
         }
     }
 
-    /// The number of the fault, where it is a fault that has one.
+    /// The number of the notice, if it is a fault that has one.
     pub fn number(self) -> Option<u8>
         ensures { result ≡ (wording self).number }
     {
@@ -159,7 +159,7 @@ impl Notice {
         }
     }
 
-    /// The notice of a remark of what reads the files.
+    /// The notice of a remark of the file reader.
     pub(crate) fn of_reading(kind: RemarkKind) -> Self
         ensures { result ≡ of_reading kind }
     {

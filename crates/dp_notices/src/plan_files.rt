@@ -8,13 +8,15 @@ ghost use Rattle.dp_files.specs.Sources.{Files, Telling};
 ghost use Rattle.dp_notices.specs.PlanFiles as spec;
 
 use crate::line_notices::{NotedLine, NoticeAt, count_faults, noted_lines};
-use crate::loading::{LoadedLines, PlanCounts, load_lines};
+use crate::loading::{LoadedLines, PlanCounts};
 use crate::notice::Notice;
+use crate::preparation::load_prepared;
 use dp_conf::NoMemory;
 use dp_files::{
     DialplanFiles, MadeLine, MadeText, Paths, ReadingFault, Remark, Source, SourceFile,
     read_dialplan, read_folder_dialplan, text_of,
 };
+use dp_wide::Moment;
 use std::alloc::Global;
 
 /// A dialplan that is read from files.
@@ -22,9 +24,9 @@ use std::alloc::Global;
 pub struct PlanFiles {
     /// The files in the order in which they were opened.
     pub files: Vec<SourceFile>,
-    /// The lines of all files with the notices on each, in the order in which they were read.
+    /// The lines of all files, each with its notices, in the order in which they were read.
     pub lines: Vec<NotedLine>,
-    /// The lines of the text that loads: one with a fault is empty.
+    /// The lines of the text that loads. A line with a fault is empty. The lines that end macros come last.
     pub made: Vec<MadeLine>,
     /// The counts of the dialplan that this text loads as.
     pub counts: PlanCounts,
@@ -43,7 +45,7 @@ impl PlanFiles {
         count_faults(&self.lines)
     }
 
-    /// The text that loads. The error comes only where a growth was refused.
+    /// The text that loads. The error comes only if a growth was refused.
     pub fn text(&self, alloc: Global) -> Result<Vec<u8>, NoMemory>
         ensures { IfOk result (λ text. text.items ≡ text_of (plan_now self.now).made) }
     {
@@ -51,7 +53,7 @@ impl PlanFiles {
     }
 }
 
-/// Adds the notices of remarks of what reads the files.
+/// Adds the notices of remarks of the file reader.
 fn push_remarks(notices: &mut Vec<NoticeAt>, remarks: &[Remark]) -> Result<(), NoMemory>
     ensures { OnOk result (notices.new.items ≡ notices.old.items ++ map spec.reading_notice remarks.now) }
 {
@@ -64,7 +66,7 @@ fn push_remarks(notices: &mut Vec<NoticeAt>, remarks: &[Remark]) -> Result<(), N
     Ok(())
 }
 
-/// All notices: those of what reads the files, and then those of the loader.
+/// All notices: first those of the file reader, and then those of the loader.
 fn all_notices(
     alloc: Global,
     remarks: &[Remark],
@@ -78,9 +80,13 @@ fn all_notices(
     Ok(notices)
 }
 
-/// A dialplan of files that were read.
-fn load_files(alloc: Global, read: DialplanFiles) -> Result<PlanFiles, NoMemory>
-    ensures { IfOk result (λ plan. spec.plan_now plan ≡ spec.plan_by (dialplan_now read)) }
+/// Loads the dialplan of files that were read, at a moment if one is given.
+fn load_files(
+    alloc: Global,
+    clock: Option<Moment>,
+    read: DialplanFiles,
+) -> Result<PlanFiles, NoMemory>
+    ensures { IfOk result (λ plan. spec.plan_now plan ≡ spec.plan_by clock (dialplan_now read)) }
 {
     let DialplanFiles { files, lines, made } = read;
     let MadeText {
@@ -91,7 +97,7 @@ fn load_files(alloc: Global, read: DialplanFiles) -> Result<PlanFiles, NoMemory>
         lines: made,
         notices,
         counts,
-    } = load_lines(alloc, made)?;
+    } = load_prepared(alloc, clock, made)?;
     let notices = all_notices(alloc, &remarks, &notices)?;
     let lines = noted_lines(alloc, lines, &notices)?;
     Ok(PlanFiles {
@@ -102,39 +108,50 @@ fn load_files(alloc: Global, read: DialplanFiles) -> Result<PlanFiles, NoMemory>
     })
 }
 
-/// Reads a dialplan from the file of a name and from the files that it includes, and loads it without the lines that have a fault.
+/// Reads a dialplan from the file with a name and from the files that it includes, and loads it without the lines that have a fault.
 ///
-/// [`read_dialplan`] says how files are read. Of the text that it makes, each line that the loader refuses has a notice and is read as if
-/// it were empty, and so are the lines that it leaves out itself. A notice stands at the line of a file that the line is made of, once
-/// however often a template copies the line; the notices on one line stand in this order: of what reads the files, faults of the loader,
-/// notes of the loader. The fault is `NotFound` where the first file is not there, `TooLong` where it has more than 16,777,216 bytes, or
-/// out-of-memory.
+/// An include with times is read as an include at all times if the moment lies in them, by the rule of `GotoIfTime`. At other moments it is
+/// read as an empty line. Without a moment it is the fault `NoClock`.
+///
+/// In a context `macro-NAME`, an entry `MacroExit()` is added after each entry after which a step would find nothing. A macro of Asterisk
+/// ends there, as its documentation's page on `Macro` says. The lines of these entries are added after all other lines. Two rules are
+/// choices of this program. After an entry of a pattern, a step finds nothing if the context has no such priority of the same pattern. And
+/// an entry that is itself `MacroExit`, or that has the greatest priority, needs no other entry after it.
+///
+/// [`read_dialplan`] says how files are read. In the text that it makes, each line that the loader refuses has a notice and is read as if
+/// it were empty. The lines that `read_dialplan` itself leaves out are read in the same way. A notice is at the line of a file from which
+/// the line is made. It is there once, however often a template copies the line. The notices on one line have this order: those of the file
+/// reader, the faults of the loader, the notes of the loader.
+///
+/// The fault is `NotFound` if the first file is not there, `TooLong` if it has more than 16,777,216 bytes, or out-of-memory.
 pub fn read_plan<S: Source>(
     alloc: Global,
     source: &mut S,
     name: &[u8],
+    clock: Option<Moment>,
 ) -> Result<PlanFiles, ReadingFault>
     ensures read { (has : Files) → S.agrees source.new has
-        → Answers spec.plan_now first_fault result (spec.plan_of has name.now) }
+        → Answers spec.plan_now first_fault result (spec.plan_of clock has name.now) }
     ensures kept { (has : Files) → S.agrees source.new has → S.agrees source.old has }
     ensures same { (told : Telling) → S.may_tell source.new told → S.may_tell source.old told }
 {
     let read = read_dialplan(alloc, source, name)?;
-    let plan = load_files(alloc, read)?;
+    let plan = load_files(alloc, clock, read)?;
     Ok(plan)
 }
 
-/// Reads a dialplan from the file of a path and from the files that it includes, which are looked for in its folder, as [`read_plan`] does
-/// with [`FolderFiles`](dp_files::FolderFiles).
+/// Reads a dialplan from the file at a path and from the files that it includes, as [`read_plan`] does with
+/// [`FolderFiles`](dp_files::FolderFiles). The included files are looked for in the folder of the first file.
 pub fn read_folder_plan<P: Paths>(
     alloc: Global,
     paths: &P,
     first: &str,
+    clock: Option<Moment>,
 ) -> Result<PlanFiles, ReadingFault>
     ensures { ReadsFolder (MayTell (P.may_be paths.now) (P.may_list paths.now) first.now)
-        (λ has. Answers spec.plan_now first_fault result (spec.plan_of has first.now)) }
+        (λ has. Answers spec.plan_now first_fault result (spec.plan_of clock has first.now)) }
 {
     let read = read_folder_dialplan(alloc, paths, first)?;
-    let plan = load_files(alloc, read)?;
+    let plan = load_files(alloc, clock, read)?;
     Ok(plan)
 }

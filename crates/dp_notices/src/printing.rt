@@ -1,4 +1,4 @@
-//! The lines that are printed of notices.
+//! The printed lines of notices.
 ghost use Rattle.std.specs.Prelude.{◌≡◌, ◌++◌, IfOk, OnOk};
 ghost use Rattle.dp_notices.specs.Printing as spec;
 ghost use Rattle.dp_notices.specs.PlanFiles.{plan_now};
@@ -11,7 +11,7 @@ use dp_files::{Fault, Note, SourceFile, SourceLine, included_name, path_of};
 use itoa::Buffer;
 use std::alloc::Global;
 
-/// The name of the file of a number, as a line writes it.
+/// The name of the file with a number, as a line writes it.
 fn file_name(files: &[SourceFile], number: usize) -> &[u8]
     ensures { result.now ≡ spec.file_name files.now number }
 {
@@ -21,7 +21,7 @@ fn file_name(files: &[SourceFile], number: usize) -> &[u8]
     }
 }
 
-/// Adds where a line stands, `FILE:LINE: `.
+/// Adds the place of a line, `FILE:LINE: `.
 fn push_place(out: &mut Vec<u8>, file: &[u8], line: usize) -> Result<(), NoMemory>
     ensures { OnOk result (out.new.items ≡ out.old.items ++ spec.place_text file.now line) }
 {
@@ -33,7 +33,7 @@ fn push_place(out: &mut Vec<u8>, file: &[u8], line: usize) -> Result<(), NoMemor
     Ok(())
 }
 
-/// Adds a number and a blank, where there is a number.
+/// Adds a number and a blank, if there is a number.
 fn push_number(out: &mut Vec<u8>, number: Option<u8>) -> Result<(), NoMemory>
     ensures { OnOk result (out.new.items ≡ out.old.items ++ spec.number_text number) }
 {
@@ -46,14 +46,14 @@ fn push_number(out: &mut Vec<u8>, number: Option<u8>) -> Result<(), NoMemory>
     Ok(())
 }
 
-/// The word before what is printed of a notice.
+/// The word with which a printed notice begins.
 fn first_word(notice: Notice) -> &'static str
     ensures { result.now ≡ spec.first_word notice }
 {
     if notice.is_fault() { "fault " } else { "note " }
 }
 
-/// Adds what is printed of a notice.
+/// Adds the printed words of a notice.
 fn push_words(out: &mut Vec<u8>, notice: Notice) -> Result<(), NoMemory>
     ensures { OnOk result (out.new.items ≡ out.old.items ++ spec.notice_text notice) }
 {
@@ -63,7 +63,7 @@ fn push_words(out: &mut Vec<u8>, notice: Notice) -> Result<(), NoMemory>
     Ok(())
 }
 
-/// Whether the notice is that a file is not there.
+/// Whether the notice says that a file is not there.
 fn is_missing_file(notice: Notice) -> bool
     ensures { result ≡ spec.is_missing_file notice }
 {
@@ -73,7 +73,7 @@ fn is_missing_file(notice: Notice) -> bool
     }
 }
 
-/// Adds the name of the file that a line asks for.
+/// Adds a blank and the name of the file that a line asks for.
 fn push_name(alloc: Global, out: &mut Vec<u8>, text: &[u8]) -> Result<(), NoMemory>
     ensures { OnOk result (out.new.items ≡ out.old.items ++ spec.name_behind text.now) }
 {
@@ -83,7 +83,7 @@ fn push_name(alloc: Global, out: &mut Vec<u8>, text: &[u8]) -> Result<(), NoMemo
     Ok(())
 }
 
-/// Adds the name of the file that a line asks for, where the notice is that it is not there.
+/// Adds a blank and the name of the file that a line asks for, if the notice says that the file is not there.
 fn push_missing_name(
     alloc: Global,
     out: &mut Vec<u8>,
@@ -105,7 +105,7 @@ struct NamedLine<'a> {
     line: &'a SourceLine,
 }
 
-/// Adds the line of a notice.
+/// Adds the printed line of a notice.
 fn push_notice(
     alloc: Global,
     out: &mut Vec<u8>,
@@ -126,19 +126,19 @@ fn push_notice(
 pub enum Shown {
     /// Notes and faults.
     All,
-    /// Faults alone.
+    /// Only faults.
     Faults,
-    /// Faults, and notes on what this program leaves out although calls may depend on it: another dialplan that is asked for a name
-    /// (`switch`), an extension for one caller, and `autofallthrough=no`.
+    /// Faults, and notes on lines that this program leaves out although calls may depend on them: `#exec`, which takes lines from a
+    /// program; `switch`, which asks another dialplan for a name; an extension for one caller; and `autofallthrough=no`.
     Unfollowed,
 }
 
-/// Whether the notice is a note on what is left out although calls may depend on it.
+/// Whether the notice is a note on a line that is left out although calls may depend on it.
 fn is_unfollowed(notice: Notice) -> bool
     ensures { result ≡ spec.is_unfollowed notice }
 {
     match notice {
-        Notice::Read(Note::Switch | Note::AutoFallThrough | Note::CallerId) => true,
+        Notice::Read(Note::Exec | Note::Switch | Note::AutoFallThrough | Note::CallerId) => true,
         _ => false,
     }
 }
@@ -154,7 +154,7 @@ fn is_shown(shown: Shown, notice: Notice) -> bool
     }
 }
 
-/// Adds the lines of the notices on a line that are printed.
+/// Adds the printed lines of the notices on a line, without those that are not shown.
 fn push_line(
     alloc: Global,
     out: &mut Vec<u8>,
@@ -173,7 +173,7 @@ fn push_line(
     Ok(())
 }
 
-/// Adds the lines of the notices on a line of some files that are printed.
+/// Adds the printed lines of the notices on a line of some files, without those that are not shown.
 fn push_noted(
     alloc: Global,
     out: &mut Vec<u8>,
@@ -199,7 +199,7 @@ fn push_noted(
     push_line(alloc, out, shown, named, notices)
 }
 
-/// Adds the lines of the notices on each line that are printed.
+/// Adds the printed lines of the notices on all lines, without those that are not shown.
 #[tactic(auto, unfolding(crate::specs::Printing::notices_text))]
 fn push_lines(
     alloc: Global,
@@ -215,10 +215,10 @@ fn push_lines(
     Ok(())
 }
 
-/// The lines of the notices on a dialplan that is read from files, in the order of the lines that they are on: `FILE:LINE: note KIND`,
-/// `FILE:LINE: fault CODE NAME`, or `FILE:LINE: fault NAME` of a fault that has no number. FILE is the path at which the file was opened.
-/// Behind a file that is not there stands its name, and behind what this program leaves out its kind. The error comes only where a growth
-/// was refused.
+/// Prints the notices on a dialplan that is read from files, in the order of the lines that they are on. A notice is printed as
+/// `FILE:LINE: note KIND`, as `FILE:LINE: fault CODE NAME`, or as `FILE:LINE: fault NAME` if the fault has no number. FILE is the path at
+/// which the file was opened. `ReadFailed` is followed by the name of the file that is not there, and `LeftOut` by the kind of what this
+/// program leaves out. The error comes only if a growth was refused.
 pub fn print_notices(alloc: Global, shown: Shown, plan: &PlanFiles) -> Result<Vec<u8>, NoMemory>
     ensures { IfOk result (λ text. text.items ≡ spec.notices_text shown (plan_now plan.now)) }
 {

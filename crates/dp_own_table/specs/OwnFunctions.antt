@@ -1,5 +1,5 @@
--- The functions of a table of another maker: the five of this program, one that is computed, one whose values are cells, and one that
--- is never known.
+-- The functions of a table by another author: the five of this program, one that is computed, one whose values are cells, and one that is
+-- never known.
 use Rattle.std.specs.Prelude.{ℕ, Bool, not, ◌||◌, List, [], ◌++◌, codes, if◌then◌else◌}
 use Rattle.dp_conf.specs.Words.{same_text}
 use Rattle.dp_expr.specs.declared.reading.ExpressionReading.{ExpressionReading}
@@ -8,7 +8,7 @@ use Rattle.dp_vars.specs.Functions.{FunctionTable, SettingTarget, Variable, Glob
 use Rattle.dp_vars.specs.Sights.{Sight}
 use Rattle.dp_vars.specs.Values.{standard_functions}
 
--- the name of the variable that a cell is
+-- the name of the variable that is a cell
 abbrev pub box_name : List ℕ → List ℕ
 box_name key = codes "BOX(" ++ key ++ codes ")"
 
@@ -19,16 +19,16 @@ own_value sight name argument =
     else (if same_text name (codes "BOX") then sight.variable (box_name argument)
     else (if same_text name (codes "AWAY") then [] else standard_functions.value sight name argument))
 
--- a cell is known where it was set
+-- a cell is known if it was set
 abbrev pub own_knows : Sight → List ℕ → List ℕ → Bool
 own_knows sight name argument =
     if same_text name (codes "BOX") then sight.is_set (box_name argument) else not (same_text name (codes "AWAY"))
 
--- of names `STATUS` alone is not known, while nothing has set it
+-- of the plain names only `STATUS` is unknown, while nothing has set it
 abbrev pub own_knows_name : Sight → List ℕ → Bool
 own_knows_name sight name = not (same_text name (codes "STATUS")) || sight.is_set name
 
--- what setting a name sets: a name for each kind of target, and any other is a variable
+-- what a name sets: one name for each kind of target, and any other name sets a variable
 abbrev pub own_target : List ℕ → SettingTarget
 own_target name =
     if same_text name (codes "ALL") then Global name
@@ -36,11 +36,11 @@ own_target name =
     else (if same_text name (codes "WHO") then Caller
     else (if same_text name (codes "NONE") then Nothing else Variable name)))
 
--- a text with other groups than this program reads in it: `${[}`
+-- a text that has groups which this program does not read: `${[}`
 abbrev pub own_reads : List ℕ → Bool
 own_reads text = not (same_text text (codes "${[}"))
 
--- the expression `$[?]` is not known, and `$[!]` is `0`
+-- the expression `$[?]` is unknown, and `$[!]` is `0`
 abbrev pub own_expression : List ℕ → ExpressionReading
 own_expression body =
     if same_text body (codes "?") then readings.Unknown else (if same_text body (codes "!") then readings.Zero else readings.Value)

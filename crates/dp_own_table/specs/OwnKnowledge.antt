@@ -1,4 +1,4 @@
--- What the table of another maker knows of its applications.
+-- What the table by another author knows of its applications.
 use Rattle.std.specs.Prelude.{◌≡◌, ℕ, Bool, true, false, not, ◌&&◌, List, [], Some, None, codes, if◌then◌else◌, refl}
 use Rattle.std.proofs.Common.{subst}
 use Rattle.std.proofs.lemmas.Option.{none-some, same_Some}
@@ -9,7 +9,7 @@ use Rattle.dp_app.specs.Knowledge.{Knowledge, Overlooks}
 use Rattle.dp_app.specs.Rows.{Row}
 use Rattle.dp_own_table.specs.OwnTable.{own_rows, ping_row, stay_row}
 
--- `Ping` alone looks at its arguments
+-- only `Ping` looks at its arguments
 abbrev pub own_looks : List ℕ → Bool
 own_looks name = same_word name (codes "Ping")
 

@@ -1,4 +1,4 @@
--- The rows of two applications that are not of this program, for a table of another maker.
+-- The rows of two applications that are not this program's, for a table by another author.
 use Rattle.std.specs.Prelude.{◌≡◌, ℕ, Bool, true, false, List, Some, None, codes, length, if◌then◌else◌, refl}
 use Rattle.std.proofs.Common.{ap, subst}
 use Rattle.std.proofs.lemmas.Option.{none-some, same_Some}
@@ -22,11 +22,11 @@ nothing = record { variables = false; frames = false; globals = false; caller = 
 abbrev pub the_variables : Touch
 the_variables = record nothing { variables = true }
 
--- the row of `Ping`: `P` is set to the arguments, by the rule of setting
+-- the row of `Ping`: `P` is set to the arguments, by the rule for setting
 abbrev pub ping_row : Row
 ping_row arguments cell = record { cell = record cell { store = set cell.store (codes "P") arguments }; next = Next }
 
--- where a channel goes that would wait: one that is closing does not wait
+-- where a channel goes that would wait: a closing channel does not wait
 abbrev pub stays_unless : Bool → Move
 stays_unless is_closing = if is_closing then Hang else Park Pause
 
@@ -66,7 +66,7 @@ stay_lawful touch = record {
   hangs = λ arguments cell phase closing parks. ap (λ b. record { cell = cell; next = stays_unless b }) closing;
 }
 
--- the table of the two, by how names are held against its own
+-- the table of the two, given how names are compared with its own
 abbrev pub own_rows : (List ℕ → List ℕ → Bool) → Rows
 own_rows same name =
     if same name (codes "Ping") then Some ping_row else (if same name (codes "Stay") then Some stay_row else None)
@@ -82,16 +82,16 @@ own_row_lawful true is_stay row there = subst (λ r. IsLawfulRow the_variables r
 own_row_lawful false true row there = subst (λ r. IsLawfulRow nothing r) (same_Some stay_row row there) (stay_lawful nothing)
 own_row_lawful false false row there = absurd (none-some row there)
 
--- the table is lawful, however names are held against its own
+-- the table is lawful, however names are compared with its own
 pub own_lawful : (same : List ℕ → List ℕ → Bool) → IsLawful (own_touches same) (own_rows same)
 own_lawful same name row there = own_row_lawful (same name (codes "Ping")) (same name (codes "Stay")) row there
 
--- where letters are the same in either case, the table is blind to case
+-- if names are compared without case, the table is blind to case
 pub own_blind : IsBlind (own_touches same_word) (own_rows same_word)
 own_blind =
     with_row_blind (codes "Ping") the_variables ping_row (with_touch (codes "Stay") nothing no_touch) (with_row (codes "Stay") stay_row no_rows)
     (with_row_blind (codes "Stay") nothing stay_row no_touch no_rows no_rows_blind)
 
--- where the names are to be the same byte by byte, it is not
+-- if names must be the same byte by byte, it is not
 pub own_sees_case : IsBlind (own_touches same_text) (own_rows same_text) → ⊥
 own_sees_case blind = none-some ping_row (blind.row (codes "Ping") (codes "ping") refl)

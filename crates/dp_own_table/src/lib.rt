@@ -1,6 +1,6 @@
-//! A table of applications of another maker, over which cases run a machine, and that it keeps the laws as the program's own does.
+//! A table of applications by another author, over which cases run a machine. It keeps the laws as the program's own table does.
 //!
-//! This is for tests alone.
+//! This is only for tests.
 #![tactic(auto)]
 
 mod own_functions;

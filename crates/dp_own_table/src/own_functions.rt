@@ -1,4 +1,4 @@
-//! The functions of a table of another maker.
+//! The functions of a table by another author.
 ghost use Rattle.std.specs.Prelude.{◌≡◌, ◌++◌, IfOk};
 ghost use Rattle.dp_own_table.specs.OwnFunctions as spec;
 
@@ -9,12 +9,12 @@ use dp_vars::{
 };
 use std::alloc::Global;
 
-/// `TWICE(text)`: the text twice. `BOX(key)`: the variable of that very name, which is known where it was set. `AWAY(x)` is never
-/// known. The other names are those of the program. The variable `STATUS` is known where it was set. The expression `$[?]` is not known,
-/// and `$[!]` is `0`. The text `${[}` has other groups than this program reads in it.
+/// `TWICE(text)`: the text twice. `BOX(key)`: the variable with that very name, which is known if it was set. `AWAY(x)` is never known. The
+/// other names are those of the program. The variable `STATUS` is known if it was set. The expression `$[?]` is unknown, and `$[!]` is `0`.
+/// The text `${[}` has groups which this program does not read.
 pub struct OwnFunctions;
 
-/// The name of the variable that `BOX(key)` is.
+/// The name of the variable for `BOX(key)`.
 fn box_name(alloc: Global, key: &[u8]) -> Result<Vec<u8>, NoMemory>
     ensures { IfOk result (λ name. name.items ≡ spec.box_name key.now) }
 {

@@ -1,4 +1,4 @@
-//! What the table of another maker knows of its applications.
+//! What the table by another author knows of its applications.
 ghost use Rattle.std.specs.Prelude.{◌≡◌};
 
 use crate::own_table::OwnApps;

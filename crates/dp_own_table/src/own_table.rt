@@ -1,4 +1,4 @@
-//! A table of applications of another maker, over which a machine is proved as it is over the program's own.
+//! A table of applications by another author, over which a machine is proved as it is over the program's own.
 ghost use Rattle.std.specs.Prelude.{◌≡◌};
 
 use crate::own_functions::OwnFunctions;
@@ -36,7 +36,7 @@ impl Application for Ping {
     }
 }
 
-/// `Stay()`: the channel waits until a time-out. During `h` the call ends.
+/// `Stay()`: the channel waits for a time-out. During `h` the call ends.
 pub struct Stay;
 
 impl Application for Stay {

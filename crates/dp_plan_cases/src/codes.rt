@@ -10,7 +10,7 @@ fn check_kinds(rt: &impl Abort, kinds: &[(PlanKind, u8, &str)]) {
     }
 }
 
-fn faults_have_these_codes(rt: &impl Abort) {
+fn check_fault_codes(rt: &impl Abort) {
     let kinds = [
         (PlanKind::BadPriority, 20, "BadPriority"),
         (PlanKind::NoPrevious, 21, "NoPrevious"),
@@ -24,7 +24,7 @@ fn faults_have_these_codes(rt: &impl Abort) {
     check_kinds(rt, &kinds);
 }
 
-fn faults_of_words_have_this_code(rt: &impl Abort) {
+fn check_left_out_codes(rt: &impl Abort) {
     let kinds = [
         (PlanKind::LeftOut(Word::Switch), 24, "LeftOut"),
         (PlanKind::LeftOut(Word::IgnorePat), 24, "LeftOut"),
@@ -38,8 +38,8 @@ fn faults_of_words_have_this_code(rt: &impl Abort) {
     check_kinds(rt, &kinds);
 }
 
-/// The faults of names are those of the crate that reads them.
-fn faults_of_names_have_these_codes(rt: &impl Abort) {
+/// The faults of names are those of the crate that reads names.
+fn check_name_faults(rt: &impl Abort) {
     let faults = [
         (NameFault::EmptyName, 10, "EmptyName"),
         (NameFault::EmptySet, 11, "EmptySet"),
@@ -59,7 +59,7 @@ fn check_word(rt: &impl Abort, alloc: Global, word: Word, want: &str) -> Result<
     Ok(())
 }
 
-fn words_are_named_so(rt: &impl Abort, alloc: Global) -> Result<(), Fail> {
+fn check_words(rt: &impl Abort, alloc: Global) -> Result<(), Fail> {
     let words = [
         (Word::Switch, "Switch"),
         (Word::IgnorePat, "IgnorePat"),
@@ -76,7 +76,7 @@ fn words_are_named_so(rt: &impl Abort, alloc: Global) -> Result<(), Fail> {
     Ok(())
 }
 
-fn notes_have_these_names(rt: &impl Abort) {
+fn check_note_names(rt: &impl Abort) {
     let kinds = [
         (NoteKind::DoublePriority, "DoublePriority"),
         (NoteKind::DoubleLabel, "DoubleLabel"),
@@ -88,7 +88,7 @@ fn notes_have_these_names(rt: &impl Abort) {
     }
 }
 
-fn faults_are_printed_so(rt: &impl Abort, alloc: Global) -> Result<(), Fail> {
+fn check_printed_faults(rt: &impl Abort, alloc: Global) -> Result<(), Fail> {
     let of_text = LoadFault::Conf(ConfFault::At {
         line: 12,
         kind: LineKind::NoEquals,
@@ -112,8 +112,8 @@ fn faults_are_printed_so(rt: &impl Abort, alloc: Global) -> Result<(), Fail> {
     Ok(())
 }
 
-/// Out of memory is outermost, whichever call met it.
-fn want_of_memory_is_outermost(rt: &impl Abort) {
+/// Out of memory is the outermost fault, whichever call met it.
+fn check_out_of_memory(rt: &impl Abort) {
     assert_eq!(rt; LoadFault::from(ConfFault::NoMemory), LoadFault::NoMemory);
     let fault = ConfFault::At {
         line: 1,
@@ -123,17 +123,17 @@ fn want_of_memory_is_outermost(rt: &impl Abort) {
 }
 
 fn check_codes(rt: &impl Abort, alloc: Global) -> Result<(), Fail> {
-    faults_have_these_codes(rt);
-    faults_of_words_have_this_code(rt);
-    faults_of_names_have_these_codes(rt);
-    notes_have_these_names(rt);
-    want_of_memory_is_outermost(rt);
-    words_are_named_so(rt, alloc)?;
-    faults_are_printed_so(rt, alloc)
+    check_fault_codes(rt);
+    check_left_out_codes(rt);
+    check_name_faults(rt);
+    check_note_names(rt);
+    check_out_of_memory(rt);
+    check_words(rt, alloc)?;
+    check_printed_faults(rt, alloc)
 }
 
 /// The numbers and the names of faults, words and notes, and how faults are printed.
 #[test]
-fn faults_and_notes_have_these_codes_and_names(rt: HostRuntime) -> Result<(), Fail> {
+fn faults_and_notes_have_their_codes_and_names(rt: HostRuntime) -> Result<(), Fail> {
     check_codes(&rt, rt.alloc())
 }

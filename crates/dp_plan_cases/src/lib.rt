@@ -1,7 +1,7 @@
-//! Cases of dialplans, how they load and list and what is read of them, and of the codes of their faults, as tables with
-//! their answers.
+//! Cases of dialplans: how they load and are listed, what is read from them, and the codes of their faults. They are tables with
+//! answers.
 //!
-//! A crate with tests is proved twice, so the cases of the libraries stand in crates of their own, where each is proved once.
+//! A crate with tests is proved twice, so the cases of the libraries are in crates of their own, where each is proved once.
 #![tactic(auto)]
 
 #[cfg(test)]

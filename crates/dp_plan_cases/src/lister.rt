@@ -25,7 +25,7 @@ fn listing_of(alloc: Global, text: &[u8]) -> Result<String, Fail> {
     listing(alloc, &plan)
 }
 
-/// The listing of a dialplan, in characters of the numbers of its bytes.
+/// The listing of a dialplan, with each byte as the character of its number.
 fn listing(alloc: Global, plan: &Dialplan) -> Result<String, Fail> {
     let listed = list(alloc, plan)?;
     characters(alloc, &listed)
@@ -41,25 +41,25 @@ fn characters(alloc: Global, bytes: &[u8]) -> Result<String, Fail> {
 }
 
 const LISTINGS: &str = r"
-# Nothing, and what a listing leaves out.
+# An empty text, and lines that a listing leaves out.
 →
 [general]\nstatic=yes\n[globals]\n→
 ; x\n\n[m] ; y\nfoo=1\n→[m]\n
-# Global variables come first, in their order, and contexts in the order of first appearance.
+# Global variables come first, in their order. Contexts are in the order of first appearance.
 [b]\n[globals]\nB=2\n[a]\n[globals]\nA=1\nB=3\n[b]\n→[globals]\nB => 2\nA => 1\nB => 3\n[b]\n[a]\n
 [globals]\nA=\n→[globals]\nA => \n
-# Entries, then includes, each in the order of the file.
+# Entries come before includes, both in the order of the file.
 [m]\ninclude => b\nexten => s,2,B\ninclude => a\nexten => s,1,A(x,y)\n→[m]\nexten => s,2,B()\nexten => s,1,A(x,y)\ninclude => b\ninclude => a\n
 [m]\ninclude =>\n→[m]\ninclude => \n
-# Priorities are numbers, labels stand after them, and names have their one spelling.
+# Priorities are numbers, labels follow them, and names have their one spelling.
 [m]\nexten => 1-00,1,A\nsame => n(x),B\n→[m]\nexten => 100,1,A()\nexten => 100,2(x),B()\n
 [m]\nexten => _[0-9]x[0-9].,1,A\nsame => n,B\nexten => 1-0,1,C\nsame => n,D\n→[m]\nexten => _XXX.,1,A()\nexten => _XXX.,2,B()\nexten => 10,1,C()\nexten => 10,2,D()\n
 [m]\nexten => _[2-9][5],1,A\nexten => _[.]x!,1,B\n→[m]\nexten => _N5,1,A()\nexten => _[.]X!,1,B()\n
 [m]\nexten => s,1,App)\n→[m]\nexten => s,1,App)()\n
-# Semicolons are escaped wherever they stand.
+# Semicolons are escaped wherever they are.
 [main]\nexten => s,1,NoOp(a\\;b\\\\;c)\n→[main]\nexten => s,1,NoOp(a\\;b\\\\;c)\n
 [globals]\na\\;b=c\\;d\n[e\\;f]\nexten => g\\;h,1(i\\;j),k\\;l(\\;)\ninclude => e\\;f\n→[globals]\na\\;b => c\\;d\n[e\\;f]\nexten => g\\;h,1(i\\;j),k\\;l(\\;)\ninclude => e\\;f\n
-# The usual file.
+# A usual file.
 [general]\nstatic=yes\nwriteprotect=no\n\n[globals]\nTRUNK=Line/9\n\n[main]\nexten => _NXXXXXX,1,Answer()\n same => n,Playback(hello-world)\n same => n(q),Queue(support,c)\n same => n,Hangup()\ninclude => out\n→[globals]\nTRUNK => Line/9\n[main]\nexten => _NXXXXXX,1,Answer()\nexten => _NXXXXXX,2,Playback(hello-world)\nexten => _NXXXXXX,3(q),Queue(support,c)\nexten => _NXXXXXX,4,Hangup()\ninclude => out\n
 ";
 
@@ -69,7 +69,7 @@ fn check_notes(rt: &impl Abort, notes: &[Note]) {
     }
 }
 
-/// A dialplan as it is shown without its notes, and its listing.
+/// A dialplan, shown without its notes, and its listing.
 #[derive(Drop)]
 struct Listed {
     shown: String,
@@ -82,7 +82,7 @@ fn shown_and_listed(alloc: Global, plan: &Dialplan) -> Result<Listed, NoMemory> 
     Ok(Listed { shown, bytes })
 }
 
-/// The dialplan of a listing and its own listing.
+/// The dialplan that a listing loads as, and the listing of that dialplan.
 fn listed_again(rt: &impl Abort, alloc: Global, listing: &[u8]) -> Result<Listed, Fail> {
     let (plan, notes) = Dialplan::load(alloc, listing)?;
     check_notes(rt, &notes);
@@ -94,7 +94,7 @@ fn check_same(rt: &impl Abort, got: &Listed, want: &Listed, asked: &str) {
     assert!(rt; got.bytes.as_slice() == want.bytes.as_slice(), "of {asked}");
 }
 
-/// A listing loads as the same dialplan, without notes but on includes, and lists as the same text.
+/// Checks that a listing loads as the same dialplan, with notes only on includes, and that this is listed as the same text.
 fn check_listing(rt: &impl Abort, alloc: Global, plan: &Dialplan, asked: &str) -> Result<(), Fail> {
     let first = shown_and_listed(alloc, plan)?;
     let again = listed_again(rt, alloc, &first.bytes)?;
@@ -126,7 +126,7 @@ fn check_all_tables(rt: &impl Abort, alloc: Global, tables: &[&str]) -> Result<(
     Ok(())
 }
 
-/// The dialplans of all tables of the loader, of orders and of listings.
+/// Checks the listings of the dialplans in all tables of the loader, of orders and of listings.
 fn check_listings(rt: &impl Abort, alloc: Global) -> Result<(), Fail> {
     check_all_tables(rt, alloc, tables_of_texts())?;
     check_all_tables(rt, alloc, tables_of_parts())?;
@@ -139,7 +139,7 @@ fn a_listing_loads_as_the_same_dialplan(rt: HostRuntime) -> Result<(), Fail> {
     check_listings(&rt, rt.alloc())
 }
 
-/// A line says the text that it writes escaped.
+/// A text with its semicolons escaped.
 struct Escapes;
 
 impl Question for Escapes {
@@ -168,8 +168,8 @@ fn check_tables(alloc: Global) -> Result<(), Fail> {
     check::<Escapes>(alloc, ESCAPES)
 }
 
-/// Dialplans list so, and semicolons are escaped so.
+/// Dialplans are listed, and semicolons are escaped.
 #[test]
-fn dialplans_list_so(rt: HostRuntime) -> Result<(), Fail> {
+fn dialplans_are_listed_and_semicolons_are_escaped(rt: HostRuntime) -> Result<(), Fail> {
     check_tables(rt.alloc())
 }

@@ -1,38 +1,100 @@
-//! What is reported of dialplans that are read from files, worked out by hand from the rules of configuration files.
+//! Reports on dialplans that are read from files, worked out by hand from the rules of configuration files.
 use dp_case_tables::{Question, bytes_of, check, push_bytes, text_of};
 use dp_conf::Text;
-use dp_files::{FileMap, NamedText};
-use dp_notices::{PlanFiles, Shown, check_plan, print_notices, read_plan};
+use dp_files::{FileMap, MadeLine, NamedText};
+use dp_notices::{Moment, PlanFiles, Shown, check_plan, print_notices, read_moment, read_plan};
 use std::alloc::Global;
+use std::fmt::Write;
 use std::test::Fail;
 
-/// Files, each as `NAME:TEXT` and parted by `‖`, of which `a` is the first; and what is reported of them.
+/// Files, and the report on them. Each file is written `NAME:TEXT`, with `‖` between two files. The file `a` is read first.
 const REPORTS: &str = r"
-# A dialplan without a fault has its counts.
+# The report on a dialplan without a fault has its counts.
 a:[m]\nexten => 1,1,NoOp()\n same => n,Hangup()\n[n]→ok 2 contexts 2 entries\n
-# Each fault is told at its line, and the lines behind it are read as if it were empty.
+# Each fault is reported at its line, and the lines after it are read as if that line were empty.
 a:[m]\nexten => 1,0,A()\nexten => 2,1,B(\nexten => _[],1,C()\nexten => 3,1,D()→a:2: fault 20 BadPriority\na:3: fault 23 BadApplication\na:4: fault 11 EmptySet\n3 faults\n
 a:exten => 1,1,A()\n[m]\nexten 1\n[]\nexten => 1→a:1: fault 2 NoSection\na:3: fault 4 NoEquals\na:4: fault 3 BadHeader\na:5: fault 28 ShortLine\n4 faults\n
 a:[m]\nexten => 1,1,Dial,x\ninclude => day,8:00-18:00,*,*,*\nexten => ${X},1,A()→a:2: fault OldForm\na:3: fault NoClock\na:4: fault 24 LeftOut Variable\n3 faults\n
-# A line of a template has its fault once, however many sections copy it.
+# A fault in a line of a template is reported once, however many sections copy the line.
 a:[t](!)\nexten => 1,0,A()\n[m](t)\n[n](t)→a:2: fault 20 BadPriority\n1 faults\n
-# Files stand by their names, and behind a file that is not there stands its name.
+# Notices have the names of their files. The fault of a file that is not there is followed by its name.
 a:[m]\n#include b\n#include <c d>\nexten => 1,0,A()‖b:exten => 2,0,B()→b:1: fault 20 BadPriority\na:3: fault 7 ReadFailed c d\na:4: fault 20 BadPriority\n3 faults\n
 a:[m]\n#include a→a:2: fault IncludeDepth\n1 faults\n
-# Notes of what reads the files and of the loader, in the order of the lines.
+# Notes of the file reader and of the loader, in the order of the lines.
 a:[m]\nexten => 1,hint,SIP/1\nexten => 1,1,A()\nexten => 1,1,B()\ninclude => q\nswitch => x\n;-- open→a:2: note Hint\na:4: note DoublePriority\na:5: note UnknownContext\na:6: note Switch\na:7: note OpenComment\nok 1 contexts 1 entries\n
-# A note on a line that stands among faulty ones.
+# A note on a line among faulty lines.
 a:[m]\nexten => 1,0,A()\ninclude => q→a:2: fault 20 BadPriority\na:3: note UnknownContext\n1 faults\n
 b:[m]→no file
+# The times of an include begin after a comma. A bar belongs to the name.
+a:[m]\ninclude => day|8:00-18:00|*|*|*→a:2: note UnknownContext\nok 1 contexts 0 entries\n
+# The entries that end macros are counted, and a note is at the line of its file.
+a:[macro-x]\nexten => s,1,A()\nexten => s,1,B()→a:3: note DoublePriority\nok 1 contexts 2 entries\n
+a:[macro-x]\nexten => s,1,A()\nexten => s,2,B()\n[macro-y]\nexten => s,1,MacroExit()→ok 2 contexts 4 entries\n
 ";
 
-/// Files likewise, and what is told of their faults alone, with the text that loads after a `#`.
+/// Files written in the same way, and only their faults, with the text that loads after a `#`.
 const FAULTS: &str = r"
 a:[m]\nexten => 1,hint,SIP/1\nexten => 1,0,A()\nexten => 2,1,B()→a:3: fault 20 BadPriority\n#[m]\n\nexten => 2,1,B()\n
 a:[m]\nexten => 1,1,A()\nexten => 1,n,B()→#[m]\nexten => 1,1,A()\nexten => 1,2,B()\n
 ";
 
-/// Adds a file to others, by its name and its text.
+/// Files written in the same way, and their faults with the notes on what is not followed.
+const UNFOLLOWED: &str = r"
+a:[m]\n#exec /bin/date\nswitch => x\nexten => 1,hint,S\nexten => 1,1,A()→a:2: note Exec\na:3: note Switch\n
+a:[general]\nautofallthrough=no\n[m]\nexten => 1/20,1,A()\nexten => 1,0,A()→a:2: note AutoFallThrough\na:4: note CallerId\na:5: fault 20 BadPriority\n
+";
+
+/// A moment or nothing, then a `¦` and files, and the faults and the text that loads as in `FAULTS`.
+const TIMES: &str = r"
+# Both ends of a range belong to it.
+wed 2024-01-03 09:00¦a:[m]\ninclude => day,8:00-18:00,mon-fri,*,*\n[day]→#[m]\ninclude => day\n[day]\n
+wed 2024-01-03 18:00¦a:[m]\ninclude => day,8:00-18:00,mon-fri,*,*\n[day]→#[m]\ninclude => day\n[day]\n
+wed 2024-01-03 18:01¦a:[m]\ninclude => day,8:00-18:00,mon-fri,*,*\n[day]→#[m]\n\n[day]\n
+sun 2024-01-07 09:00¦a:[m]\ninclude => day,8:00-18:00,mon-fri,*,*\n[day]→#[m]\n\n[day]\n
+# A range of times may go past midnight.
+wed 2024-01-03 23:30¦a:[m]\ninclude => night,22:00-06:00,*,*,*\n[night]→#[m]\ninclude => night\n[night]\n
+wed 2024-01-03 05:59¦a:[m]\ninclude => night,22:00-06:00,*,*,*\n[night]→#[m]\ninclude => night\n[night]\n
+wed 2024-01-03 06:01¦a:[m]\ninclude => night,22:00-06:00,*,*,*\n[night]→#[m]\n\n[night]\n
+# Missing and empty parts mean all times. Days and months count too.
+wed 2024-01-03 09:00¦a:[m]\ninclude => day,8:00-18:00→#[m]\ninclude => day\n
+wed 2024-01-03 09:00¦a:[m]\ninclude=day , , wed , 1-5 , jan→#[m]\ninclude => day\n
+wed 2024-01-10 09:00¦a:[m]\ninclude=day , , wed , 1-5 , jan→#[m]\n\n
+wed 2024-02-03 09:00¦a:[m]\ninclude=day , , wed , 1-5 , jan→#[m]\n\n
+# Without a moment, an include with times is a fault. With a moment, other faults are still reported.
+¦a:[m]\ninclude => day,8:00-18:00,*,*,*\n[day]→a:2: fault NoClock\n#[m]\n\n[day]\n
+wed 2024-01-03 09:00¦a:[m]\nexten => 1,0,A()\ninclude => day,8:00-18:00→a:2: fault 20 BadPriority\n#[m]\n\ninclude => day\n
+# Each copy of a template has its own include.
+wed 2024-01-03 09:00¦a:[t](!)\ninclude => day,8:00-18:00\n[m](t)\n[n](t)→#[m]\ninclude => day\n[n]\ninclude => day\n
+wed 2024-01-03 19:00¦a:[t](!)\ninclude => day,8:00-18:00\n[m](t)\n[n](t)→#[m]\n\n[n]\n\n
+# A macro that includes its next priority at some times ends at other times.
+wed 2024-01-03 09:00¦a:[macro-x]\nexten => s,1,A()\ninclude => more,8:00-18:00\n[more]\nexten => s,2,B()→#[macro-x]\nexten => s,1,A()\ninclude => more\n[more]\nexten => s,2,B()\n
+wed 2024-01-03 19:00¦a:[macro-x]\nexten => s,1,A()\ninclude => more,8:00-18:00\n[more]\nexten => s,2,B()→#[macro-x]\nexten => s,1,A()\n\n[more]\nexten => s,2,B()\n[macro-x]\nexten => s,2,MacroExit()\n
+";
+
+/// Files, and each line of the text that loads, after the line of a file from which it is made.
+const MACROS: &str = r"
+a:[m]\nexten => 1,1,Macro(x)\n[macro-x]\nexten => s,1,A()\nexten => s,2,B()→a:1 [m]\na:2 exten => 1,1,Macro(x)\na:3 [macro-x]\na:4 exten => s,1,A()\na:5 exten => s,2,B()\na:5 [macro-x]\na:5 exten => s,3,MacroExit()\n
+# A macro that leaves itself needs no end, and neither does a context that is not a macro.
+a:[macro-x]\nexten => s,1,A()\nexten => s,2,macroexit→a:1 [macro-x]\na:2 exten => s,1,A()\na:3 exten => s,2,macroexit\n
+a:[macro]\nexten => s,1,A()\n[Macro-x]\nexten => s,1,A()→a:1 [macro]\na:2 exten => s,1,A()\na:3 [Macro-x]\na:4 exten => s,1,A()\n
+a:[macro-x]\n[m]→a:1 [macro-x]\na:2 [m]\n
+# Two extensions, in the order of their last entries. Their names are written without dashes.
+a:[macro-x]\nexten => s,1,A()\nexten => s-BUSY,1,B()\nexten => s,2,C()→a:1 [macro-x]\na:2 exten => s,1,A()\na:3 exten => s-BUSY,1,B()\na:4 exten => s,2,C()\na:3 [macro-x]\na:3 exten => sBUSY,2,MacroExit()\na:4 exten => s,3,MacroExit()\n
+# A step into a gap finds nothing.
+a:[macro-x]\nexten => s,1,A()\nexten => s,2,B()\nexten => s,5,C()→a:1 [macro-x]\na:2 exten => s,1,A()\na:3 exten => s,2,B()\na:4 exten => s,5,C()\na:3 [macro-x]\na:3 exten => s,3,MacroExit()\na:4 exten => s,6,MacroExit()\n
+# A step may find the next priority in a pattern or in an included context.
+a:[macro-x]\nexten => s1,1,A()\nexten => _s.,1,B()\nexten => _s.,2,C()→a:1 [macro-x]\na:2 exten => s1,1,A()\na:3 exten => _s.,1,B()\na:4 exten => _s.,2,C()\na:4 [macro-x]\na:4 exten => _s.,3,MacroExit()\n
+a:[macro-x]\nexten => s,1,A()\ninclude => more\n[more]\nexten => s,2,B()→a:1 [macro-x]\na:2 exten => s,1,A()\na:3 include => more\na:4 [more]\na:5 exten => s,2,B()\n
+# There is no place after the greatest priority.
+a:[macro-x]\nexten => s,2147483647,A()→a:1 [macro-x]\na:2 exten => s,2147483647,A()\n
+# A macro in two files, and a macro with a faulty line.
+a:[macro-x]\nexten => s,1,A()\n#include b‖b:exten => s,2,B()\n[macro-y]\nexten => s,1,C()→a:1 [macro-x]\na:2 exten => s,1,A()\nb:1 exten => s,2,B()\nb:2 [macro-y]\nb:3 exten => s,1,C()\nb:1 [macro-x]\nb:1 exten => s,3,MacroExit()\nb:3 [macro-y]\nb:3 exten => s,2,MacroExit()\n
+a:[macro-x]\nexten => s,1,A()\nexten => s,2,B(\n[m]→a:1 [macro-x]\na:2 exten => s,1,A()\na:3 \na:4 [m]\na:2 [macro-x]\na:2 exten => s,2,MacroExit()\n
+# A semicolon in a name is written as in any line.
+a:[macro-x\\;y]\nexten => 1\\;2,1,A()→a:1 [macro-x\\;y]\na:2 exten => 1\\;2,1,A()\na:2 [macro-x\\;y]\na:2 exten => 1\\;2,2,MacroExit()\n
+";
+
+/// Adds a file to others, with its name and its text.
 fn add_file(alloc: Global, map: &mut FileMap, file: &str) -> Result<(), Fail> {
     let (name, text) = file.split_once(':').ok_or("no name")?;
     let name = Text::copy_of(alloc, name.as_bytes())?;
@@ -41,13 +103,18 @@ fn add_file(alloc: Global, map: &mut FileMap, file: &str) -> Result<(), Fail> {
     Ok(())
 }
 
-/// Reads the file `a` with those that it includes, or nothing where it is not there.
-fn read(alloc: Global, files: &str) -> Result<Option<PlanFiles>, Fail> {
+/// Reads the file `a` and the files that it includes, at a moment if one is given. The result is `None` if the file is not there.
+fn read_at(alloc: Global, clock: Option<Moment>, files: &str) -> Result<Option<PlanFiles>, Fail> {
     let mut map = FileMap::new(alloc);
     for file in files.split('‖') {
         add_file(alloc, &mut map, file)?;
     }
-    Ok(read_plan(alloc, &mut map, b"a").ok())
+    Ok(read_plan(alloc, &mut map, b"a", clock).ok())
+}
+
+/// The same without a moment.
+fn read(alloc: Global, files: &str) -> Result<Option<PlanFiles>, Fail> {
+    read_at(alloc, None, files)
 }
 
 fn report_of(alloc: Global, plan: &PlanFiles) -> Result<String, Fail> {
@@ -64,6 +131,32 @@ fn faults_of(alloc: Global, plan: &PlanFiles) -> Result<String, Fail> {
     push_bytes(&mut out, &faults)?;
     out.push('#')?;
     push_bytes(&mut out, &text)?;
+    Ok(out)
+}
+
+fn unfollowed_of(alloc: Global, plan: &PlanFiles) -> Result<String, Fail> {
+    let notices = print_notices(alloc, Shown::Unfollowed, plan)?;
+    let mut out = String::new(alloc);
+    push_bytes(&mut out, &notices)?;
+    Ok(out)
+}
+
+/// Adds the line of a file from which a line is made, and then that line.
+fn push_made(out: &mut String, plan: &PlanFiles, made: &MadeLine) -> Result<(), Fail> {
+    let noted = plan.lines.get(made.source).ok_or("no line")?;
+    let file = plan.files.get(noted.line.file).ok_or("no file")?;
+    push_bytes(out, file.name.bytes())?;
+    write!(out, ":{} ", noted.line.line)?;
+    push_bytes(out, made.text.bytes())?;
+    out.push('\n')?;
+    Ok(())
+}
+
+fn made_of(alloc: Global, plan: &PlanFiles) -> Result<String, Fail> {
+    let mut out = String::new(alloc);
+    for made in &plan.made {
+        push_made(&mut out, plan, made)?;
+    }
     Ok(out)
 }
 
@@ -89,12 +182,61 @@ impl Question for Faults {
     }
 }
 
+struct Unfollowed;
+
+impl Question for Unfollowed {
+    fn answer(alloc: Global, asked: &str) -> Result<String, Fail> {
+        match read(alloc, asked)? {
+            Some(plan) => unfollowed_of(alloc, &plan),
+            None => text_of(alloc, "no file"),
+        }
+    }
+}
+
+struct Times;
+
+impl Question for Times {
+    fn answer(alloc: Global, asked: &str) -> Result<String, Fail> {
+        let (clock, files) = asked.split_once('¦').ok_or("no moment")?;
+        match read_at(alloc, read_moment(clock.as_bytes()), files)? {
+            Some(plan) => faults_of(alloc, &plan),
+            None => text_of(alloc, "no file"),
+        }
+    }
+}
+
+struct Macros;
+
+impl Question for Macros {
+    fn answer(alloc: Global, asked: &str) -> Result<String, Fail> {
+        match read(alloc, asked)? {
+            Some(plan) => made_of(alloc, &plan),
+            None => text_of(alloc, "no file"),
+        }
+    }
+}
+
 #[test]
-fn dialplans_of_files_have_these_reports(rt: HostRuntime) -> Result<(), Fail> {
+fn reports_have_all_notices_at_their_lines(rt: HostRuntime) -> Result<(), Fail> {
     check::<Reports>(rt.alloc(), REPORTS)
 }
 
 #[test]
-fn faults_are_told_alone_and_lines_with_one_are_empty(rt: HostRuntime) -> Result<(), Fail> {
+fn faults_are_printed_alone_and_faulty_lines_are_empty(rt: HostRuntime) -> Result<(), Fail> {
     check::<Faults>(rt.alloc(), FAULTS)
+}
+
+#[test]
+fn notes_on_what_is_not_followed_are_printed_with_the_faults(rt: HostRuntime) -> Result<(), Fail> {
+    check::<Unfollowed>(rt.alloc(), UNFOLLOWED)
+}
+
+#[test]
+fn includes_with_times_are_read_at_a_moment(rt: HostRuntime) -> Result<(), Fail> {
+    check::<Times>(rt.alloc(), TIMES)
+}
+
+#[test]
+fn macros_end_where_a_step_finds_nothing(rt: HostRuntime) -> Result<(), Fail> {
+    check::<Macros>(rt.alloc(), MACROS)
 }

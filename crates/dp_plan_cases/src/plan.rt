@@ -1,4 +1,4 @@
-//! Dialplans and how they load, worked out by hand from the rules.
+//! How dialplans load, worked out by hand from the rules.
 pub(crate) mod cuts;
 pub(crate) mod every_fault;
 pub(crate) mod faults;
@@ -37,9 +37,9 @@ const OF_TEXTS: &[&str] = &[
     plans::ONE_DIALPLAN,
 ];
 
-/// The tables of texts with what they load as, or their fault: these are of whole dialplans and of their lines.
+/// The tables on whole dialplans and their lines: texts, and what each loads as, or its fault.
 ///
-/// One function has these, and one those of the parts of lines, since each function with many tables is dear.
+/// The tables on the parts of lines have a function of their own, since a function with many tables is costly.
 pub(crate) fn tables_of_texts() -> &'static [&'static str] {
     OF_TEXTS
 }
@@ -62,7 +62,7 @@ const OF_PARTS: &[&str] = &[
     faults::OF_A_TEXT,
 ];
 
-/// The tables of texts that are of names, priorities, labels, includes and faults.
+/// The tables on names, priorities, labels, includes and faults.
 pub(crate) fn tables_of_parts() -> &'static [&'static str] {
     OF_PARTS
 }
@@ -73,16 +73,16 @@ fn check_loads(alloc: Global) -> Result<(), Fail> {
 }
 
 #[test]
-fn texts_load_so(rt: HostRuntime) -> Result<(), Fail> {
+fn texts_load_as_a_dialplan_or_have_their_fault(rt: HostRuntime) -> Result<(), Fail> {
     check_loads(rt.alloc())
 }
 
 #[test]
-fn fronts_load_or_have_a_fault_of_their_last_line(rt: HostRuntime) -> Result<(), Fail> {
+fn cut_texts_load_or_have_a_fault_in_their_last_line(rt: HostRuntime) -> Result<(), Fail> {
     check::<Fronts>(rt.alloc(), cuts::CUT)
 }
 
 #[test]
-fn texts_have_these_faults(rt: HostRuntime) -> Result<(), Fail> {
+fn every_fault_of_a_text_is_reported(rt: HostRuntime) -> Result<(), Fail> {
     check::<EveryFault>(rt.alloc(), every_fault::EVERY)
 }

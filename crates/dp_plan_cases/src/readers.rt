@@ -4,21 +4,21 @@ use dp_plan::{Context, Dialplan, Entry, EntryId, MOST_PRIORITY, NoMemory, Note, 
 use std::alloc::Global;
 use std::test::Fail;
 
-/// Two contexts, of which the first has two sections, and the second no entry.
+/// Two contexts. The first has two sections, and the second has no entries.
 const PLAN: &[u8] =
     b"[globals]\nB=2\nA=1\nB=3\n[main]\nexten => s,1,NoOp(a,b)\nexten => s,1,Wait()\n\
 [Out]\n[main]\nexten => 100,7,Hangup\nold=x\n";
 
-/// Three contexts with patterns, labels and includes, of which the last has nothing.
+/// Three contexts with patterns, labels and includes. The last is empty.
 const NAMED: &[u8] = b"[main]\nexten => _1XX,2(more),Second()\nexten => _X.,1,Any(x)\n\
 exten => 1-23,1( top ),Plain()\nexten => _[1]xx,1,First()\ninclude => out\n\
 [out]\ninclude => nowhere\ninclude => main\nexten => s,1,Out()\ninclude => nowhere\n\
 [Out]\n[main]\ninclude => main\nexten => 123,1(more),Again()\nexten => _1XX,3(more),Third()\n";
 
-/// The empty name may be included, and is no context.
+/// The empty name may be included, but is not a context.
 const EMPTY: &[u8] = b"[m]\ninclude =>\nexten => s,1,A\n";
 
-/// An entry as its name in its one spelling, and its priority with the label.
+/// Adds the name of an entry in its one spelling, and its priority with the label.
 fn push_place(out: &mut String, alloc: Global, entry: &Entry) -> Result<(), NoMemory> {
     let name = Text::new(entry.name.name().text(alloc)?);
     write!(out, "{name} {}", entry.priority.get())?;
@@ -28,7 +28,7 @@ fn push_place(out: &mut String, alloc: Global, entry: &Entry) -> Result<(), NoMe
     }
 }
 
-/// An entry as its name, its priority with the label, its application and its arguments, or `none`.
+/// Adds the name of an entry, its priority with the label, its application and its arguments, or `none`.
 fn push_found(out: &mut String, alloc: Global, found: Option<&Entry>) -> Result<(), NoMemory> {
     match found {
         None => out.push_str("none"),
@@ -46,7 +46,7 @@ fn push_number(out: &mut String, number: Option<usize>) -> Result<(), NoMemory> 
     }
 }
 
-/// Names of contexts, each as `{+NAME}`.
+/// Adds names of contexts, each as `{+NAME}`.
 fn push_includes(out: &mut String, includes: &[Text]) -> Result<(), NoMemory> {
     for name in includes {
         write!(out, "{{+{name}}}")?;
@@ -54,7 +54,7 @@ fn push_includes(out: &mut String, includes: &[Text]) -> Result<(), NoMemory> {
     Ok(())
 }
 
-/// Numbers of entries, each as `<CONTEXT,ENTRY>`.
+/// Adds numbers of entries, each as `<CONTEXT,ENTRY>`.
 fn push_ids(out: &mut String, ids: &[EntryId]) -> Result<(), NoMemory> {
     for id in ids {
         write!(out, "<{},{}>", id.context, id.entry)?;
@@ -62,7 +62,7 @@ fn push_ids(out: &mut String, ids: &[EntryId]) -> Result<(), NoMemory> {
     Ok(())
 }
 
-/// The contexts, each as `[NAME]` with the numbers of its entries and of its includes.
+/// Adds the contexts, each as `[NAME]` with how many entries and how many includes it has.
 fn push_contexts(out: &mut String, plan: &Dialplan) -> Result<(), NoMemory> {
     for context in plan.contexts() {
         let (entries, includes) = (context.entries().len(), context.includes().len());
@@ -71,7 +71,7 @@ fn push_contexts(out: &mut String, plan: &Dialplan) -> Result<(), NoMemory> {
     Ok(())
 }
 
-/// What each context says of its includes.
+/// Adds the includes of each context, as the context gives them.
 fn push_all_includes(out: &mut String, plan: &Dialplan) -> Result<(), NoMemory> {
     for context in plan.contexts() {
         push_includes(out, context.includes())?;
@@ -155,7 +155,7 @@ fn push_asked(
     Ok(())
 }
 
-/// What a reader of the dialplan says: the reader's name, and after a blank what it is asked.
+/// The answer of a reader of the dialplan. The question is the reader's name, and after a blank what it is asked.
 fn read(alloc: Global, plan: &Dialplan, asked: &str) -> Result<String, Fail> {
     let (reader, words) = asked.split_once(' ').ok_or("no reader")?;
     let mut out = String::new(alloc);
@@ -178,7 +178,7 @@ fn notes_of(alloc: Global, text: &[u8]) -> Result<String, Fail> {
     Ok(out)
 }
 
-/// What the readers say of one of the dialplans above, and of `notes` the notes on its lines.
+/// The answer of a reader of one of the dialplans above. The answer to `notes` is the notes on its lines.
 fn read_of(alloc: Global, text: &[u8], asked: &str) -> Result<String, Fail> {
     if asked == "notes" {
         return notes_of(alloc, text);
@@ -221,7 +221,7 @@ impl Question for OfNothing {
 
 /// A dialplan is read by numbers and names.
 const READ_OF_PLAN: &str = r"
-# Contexts are in the order of first appearance, and global variables in that of the file.
+# Contexts are in the order of first appearance, and global variables in the order of the file.
 contexts →[main]2,0[Out]0,0
 globals →{B=2}{A=1}{B=3}
 # Entries are read by their numbers.
@@ -233,7 +233,7 @@ entry 1 0→none
 entry 2 0→none
 entry 18446744073709551615 0→none
 entry 18446744073709551615 18446744073709551615→none
-# The names of contexts are compared with case, and settings and global variables are no contexts.
+# Case counts in the names of contexts. Settings and global variables are not contexts.
 number_of main→0
 number_of Out→1
 number_of out→none
@@ -254,7 +254,7 @@ entry 0 1→_X. 1 Any (x)
 entry 0 2→123 1(top) Plain ()
 entry 0 3→_1XX 1 First ()
 entry 1 0→s 1 Out ()
-# Includes are in the order of the file, as often as they are written, whether there is such a context or not.
+# Includes are in the order of the file, as often as they are written, whether or not there is such a context.
 includes main→{+out}{+main}
 includes out→{+nowhere}{+main}{+nowhere}
 includes Out→
@@ -269,7 +269,7 @@ includes_at 2→
 includes_at 3→
 includes_at 18446744073709551615→
 context.includes →{+out}{+main}.{+nowhere}{+main}{+nowhere}..
-# Plain names come before patterns, the more specific pattern first, and one name is in the order of its priorities.
+# Plain names come before patterns, and more specific patterns before others. Entries of one name are in the order of their priorities.
 ranked main→<0,2><0,3><0,0><0,1>
 ranked out→<1,0>
 ranked Out→
@@ -297,7 +297,7 @@ ranked →
 notes→2 UnknownContext,
 ";
 
-/// An empty file has nothing.
+/// An empty file loads as an empty dialplan.
 const READ_OF_NOTHING: &str = r"
 globals →
 contexts →
@@ -324,7 +324,7 @@ fn number_text(alloc: Global, number: Option<u32>) -> Result<String, Fail> {
     Ok(out)
 }
 
-/// The number of the priority that is made of a number, or `none`; and of `most` the greatest of them.
+/// The priority with a number, or `none`. The answer to `most` is the greatest priority.
 struct Limits;
 
 impl Question for Limits {
@@ -337,7 +337,7 @@ impl Question for Limits {
     }
 }
 
-/// Priorities have these limits.
+/// The limits of priorities.
 const LIMITS: &str = r"
 0→none
 1→1
@@ -363,7 +363,7 @@ fn compared_globals(alloc: Global, left: &[u8], right: &[u8]) -> Result<String, 
     text_of(alloc, if is_same { "same" } else { "other" })
 }
 
-/// Whether the texts on both sides of a bar have the same global variables: these compare by all that they hold.
+/// Whether the texts on both sides of a bar have the same global variables. These are compared by all that they hold.
 struct SameGlobals;
 
 impl Question for SameGlobals {
@@ -416,7 +416,7 @@ fn push_bytes_of_context(
     write!(out, "{:?}", context.includes())
 }
 
-/// A dialplan in which each byte that is no character shows its number.
+/// Adds a dialplan. Each byte that is not a character is shown by its number.
 fn push_bytes(out: &mut String, alloc: Global, plan: &Dialplan) -> Result<(), NoMemory> {
     for global in plan.globals() {
         write!(out, "{{{:?}={:?}}}", global.name, global.value)?;
@@ -458,7 +458,7 @@ fn shown_bytes(alloc: Global, plan: &Dialplan, notes: &[Note]) -> Result<String,
     Ok(out)
 }
 
-/// Bytes above 127 are kept as they are, and those of a set are in byte order.
+/// Bytes above 127 are kept as they are, and the bytes of a set are in byte order.
 const HIGH_BYTES: &str = r#"
 [globals]\n\xFF=\x80\x81\n[\xFE]\nexten => \xFF-\x80,1(\xFD),\xC3(\xA9\x00)\nexten => _[\xFF\x80a]\xE9,1,A\ninclude => \xFC\n→{"\\xff"="\\x80\\x81"}["\\xfe"]<"\\xff\\x80" Some("\\xfd") "\\xc3" "\\xa9\\0"><"_[a\\x80\\xff]\\xe9" None "A" "">["\\xfc"]6 UnknownContext,
 "#;
@@ -472,7 +472,7 @@ fn check_readers(alloc: Global) -> Result<(), Fail> {
 
 /// Dialplans are read by numbers and names.
 #[test]
-fn dialplans_are_read_so(rt: HostRuntime) -> Result<(), Fail> {
+fn dialplans_are_read_by_numbers_and_names(rt: HostRuntime) -> Result<(), Fail> {
     check_readers(rt.alloc())
 }
 
@@ -484,6 +484,6 @@ fn check_values(alloc: Global) -> Result<(), Fail> {
 
 /// Priorities have limits, global variables compare, and bytes above 127 are kept.
 #[test]
-fn values_are_kept_so(rt: HostRuntime) -> Result<(), Fail> {
+fn priorities_globals_and_high_bytes_keep_their_values(rt: HostRuntime) -> Result<(), Fail> {
     check_values(rt.alloc())
 }

@@ -1,4 +1,4 @@
--- What a check of a dialplan and of queues writes.
+-- The output of a check of a dialplan and of queues.
 use Rattle.std.proofs.Common.{◌≡◌, ℕ, Bool, true, false, List, ◌++◌, Option, Some, None, Result, Ok, Err, refl, sym, ap, ◌∙◌, subst}
 use Rattle.std.proofs.KnownBytes.{Appends-nil}
 use Rattle.std.proofs.lemmas.List.{append_assoc}
@@ -18,7 +18,7 @@ use Rattle.dp_program.specs.Checks.{after_plan, both_report, check_by, queues_re
 use Rattle.dp_program.proofs.ReadsLemmas.{Refuses-next, by_reason}
 use Rattle.dp_program.proofs.ServesLemmas.{reports_lacks}
 
--- a write, and a failed one after it
+-- a write, then a write that fails
 front_after : (old mid new : Option (List ℕ)) (first second : List ℕ) → Appends old mid first → AppendsFront mid new second → AppendsFront old new (first ++ second)
 front_after None mid new first second wrote failed = tt
 front_after (Some xs) None new first second wrote failed = absurd wrote
@@ -38,26 +38,26 @@ appends_after (Some xs) (Some ys) None first second wrote more = more
 appends_after (Some xs) (Some ys) (Some zs) first second wrote more =
     more ∙ (ap (λ (t : List ℕ). t ++ second) wrote ∙ append_assoc xs first second)
 
--- where the report is refused
+-- if the report is refused
 pub line_refused : (old new : Option (List ℕ)) (line : List ℕ) (given : Result (List ℕ) PbxFault) (fault : PbxFault) → Reports old new given (Err fault) → Reports old new (with_line line given) (Err fault)
 line_refused old new line (Ok said) (Coded code at) reports = (AppendsFront-more old new said line reports.0, reports.1, reports.2)
 line_refused old new line (Ok said) NoMemory reports = reports
 line_refused old new line (Err first) (Coded code at) reports = reports
 line_refused old new line (Err first) NoMemory reports = reports
 
--- where the line is written after it
+-- if the line is written after the report
 pub line_written : (old mid new : Option (List ℕ)) (line : List ℕ) (given : Result (List ℕ) PbxFault) (status : ℕ)
     → Reports old mid given (Ok status) → Appends mid new line → Reports old new (with_line line given) (Ok 0)
 line_written old mid new line (Ok said) status reports wrote = (appends_after old mid new said line reports.0 wrote, refl)
 line_written old mid new line (Err first) status reports wrote = absurd reports
 
--- and where it is not
+-- if it is not
 pub line_failed : (old mid new : Option (List ℕ)) (line : List ℕ) (given : Result (List ℕ) PbxFault) (status : ℕ)
     → Reports old mid given (Ok status) → AppendsFront mid new line → Reports old new (with_line line given) (Err (Coded WriteFailed None))
 line_failed old mid new line (Ok said) status reports failed = (front_after old mid new said line reports.0 failed, refl, refl)
 line_failed old mid new line (Err first) status reports failed = absurd reports
 
--- where the queues have a fault, and the dialplan may have one before
+-- if the queues have a fault, and possibly the dialplan before them
 both_by : {Z : Type 0} (read : Result Z LoadFault) (said : Z → List ℕ) (queues : Result (List ℕ) PbxFault) (fault : PbxFault)
     → Refuses (reason_of fault) (plan_fault read >>= λ z. queues)
     → Refuses (reason_of fault) ((plan_fault read >>= λ z. Ok (said z)) >>= λ text. queues >>= λ line. Ok (text ++ line))
@@ -79,7 +79,7 @@ both_refused old explains path plan queues fault refused =
     by_reason (λ fault given. Reports old old given (Err fault)) (λ code line. (Appends-nil old, refl)) (reports_lacks old) fault (both_report explains path plan queues)
     (both_refused_by explains path plan queues fault refused)
 
--- where they have none
+-- if the queues have no fault
 pub both_written : (old new : Option (List ℕ)) (explains : Bool) (path plan queues line : List ℕ) (result : Result ℕ PbxFault) → queues_report queues ≡ Ok line
     → Reports old new (with_line line (check_by explains path plan)) result → Reports old new (both_report explains path plan queues) result
 both_written old new explains path plan queues line result is reports =

@@ -1,4 +1,4 @@
--- A name that just one entry has, and the line with which each entry begins.
+-- A name that exactly one entry has, and the first line of each entry.
 use Rattle.std.proofs.Common.{◌≡◌, ℕ, ◌++◌, [], Option, Some, None, true, refl}
 use Rattle.std.specs.Fmt.{digits}
 use Rattle.std.specs.Option.{option_to_list}
@@ -15,7 +15,7 @@ use Rattle.dp_plan.specs.declared.fault.PlanKind.TheVariants.{BadPriority, NoPre
 use Rattle.dp_program.specs.Entries.{entry_of, found_entry, is_headed, only}
 use Rattle.dp_queue.specs.declared.fault.QueueKind.TheVariants.{BadStrategy, BadNumber, DoubleQueue, LeftOut as queue_left_out}
 
--- what was found is the one of a list that has no more
+-- the element that was found is the only one in the list
 pub only_first : (found : Option ℕ) → only (option_to_list found ++ []) ≡ found
 only_first None = refl
 only_first (Some number) = refl
@@ -63,7 +63,7 @@ headed-fault (Settle NoMemory) = refl
 headed-fault BadScript = refl
 headed-fault BadBreak = refl
 
--- and so does that of a refusal
+-- and so does the entry of a refusal
 pub headed-refusal : (refusal : Refusal) → is_headed (refusal_code refusal) (refusal_name refusal) (entry_of (refusal_code refusal)) ≡ true
 unfolding found_entry digits
 headed-refusal NoChannel = refl

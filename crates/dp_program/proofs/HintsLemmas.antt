@@ -1,4 +1,4 @@
--- A dialplan that is refused for what is told of it is refused for what is reported of it.
+-- A dialplan that is refused for one use is refused for another.
 use Rattle.std.proofs.Common.{◌≡◌, ℕ, Bool, true, false, List, Option, Result, Ok, Err, refl, ap}
 use Rattle.std.proofs.KnownBytes.{Appends-nil}
 use Rattle.dp_conf.specs.Answers.{Refuses, ◌>>=◌}
@@ -19,7 +19,7 @@ use Rattle.dp_wide_runs.specs.Kinds.{ChoiceOf}
 use Rattle.dp_wide_runs.specs.WideAudits.{WritesChoice, plan_of}
 use Rattle.dp_program.proofs.ServesLemmas.{audits_lacks, choices_lacks, reports_lacks}
 
--- what is refused for one thing of a dialplan is refused for another
+-- if a dialplan is refused for one use it is refused for another, with the same fault
 same_refused : {X Y Z : Type 0} (read : Result Z LoadFault) (next : Z → X) (other : Z → Y) (fault : PbxFault)
     → Refuses (reason_of fault) (plan_fault read >>= λ z. Ok (next z)) → Refuses (reason_of fault) (plan_fault read >>= λ z. Ok (other z))
 same_refused (Ok z) next other (Coded code line) refused = absurd cc

@@ -1,4 +1,4 @@
--- What a file may hold, by what reading it gave.
+-- What a file may contain, given the result of reading it.
 use Rattle.std.proofs.Common.{◌≡◌, ◌<◌, ◌+◌, ◌⊎◌, inl, inr, ℕ, Bool, true, false, cond, nat_le, List, length, replicate, Option, Some, None, Result, Ok, Err, refl, ap, sym, subst, ◌∙◌, arith}
 use Rattle.std.proofs.lemmas.Bool.{leb-false}
 use Rattle.std.proofs.lemmas.List.{length-replicate}
@@ -40,7 +40,7 @@ whole_long : (known : List ℕ) (short : Bool) → nat_le (length known) most_by
 whole_long known true is same = absurd cc
 whole_long known false is same = leb-false (length known) most_bytes is
 
--- a text with more bytes than so many
+-- a text with more bytes than this
 longer : (count : ℕ) → (bytes : List ℕ) × (count < length bytes)
 longer count = (replicate (count + 1) 0, omega (arith, length-replicate {A = ℕ} (count + 1) 0))
 
@@ -50,7 +50,7 @@ long_of source None text of is long = ((longer most_bytes).0, (longer most_bytes
 long_of source (Some known) text of is long =
     (known, whole_long known (nat_le (length known) most_bytes) refl (sym is ∙ long), subst (λ bytes. AreBytes bytes known) (sym of) refl)
 
--- a file that was too long may hold more bytes than a file may have
+-- if a file was too long, it may contain more bytes than allowed
 read_long : (source : Source) → Reads source (λ text. text ≡ Err (Coded TooLong None)) → MayRead (MayHold source) long_text
 read_long source reads = by reads.given
   where
@@ -67,7 +67,7 @@ long_at : (source : Source) (line : Option ℕ) → is_read_fault (Coded TooLong
 long_at source None reader reads = read_long source reads
 long_at source (Some line) reader reads = absurd cc
 
--- the same of a fault by its code
+-- the same for a fault, given its code
 pub read_long-fault : (source : Source) (fault : PbxFault) (code : Code) (line : Option ℕ) → fault ≡ Coded code line → code ≡ TooLong
     → is_read_fault fault ≡ true → Reads source (λ text. Refuses (reason_of fault) text) → MayRead (MayHold source) long_text
 read_long-fault source fault code line is same reader reads =

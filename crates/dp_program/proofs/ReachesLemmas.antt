@@ -1,4 +1,4 @@
--- What a question about the calls that come in at a context writes and answers, by what reading its files came to.
+-- The output and result of a question about the calls that come in at a context, given the results of reading its files.
 use Rattle.std.proofs.Common.{◌≡◌, ℕ, Bool, List, [], Option, Some, None, Result, Ok, Err, unwrap_or, refl, sym, ap, ◌∙◌, subst}
 use Rattle.std.specs.Option.{option_map}
 use Rattle.std.specs.Io.KnownBytes.{Appends}
@@ -21,13 +21,13 @@ use Rattle.dp_program.specs.declared.hints.Served.{Served}
 use Rattle.dp_program.proofs.ReadsLemmas.{Reads-weaker, ReadsSome-any, Refuses-next, by_reason}
 use Rattle.dp_program.proofs.ServesLemmas.{lacks_files_place, reaches_lacks, refused_first_place, refused_report_place, refused_second_place, unread_stands}
 
--- where a file has a fault
+-- if a file has a fault
 pub reaches_fault : (question : QuestionOf) (explains : Bool) (old : Option (List ℕ)) (fault : PbxFault) (given : Result Files PbxFault)
     → Refuses (reason_of fault) given → Reaches question explains given old old (Err fault)
 reaches_fault question explains old =
     by_reason (λ fault given. Reaches question explains given old old (Err fault)) (λ code line. (Appends-nil old, refl)) (reaches_lacks question explains old)
 
--- where a report is written, and where it is not
+-- if a report is written, and if it is not
 pub reaches_written : (question : QuestionOf) (explains : Bool) (old new : Option (List ℕ)) (given : Result Files PbxFault) (files : Files) (text : List ℕ) (served : Served)
     → given ≡ Ok files → IsAnswered question explains files text served.status served.hint.items → Appends old new text → Reaches question explains given old new (Ok served)
 reaches_written question explains old new given files text served is answered written =
@@ -39,13 +39,13 @@ reaches_failed question explains old new given files text status hint is answere
     subst (λ (given : Result Files PbxFault). Reaches question explains given old new (Err (Coded WriteFailed None))) (sym is)
     (record { text = text; status = status; hint = hint; answered = answered; written = written }, refl, refl)
 
--- what a question writes and answers, by what reading its files came to
+-- the output and result of a question, given the results of reading its files
 abbrev Reached : QuestionOf → Bool → Option (List ℕ) → Option (List ℕ) → Result Served Faulted → Option (List ℕ) → Result (List ℕ) PbxFault → Option (Result (List ℕ) PbxFault) → Type 0
 Reached question explains old new answered named plan queues =
     Reaches question explains (plan >>= λ plan. some_text queues >>= λ queues. files_of plan queues) old new (without_place answered)
     × StandsIn (place_of_files question.file named plan queues) answered
 
--- where its dialplan is refused
+-- if its dialplan is refused
 refused_plan_place : (path : List ℕ) (named : Option (List ℕ)) (queues : Option (Result (List ℕ) PbxFault)) (fault : PbxFault) (plan : Result (List ℕ) PbxFault)
     → Refuses (reason_of fault) plan → unread_place path fault ≡ place_of_files path named plan queues fault
 refused_plan_place path None queues = refused_report_place path
@@ -62,7 +62,7 @@ reach_refused_plan files question explains old unread at reads =
       unread_stands unread unread.fault ∙ (ap (λ path. unread_place path unread.fault) at ∙ refused_plan_place question.file question.queues queues unread.fault plan refused),
     ))) reads
 
--- where its queues are, after the dialplan
+-- if its queues are refused, after the dialplan was read
 only_memory : (fault : PbxFault) → Refuses (reason_of fault) (some_text None) → fault ≡ NoMemory
 only_memory (Coded code line) refused = absurd cc
 only_memory NoMemory refused = refl
@@ -100,7 +100,7 @@ reach_refused_queues files question explains old read unread at is reads =
     (λ plan plan_is. subst (λ plan. ReadsSome (option_map files question.queues) (Reached question explains old old (Err (unread_fault unread)) question.queues plan)) (sym plan_is)
     (refused_queues files question explains old read unread question.queues at reads)) is
 
--- where all of its files are read
+-- if all its files are read
 some_read : (text : Result (List ℕ) PbxFault) (held : Option (List ℕ)) → some_text (Some text) ≡ Ok held → (t : List ℕ) × (text ≡ Ok t) × (held ≡ Some t)
 some_read (Ok t) held is = (t, refl, (let same : held ≡ Some t = cc in same))
 some_read (Err fault) held is = absurd cc

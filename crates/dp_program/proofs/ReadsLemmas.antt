@@ -1,4 +1,4 @@
--- What reading sources came to.
+-- The results of reading sources.
 use Rattle.std.proofs.Common.{◌≡◌, ◌||◌, ℕ, Bool, true, false, List, [], Option, Some, None, IfSome, Result, Ok, Err, inl, inr, refl, sym, ap, subst, unwrap_or}
 use Rattle.dp_conf.specs.Answers.{Refuses, ◌>>=◌}
 use Rattle.dp_conf.specs.Whole.{whole_of, length_fault, is_read_failed}
@@ -13,11 +13,11 @@ use Rattle.dp_program.specs.Files.{Source, IsTextOf, Reads, is_read_fault, read_
 use Rattle.dp_program.specs.Faulted.{unread_or, unread_path, unread_place}
 use Rattle.dp_program.specs.Texts.{OfRun, ReadsSome, ReadsTexts, all_texts, some_text}
 
--- what holds of what was read, and what follows from it
+-- what holds of a result of reading, and what follows from it
 pub Reads-weaker : {source : Source} (P Q : Result (List ℕ) PbxFault → Type 0) → ((text : Result (List ℕ) PbxFault) → P text → Q text) → Reads source P → Reads source Q
 Reads-weaker P Q weaker reads = record { text = reads.text; given = reads.given; holds = weaker reads.text reads.holds }
 
--- some text of the bytes, or that they are too many
+-- either the bytes as a text, or that there are too many
 text_by : Option (List ℕ) → Result (List ℕ) PbxFault
 text_by None = Ok []
 text_by (Some bytes) = whole_text bytes
@@ -27,12 +27,12 @@ unfolding text_by
 IsTextOf-text_by None = tt
 IsTextOf-text_by (Some bytes) = refl
 
--- each source gives something
+-- each source gives a result
 pub Reads-any : (source : Source) (P : Result (List ℕ) PbxFault → Type 0) → ((text : Result (List ℕ) PbxFault) → P text) → Reads source P
 Reads-any source P all =
     record { text = text_by source.bytes; given = inl (IsTextOf-text_by source.bytes); holds = all (text_by source.bytes) }
 
--- the same of a source that may be none
+-- the same for an optional source
 pub ReadsSome-weaker : (source : Option Source) (P Q : Option (Result (List ℕ) PbxFault) → Type 0) → ((text : Option (Result (List ℕ) PbxFault)) → P text → Q text) → ReadsSome source P → ReadsSome source Q
 ReadsSome-weaker None P Q weaker reads = weaker None reads
 ReadsSome-weaker (Some source) P Q weaker reads = Reads-weaker (λ text. P (Some text)) (λ text. Q (Some text)) (λ text. weaker (Some text)) reads
@@ -41,11 +41,11 @@ pub ReadsSome-any : (source : Option Source) (P : Option (Result (List ℕ) PbxF
 ReadsSome-any None P all = all None
 ReadsSome-any (Some source) P all = Reads-any source _ (λ text. all (Some text))
 
--- what reading each file of a run came to
+-- the results of reading each file of a run
 abbrev pub read_of : Result (List ℕ) PbxFault → Option (Result (List ℕ) PbxFault) → Option (Result (List ℕ) PbxFault) → Result (List ℕ) PbxFault → OfRun (Result (List ℕ) PbxFault)
 read_of plan queues second_plan script = record { plan = plan; queues = queues; second_plan = second_plan; script = script }
 
--- what holds of all files of a run by what holds of each
+-- a property of all files of a run, given the property of each
 pub ReadsTexts-of : (sources : OfRun Source)
     (P : Result (List ℕ) PbxFault → Type 0) (Q R : Option (Result (List ℕ) PbxFault) → Type 0) (S : Result (List ℕ) PbxFault → Type 0)
     (T : OfRun (Result (List ℕ) PbxFault) → Type 0)
@@ -55,52 +55,52 @@ ReadsTexts-of sources P Q R S T all p_read q_read r_read s_read =
     Reads-weaker P _ (λ p p_holds. ReadsSome-weaker sources.queues Q _ (λ q q_holds. ReadsSome-weaker sources.second_plan R _ (λ r r_holds.
     Reads-weaker S _ (λ s s_holds. all p q r s p_holds q_holds r_holds s_holds) s_read) r_read) q_read) p_read
 
--- what holds of all files, and what follows from it
+-- a property of all files, and what follows from it
 pub ReadsTexts-weaker : (sources : OfRun Source) (P Q : OfRun (Result (List ℕ) PbxFault) → Type 0)
     → ((read : OfRun (Result (List ℕ) PbxFault)) → P read → Q read) → ReadsTexts sources P → ReadsTexts sources Q
 ReadsTexts-weaker sources P Q weaker reads =
     Reads-weaker _ _ (λ p. ReadsSome-weaker sources.queues _ _ (λ q. ReadsSome-weaker sources.second_plan _ _ (λ r. Reads-weaker _ _ (λ s. weaker (read_of p q r s))))) reads
 
--- the files of a run give something
+-- the files of a run give results
 pub ReadsTexts-any : (sources : OfRun Source) (P : OfRun (Result (List ℕ) PbxFault) → Type 0) → ((read : OfRun (Result (List ℕ) PbxFault)) → P read) → ReadsTexts sources P
 ReadsTexts-any sources P all =
     Reads-any sources.plan _ (λ p. ReadsSome-any sources.queues _ (λ q. ReadsSome-any sources.second_plan _ (λ r.
     Reads-any sources.script _ (λ s. all (read_of p q r s)))))
 
--- what a fault comes to, where want of memory says nothing
+-- what holds of each fault with a code, and of out-of-memory, holds of every fault
 pub by_reason : {X : Type 0} (P : PbxFault → Result X PbxFault → Type 0)
     → ((code : Code) (line : Option ℕ) → P (Coded code line) (Err (Coded code line))) → ((text : Result X PbxFault) → P NoMemory text)
     → (fault : PbxFault) (text : Result X PbxFault) → Refuses (reason_of fault) text → P fault text
 by_reason P coded lacks (Coded code line) text refused = subst (P (Coded code line)) (sym refused) (coded code line)
 by_reason P coded lacks NoMemory text refused = lacks text
 
--- what was refused is refused with what comes after it
+-- a refused result stays refused, whatever comes after it
 pub Refuses-next : {X Y : Type 0} (fault : PbxFault) (text : Result X PbxFault) (next : X → Result Y PbxFault) → Refuses (reason_of fault) text → Refuses (reason_of fault) (text >>= next)
 Refuses-next (Coded code line) text next refused = ap (λ read. read >>= next) refused
 Refuses-next NoMemory text next refused = tt
 
--- the texts, by what reading each file came to, where one may be none
+-- the texts, given the result of reading each file; the queues and the second dialplan are optional
 abbrev joined_by : Result (List ℕ) PbxFault → Result (Option (List ℕ)) PbxFault → Result (Option (List ℕ)) PbxFault → Result (List ℕ) PbxFault → Result (OfRun (List ℕ)) PbxFault
 joined_by p q r s =
     p >>= λ plan. q >>= λ queues. r >>= λ second_plan. s >>= λ script. Ok (record { plan = plan; queues = queues; second_plan = second_plan; script = script })
 
--- and the path of the first that was not read
+-- and the path of the first file that was not read
 abbrev path_by : OfRun (List ℕ) → Result (List ℕ) PbxFault → Result (Option (List ℕ)) PbxFault → Result (Option (List ℕ)) PbxFault → List ℕ
 path_by paths p q r = unread_or p paths.plan (unread_or q (unwrap_or paths.queues []) (unread_or r (unwrap_or paths.second_plan []) paths.script))
 
--- the fault is the first, and stands in the file of the path
+-- the fault is the first one, and its place is the file at the path
 abbrev IsFirst : OfRun (List ℕ) → List ℕ → PbxFault → Result (List ℕ) PbxFault → Result (Option (List ℕ)) PbxFault → Result (Option (List ℕ)) PbxFault → Result (List ℕ) PbxFault → Type 0
 IsFirst paths path fault p q r s = Refuses (reason_of fault) (joined_by p q r s) × (unread_place path fault ≡ unread_place (path_by paths p q r) fault)
 
--- the same by what reading each file came to
+-- the same, given the result of reading each file
 abbrev pub IsUnread : OfRun (List ℕ) → List ℕ → PbxFault → OfRun (Result (List ℕ) PbxFault) → Type 0
 IsUnread paths path fault read = Refuses (reason_of fault) (all_texts read) × (unread_place path fault ≡ unread_place (unread_path paths read) fault)
 
--- the fault of a file that was refused stands in it, and not in a later one
+-- the place of the fault of a refused file is that file, and not a later one
 unread_here : {X : Type 0} (path later : List ℕ) (fault : PbxFault) (text : Result X PbxFault) → Refuses (reason_of fault) text → unread_place path fault ≡ unread_place (unread_or text path later) fault
 unread_here path later = by_reason (λ fault text. unread_place path fault ≡ unread_place (unread_or text path later) fault) (λ code line. refl) (λ text. refl)
 
--- the files of which the dialplan's is refused
+-- if the dialplan's file is refused
 pub texts_refused_plan : (paths : OfRun (List ℕ)) (sources : OfRun Source) (path : List ℕ) (fault : PbxFault) → path ≡ paths.plan
     → Reads sources.plan (λ text. Refuses (reason_of fault) text) → ReadsTexts sources (IsUnread paths path fault)
 texts_refused_plan paths sources path fault at reads =
@@ -109,7 +109,7 @@ texts_refused_plan paths sources path fault at reads =
     (λ p q r s refused x y z. subst (λ path. IsFirst paths path fault p (some_text q) (some_text r) s) (sym at) (Refuses-next fault p _ refused, unread_here paths.plan _ fault p refused))
     reads (ReadsSome-any sources.queues _ (λ text. tt)) (ReadsSome-any sources.second_plan _ (λ text. tt)) (Reads-any sources.script _ (λ text. tt))
 
--- that of the queues after it
+-- if the file of the queues is refused after it
 pub texts_refused_queues : (paths : OfRun (List ℕ)) (sources : OfRun Source) (path : List ℕ) (fault : PbxFault) (read : List ℕ) → path ≡ unwrap_or paths.queues []
     → Reads sources.plan (λ text. text ≡ Ok read) → ReadsSome sources.queues (λ text. Refuses (reason_of fault) (some_text text))
     → ReadsTexts sources (IsUnread paths path fault)
@@ -121,7 +121,7 @@ texts_refused_queues paths sources path fault read at is reads =
     (Refuses-next fault (some_text q) _ refused, unread_here (unwrap_or paths.queues []) _ fault (some_text q) refused)))
     is reads (ReadsSome-any sources.second_plan _ (λ text. tt)) (Reads-any sources.script _ (λ text. tt))
 
--- that of the second dialplan after both
+-- if the second dialplan's file is refused after both
 pub texts_refused_second : (paths : OfRun (List ℕ)) (sources : OfRun Source) (path : List ℕ) (fault : PbxFault) (read : List ℕ) (held : Option (List ℕ)) → path ≡ unwrap_or paths.second_plan []
     → Reads sources.plan (λ text. text ≡ Ok read) → ReadsSome sources.queues (λ text. some_text text ≡ Ok held) → ReadsSome sources.second_plan (λ text. Refuses (reason_of fault) (some_text text))
     → ReadsTexts sources (IsUnread paths path fault)
@@ -134,7 +134,7 @@ texts_refused_second paths sources path fault read held at is are reads =
     (Refuses-next fault (some_text r) _ refused, unread_here (unwrap_or paths.second_plan []) _ fault (some_text r) refused))))
     is are reads (Reads-any sources.script _ (λ text. tt))
 
--- and that of the script after all three
+-- and if the script's file is refused after all three
 pub texts_refused_script : (paths : OfRun (List ℕ)) (sources : OfRun Source) (path : List ℕ) (fault : PbxFault) (read : List ℕ) (held other : Option (List ℕ)) → path ≡ paths.script
     → Reads sources.plan (λ text. text ≡ Ok read) → ReadsSome sources.queues (λ text. some_text text ≡ Ok held) → ReadsSome sources.second_plan (λ text. some_text text ≡ Ok other)
     → Reads sources.script (λ text. Refuses (reason_of fault) text)
@@ -149,7 +149,7 @@ texts_refused_script paths sources path fault read held other at is are also rea
     (Refuses-next fault s _ refused, refl)))))
     is are also reads
 
--- the files that are all read
+-- if all files are read
 pub texts_read : (sources : OfRun Source) (plan : List ℕ) (queues second_plan : Option (List ℕ)) (script : List ℕ)
     → Reads sources.plan (λ text. text ≡ Ok plan) → ReadsSome sources.queues (λ text. some_text text ≡ Ok queues) → ReadsSome sources.second_plan (λ text. some_text text ≡ Ok second_plan)
     → Reads sources.script (λ text. text ≡ Ok script)
@@ -167,7 +167,7 @@ texts_read sources plan queues second_plan script p_read q_read r_read s_read =
     ))
     p_read q_read r_read s_read
 
--- a source that was not read whole, by the reader's fault
+-- a source that was not read whole, given the reader's fault
 pub refused_source : (bytes : Option (List ℕ)) (old new : Bool) (fault : ReadFault)
     → IfSome bytes (λ bytes. Refuses (length_fault fault) (whole_of bytes)) → new ≡ (old || is_read_failed {T = List ℕ} (Err fault))
     → Reads (source bytes new) (λ text. Refuses (reason_of (fault_of_read fault)) text)
@@ -177,7 +177,7 @@ refused_source None old new too_long refused told = record { text = Err (Coded T
 refused_source (Some bytes) old new too_long refused told = record { text = whole_text bytes; given = inl refl; holds = ap read_fault refused }
 refused_source bytes old new no_memory refused told = Reads-any (source bytes new) _ (λ text. tt)
 
--- a source of which nothing is known may have each fault of a reader
+-- a source of which nothing is known may have any fault of a reader
 pub refused_unknown : (fault : PbxFault) → is_read_fault fault ≡ true → Reads (source None true) (λ text. Refuses (reason_of fault) text)
 refused_unknown (Coded (Line kind) line) is = absurd cc
 refused_unknown (Coded (Name fault) line) is = absurd cc

@@ -1,4 +1,4 @@
--- Runs read no file: their faults are none of a reader's.
+-- Runs read no file, so they have no fault of a reader.
 use Rattle.std.proofs.Common.{◌≡◌, ℕ, ◌+◌, false, List, [], ◌∷◌, ◌++◌, length, Option, Some, None, Result, Ok, Err, refl, ap, sym, ◌∙◌}
 use Rattle.dp_conf.specs.Answers.{◌>>=◌, all_of, each_after, with_front}
 use Rattle.dp_conf.specs.Lines.{parts_of}
@@ -17,7 +17,7 @@ use Rattle.dp_commands.specs.declared.fault.PbxFault.TheVariants.{Coded, NoMemor
 use Rattle.dp_commands.specs.declared.script.ScriptLine.{ScriptLine}
 use Rattle.dp_program.specs.Files.{has_read_failed, is_failed_read}
 
--- what comes after what did not fail to be read
+-- two steps without a fault of a reader, one after the other, have no such fault
 next_reads : {X Y : Type 0} (read : Result X PbxFault) (next : X → Result Y PbxFault) → has_read_failed read ≡ false
     → ((x : X) → has_read_failed (next x) ≡ false) → has_read_failed (read >>= next) ≡ false
 next_reads (Ok x) next quiet all = all x
@@ -72,14 +72,14 @@ told_reads plan queues second_plan script =
     (λ files. next_reads {Y = RunContents} (script_of second_plan script) (λ lines. Ok (record { plan = files.plan; queues = files.queues; lines = lines }))
     (script_reads second_plan script) (λ lines. refl))
 
--- a run is none whose files were not read
+-- reading the texts of a run has no such fault
 pub run_of_reads : (plan : List ℕ) (queues second_plan : Option (List ℕ)) (script : List ℕ) → has_read_failed (run_of plan queues second_plan script) ≡ false
 unfolding run_of
 run_of_reads plan queues second_plan script =
     next_reads (contents_of plan queues second_plan script) (λ told. Ok (run_on (opening told.plan told.queues) (turns_of told.lines)))
     (told_reads plan queues second_plan script) (λ told. refl)
 
--- nor does it answer so
+-- and neither has the run
 pub writes_reads : (old new : Option (List ℕ)) (given : Result Run PbxFault) (result : Result ℕ PbxFault)
     → has_read_failed given ≡ false → Writes old new given result → has_read_failed result ≡ false
 writes_reads old new given (Ok status) quiet writes = refl

@@ -1,4 +1,4 @@
--- What a request writes and answers where it is refused: nothing, and the fault.
+-- The output and result of a request that is refused: no output, and the fault.
 use Rattle.std.proofs.Common.{◌≡◌, ℕ, Bool, true, false, List, max, Option, Some, None, Result, Ok, Err, refl, sym, ap, ◌∙◌, subst, inl, arith}
 use Rattle.std.specs.Option.{option_map}
 use Rattle.std.proofs.KnownBytes.{Appends-nil}
@@ -15,17 +15,17 @@ use Rattle.dp_files.specs.FolderFiles.{nothing_known}
 use Rattle.dp_files.specs.declared.reading.ReadingFault.{ReadingFault}
 use Rattle.dp_notices.specs.PlanFiles.{PlanFilesOf, plan_of as read_plan_of}
 use Rattle.dp_program.specs.Including.{WritesCheck, checked, place_of_plan}
-use Rattle.dp_notices.specs.declared.printing.Shown.TheVariants.{Faults, Unfollowed}
 use Rattle.dp_program.specs.Checks.{both_report}
-use Rattle.dp_program.specs.Dialplans.{PlanTextOf, with_text}
+use Rattle.dp_program.specs.Dialplans.{PlanTextOf, moment_in, with_text}
 use Rattle.dp_program.specs.Faulted.{StandsIn, in_none, nowhere, place_by, place_in_file, place_in_files, place_in_two, place_of, place_of_report, place_of_run, place_of_two, place_unread, without_place, unread_fault, unread_path, unread_place}
 use Rattle.dp_program.specs.Files.{Source, Reads}
 use Rattle.dp_program.specs.Hints.{Tells, audit_hint_of, match_hint_of, status_in}
 use Rattle.dp_program.specs.Reaches.{Reaches, place_of_files}
-use Rattle.dp_program.specs.Requests.{RequestOf, LookupOf, QuestionOf, joined, check, check_files, check_queues, check_both, listing, listing_files, auditing, auditing_by, matching, matching_files, explaining, run, run_wide, debug, reaching}
+use Rattle.dp_program.specs.Requests.{OptionsOf, RequestOf, LookupOf, QuestionOf, joined, check, check_files, check_queues, check_both, listing, listing_files, auditing, auditing_by, matching, matching_files, explaining, run, run_wide, debug, reaching}
 use Rattle.dp_program.specs.Entries.{explanation_of}
 use Rattle.dp_program.specs.Serves.{AuditsAsked, AuditsFile, AuditsFileBy, AuditsText, ChecksBoth, DebugsAsked, DebugsFiles, DebugsFilesVerbosely, DebugsVerbosely, ListsText, LooksUp, LooksUpText, PlacesOf, ReportsOn, Runs, RunsBeside, RunsPlan, RunsPlans, RunsSecond, RunsAsked, RunsFiles, RunsFilesVerbosely, RunsFilesWide, RunsVerbosely, RunsWide, Serves, SharesSome, debug_of_texts, files_read, in_force_at, in_force_at_first, look_up, places_read, run_of_texts, wide_run_of_texts, RunsFilesWideVerbosely, RunsTextsWideVerbosely, RunsWideAsked, RunsWideVerbosely}
 use Rattle.dp_program.specs.Texts.{OfRun, ReadsTexts, all_texts, some_text, sources_of}
+use Rattle.dp_program.specs.declared.dialplans.PlanUse.TheVariants.{Report, LookUp, Run as to_run}
 use Rattle.dp_program.specs.declared.faulted.Faulted.{Faulted}
 use Rattle.dp_program.specs.declared.faulted.Unread.{Unread}
 use Rattle.dp_program.specs.declared.hints.Served.{Served}
@@ -36,7 +36,7 @@ use Rattle.dp_wide_runs.specs.WideAudits.{WritesChoice, plan_of}
 use Rattle.dp_program.proofs.DialplanLemmas.{dialplan_lacks}
 use Rattle.dp_program.proofs.ReadsLemmas.{IsUnread, by_reason, Reads-any, Reads-weaker, ReadsSome-any, ReadsTexts-any, ReadsTexts-weaker}
 
--- where memory is refused before anything was written
+-- if memory runs out before anything was written
 pub reports_lacks : (old : Option (List ℕ)) (given : Result (List ℕ) PbxFault) → Reports old old given (Err NoMemory)
 reports_lacks old (Ok text) = Appends-nil old
 reports_lacks old (Err fault) = Appends-nil old
@@ -100,7 +100,7 @@ pub reaches_lacks : (question : QuestionOf) (explains : Bool) (old : Option (Lis
 reaches_lacks question explains old (Ok files) = Appends-nil old
 reaches_lacks question explains old (Err fault) = Appends-nil old
 
--- where a text is refused
+-- if a text is refused
 pub reports_refused : (old : Option (List ℕ)) (report : List ℕ → Result (List ℕ) PbxFault) (fault : PbxFault) (text : Result (List ℕ) PbxFault)
     → Refuses (reason_of fault) text → Reports old old (text >>= report) (Err fault)
 reports_refused old report =
@@ -157,7 +157,7 @@ pub runs_refused : {X : Type 0} (threads : Option ℕ) (old : Option (List ℕ))
 runs_refused None old next = writes_refused old next
 runs_refused (Some threads) old next = shares_refused (max 1 threads) old next
 
--- want of memory stands in no file
+-- out of memory has no place in a file
 lacks_report_place : (path : List ℕ) (text : Result (List ℕ) PbxFault) → in_none ≡ place_of_report path text NoMemory
 lacks_report_place path (Ok text) = refl
 lacks_report_place path (Err unread) = refl
@@ -182,7 +182,7 @@ pub unread_stands : (unread : Unread) (fault : PbxFault) → place_of (place_unr
 unread_stands unread (Coded code line) = refl
 unread_stands unread NoMemory = refl
 
--- is where the fault of a report stands
+-- is the place of the fault of a report
 pub refused_report_place : (path : List ℕ) (fault : PbxFault) (text : Result (List ℕ) PbxFault) → Refuses (reason_of fault) text → unread_place path fault ≡ place_of_report path text fault
 refused_report_place path = by_reason (λ fault text. unread_place path fault ≡ place_of_report path text fault) (λ code line. refl) (lacks_report_place path)
 
@@ -190,7 +190,7 @@ refused_report_place path = by_reason (λ fault text. unread_place path fault �
 refused_place_by : (paths : OfRun (List ℕ)) (unread : List ℕ) (fault : PbxFault) (texts : Result (OfRun (List ℕ)) PbxFault) → Refuses (reason_of fault) texts → unread_place unread fault ≡ place_by paths unread texts fault
 refused_place_by paths unread = by_reason (λ fault texts. unread_place unread fault ≡ place_by paths unread texts fault) (λ code line. refl) (lacks_place_by paths unread)
 
--- and of a check of two files, of which the first or the second could not be read
+-- and of a check of two files, if the first or the second could not be read
 pub refused_first_place : (path queues_path : List ℕ) (queues : Result (List ℕ) PbxFault) (fault : PbxFault) (plan : Result (List ℕ) PbxFault)
     → Refuses (reason_of fault) plan → unread_place path fault ≡ place_of_two path queues_path plan queues fault
 refused_first_place path queues_path queues =
@@ -201,7 +201,7 @@ pub refused_second_place : (path queues_path read : List ℕ) (fault : PbxFault)
 refused_second_place path queues_path read =
     by_reason (λ fault queues. unread_place queues_path fault ≡ place_of_two path queues_path (Ok read) queues fault) (λ code line. refl) (lacks_two_place path queues_path (Ok read))
 
--- where the file of a report is refused
+-- if the file of a report is refused
 pub report_refused : (path : List ℕ) (file : Source) (report : List ℕ → Result (List ℕ) PbxFault) (old : Option (List ℕ)) (unread : Unread) → unread.path.now ≡ path
     → Reads file (λ text. Refuses (reason_of unread.fault) text) → ReportsOn path file report old old (Err (unread_fault unread))
 report_refused path file report old unread at reads =
@@ -244,7 +244,7 @@ look_up_refused lookup file all explains old unread at reads =
       tt,
     )) reads
 
--- where it is read: what is reported on, and what the fault stands in, is the text that was read
+-- if it is read: the report is on the text that was read, and that is where the fault has its place
 pub report_read : (path : List ℕ) (file : Source) (report : List ℕ → Result (List ℕ) PbxFault) (old new : Option (List ℕ)) (read given asked : List ℕ)
     → given ≡ read → asked ≡ read → (result : Result ℕ PbxFault) (answered : Result ℕ Faulted) → Reads file (λ text. text ≡ Ok read)
     → without_place answered ≡ result → Reports old new (report given) result → StandsIn (place_in_file path asked) answered
@@ -256,7 +256,7 @@ report_read path file report old new read given asked given-is asked-is result a
       subst (λ (text : List ℕ). StandsIn (place_in_file path text) answered) asked-is stands,
     )) reads
 
--- the same, with what is told beside it
+-- the same, with the hints beside the result
 tells_same : (hint : Result (List ℕ) PbxFault) (given : Result Served PbxFault) (answered : Result Served Faulted) → without_place answered ≡ given → Tells hint given → Tells hint answered
 tells_same hint given (Ok served) same tells = subst (λ given. Tells hint given) (sym same) tells
 tells_same hint given (Err faulted) same tells = tt
@@ -300,13 +300,13 @@ look_up_read lookup file all explains old new read given asked given-is asked-is
       tells_same (match_hint_of lookup explains read) result answered same (subst (λ (text : List ℕ). Tells (match_hint_of lookup explains text) result) given-is tells),
     )) reads
 
--- what a check of two files writes and answers, by what reading them came to
+-- the output and result of a check of two files, given the results of reading them
 abbrev Checked : List ℕ → List ℕ → Bool → Option (List ℕ) → Option (List ℕ) → Result ℕ Faulted → Result (List ℕ) PbxFault → Result (List ℕ) PbxFault → Type 0
 Checked path queues_path explains old new answered plan queues =
     Reports old new (plan >>= λ plan. queues >>= λ queues. both_report explains path plan queues) (without_place answered)
     × StandsIn (place_of_two path queues_path plan queues) answered
 
--- where the dialplan of a check of both is refused
+-- if the dialplan of a check of both is refused
 pub both_refused_plan : (files : List ℕ → Source) (path queues_path : List ℕ) (explains : Bool) (old : Option (List ℕ)) (unread : Unread) → unread.path.now ≡ path
     → Reads (files path) (λ text. Refuses (reason_of unread.fault) text) → ChecksBoth files path queues_path explains old old (Err (unread_fault unread))
 both_refused_plan files path queues_path explains old unread at reads =
@@ -316,7 +316,7 @@ both_refused_plan files path queues_path explains old unread at reads =
       unread_stands unread unread.fault ∙ (ap (λ path. unread_place path unread.fault) at ∙ refused_first_place path queues_path queues unread.fault plan refused),
     ))) reads
 
--- where its queues are, after the dialplan
+-- if its queues are refused after the dialplan was read
 pub both_refused_queues : (files : List ℕ → Source) (path queues_path : List ℕ) (explains : Bool) (old : Option (List ℕ)) (read : List ℕ) (unread : Unread) → unread.path.now ≡ queues_path
     → Reads (files path) (λ text. text ≡ Ok read) → Reads (files queues_path) (λ text. Refuses (reason_of unread.fault) text)
     → ChecksBoth files path queues_path explains old old (Err (unread_fault unread))
@@ -328,7 +328,7 @@ both_refused_queues files path queues_path explains old read unread at is reads 
       unread_stands unread unread.fault ∙ (ap (λ path. unread_place path unread.fault) at ∙ refused_second_place path queues_path read unread.fault queues refused),
     )) reads) is
 
--- where both files are read
+-- if both files are read
 pub both_read : (files : List ℕ → Source) (path queues_path : List ℕ) (explains : Bool) (old new : Option (List ℕ)) (read held : List ℕ)
     (result : Result ℕ PbxFault) (answered : Result ℕ Faulted) → Reads (files path) (λ text. text ≡ Ok read) → Reads (files queues_path) (λ text. text ≡ Ok held)
     → without_place answered ≡ result → Reports old new (both_report explains path read held) result → StandsIn (place_in_two (path, read) (queues_path, held)) answered
@@ -340,7 +340,7 @@ both_read files path queues_path explains old new read held result answered is a
     (subst (λ queues. Checked path queues_path explains old new answered (Ok read) queues) (sym queues_is)
     (subst (λ result. Reports old new (both_report explains path read held) result) (sym same) reports, stands))) are) is
 
--- where a file of a run is refused
+-- if a file of a run is refused
 pub run_refused : (paths : OfRun (List ℕ)) (sources : OfRun Source) (threads : Option ℕ) (old : Option (List ℕ)) (unread : Unread)
     → ReadsTexts sources (IsUnread paths unread.path.now unread.fault) → RunsFiles paths sources threads old old (Err (unread_fault unread))
 run_refused paths sources threads old unread reads =
@@ -372,7 +372,7 @@ run_wide_refused paths sources old unread reads =
       unread_stands unread unread.fault ∙ (is.1 ∙ refused_place_by paths (unread_path paths read) unread.fault (all_texts read) is.0),
     )) reads
 
--- the same of verbose runs
+-- the same for verbose runs
 pub run_verbose_refused : (paths : OfRun (List ℕ)) (sources : OfRun Source) (old : Option (List ℕ)) (unread : Unread)
     → ReadsTexts sources (IsUnread paths unread.path.now unread.fault) → RunsFilesVerbosely paths sources old old (Err (unread_fault unread))
 run_verbose_refused paths sources old unread reads =
@@ -403,7 +403,7 @@ debug_verbose_refused paths sources held old unread reads =
       unread_stands unread unread.fault ∙ (is.1 ∙ refused_place_by paths (unread_path paths read) unread.fault (all_texts read) is.0),
     )) reads
 
--- where all files of a run are read
+-- if all files of a run are read
 pub run_read : (paths : OfRun (List ℕ)) (sources : OfRun Source) (threads : Option ℕ) (old new : Option (List ℕ)) (texts : OfRun (List ℕ))
     (result : Result ℕ PbxFault) (answered : Result ℕ Faulted) → ReadsTexts sources (λ read. (all_texts read ≡ Ok texts) × Unit {0}) → without_place answered ≡ result
     → Runs threads old new (run_of_texts texts) result → StandsIn (place_in_files paths texts) answered → RunsFiles paths sources threads old new answered
@@ -432,7 +432,7 @@ run_wide_read paths sources old new texts result answered reads same runs stands
     (λ read is. subst (λ (joined : Result (OfRun (List ℕ)) PbxFault). RunsWide old new (joined >>= wide_run_of_texts) (without_place answered) × StandsIn (place_by paths (unread_path paths read) joined) answered) (sym is.0)
     (subst (λ result. RunsWide old new (wide_run_of_texts texts) result) (sym same) runs, stands)) reads
 
--- the same of verbose runs
+-- the same for verbose runs
 pub run_verbose_read : (paths : OfRun (List ℕ)) (sources : OfRun Source) (old new : Option (List ℕ)) (texts : OfRun (List ℕ))
     (result : Result ℕ PbxFault) (answered : Result ℕ Faulted) → ReadsTexts sources (λ read. (all_texts read ≡ Ok texts) × Unit {0}) → without_place answered ≡ result
     → WritesVerbose explanation_of (in_force_at_first paths texts) old new (run_of_texts texts) result → StandsIn (place_in_files paths texts) answered
@@ -463,7 +463,7 @@ debug_verbose_read paths sources held old new texts result answered reads same d
     (λ read is. subst (λ (joined : Result (OfRun (List ℕ)) PbxFault). DebugsVerbosely paths held old new joined (without_place answered) × StandsIn (place_by paths (unread_path paths read) joined) answered) (sym is.0)
     (subst (λ result. WritesVerboseDebug explanation_of (in_force_at_first paths texts) old new (debug_of_texts held texts) result) (sym same) debugs, stands)) reads
 
--- a run may find no memory before it does anything
+-- memory may run out before a run does anything
 run_lacks : (paths : OfRun (List ℕ)) (sources : OfRun Source) (threads : Option ℕ) (old : Option (List ℕ)) → RunsFiles paths sources threads old old (Err (nowhere NoMemory))
 run_lacks paths sources threads old =
     ReadsTexts-any sources (λ read. Runs threads old old (all_texts read >>= run_of_texts) (Err NoMemory) × (in_none ≡ place_of_run paths read NoMemory))
@@ -481,28 +481,28 @@ run_wide_asked_lacks paths places sources true old =
     (λ read. (runs_wide_verbosely_lacks places old (all_texts read), lacks_place_by paths (unread_path paths read) (all_texts read)))
 run_wide_asked_lacks paths places sources false old = run_wide_lacks paths sources old
 
--- with dialplans that are read with the files that they include
+-- the same with dialplans that are read with the files that they include
 pub plans_lack : (paths : OfRun (List ℕ)) (files : List ℕ → Source) (is_verbose : Bool) (old : Option (List ℕ)) (plan : PlanTextOf) (second : Option (List ℕ × PlanTextOf))
     → RunsPlans paths files is_verbose old old plan second (Err (nowhere NoMemory))
 plans_lack paths files is_verbose old plan second =
     (run_wide_asked_lacks paths (places_read plan second) (sources_of (files_read paths files plan second) paths) is_verbose old, tt)
 
-pub second_lacks : (paths : OfRun (List ℕ)) (files : List ℕ → Source) (is_verbose : Bool) (old : Option (List ℕ)) (plan : PlanTextOf) (path : List ℕ)
-    → RunsSecond paths files is_verbose old old plan path (Err (nowhere NoMemory))
-second_lacks paths files is_verbose old plan path =
+pub second_lacks : (clock : Option (List ℕ)) (paths : OfRun (List ℕ)) (files : List ℕ → Source) (is_verbose : Bool) (old : Option (List ℕ)) (plan : PlanTextOf) (path : List ℕ)
+    → RunsSecond clock paths files is_verbose old old plan path (Err (nowhere NoMemory))
+second_lacks clock paths files is_verbose old plan path =
     dialplan_lacks (λ second answered. RunsPlans paths files is_verbose old old plan (Some (path, second)) answered) path old
-    (λ second. plans_lack paths files is_verbose old plan (Some (path, second))) Unfollowed files
+    (λ second. plans_lack paths files is_verbose old plan (Some (path, second))) to_run clock files
 
-beside_lacks : (paths : OfRun (List ℕ)) (files : List ℕ → Source) (is_verbose : Bool) (old : Option (List ℕ)) (plan : PlanTextOf) (second : Option (List ℕ))
-    → RunsBeside paths files is_verbose old old plan second (Err (nowhere NoMemory))
-beside_lacks paths files is_verbose old plan None = plans_lack paths files is_verbose old plan None
-beside_lacks paths files is_verbose old plan (Some path) = second_lacks paths files is_verbose old plan path
+beside_lacks : (clock : Option (List ℕ)) (paths : OfRun (List ℕ)) (files : List ℕ → Source) (is_verbose : Bool) (old : Option (List ℕ)) (plan : PlanTextOf) (second : Option (List ℕ))
+    → RunsBeside clock paths files is_verbose old old plan second (Err (nowhere NoMemory))
+beside_lacks clock paths files is_verbose old plan None = plans_lack paths files is_verbose old plan None
+beside_lacks clock paths files is_verbose old plan (Some path) = second_lacks clock paths files is_verbose old plan path
 
-pub plan_lacks : (paths : OfRun (List ℕ)) (files : List ℕ → Source) (is_verbose : Bool) (old : Option (List ℕ)) (plan : PlanTextOf)
-    → RunsPlan paths files is_verbose old old plan (Err (nowhere NoMemory))
-plan_lacks paths files is_verbose old plan = beside_lacks paths files is_verbose old plan paths.second_plan
+pub plan_lacks : (clock : Option (List ℕ)) (paths : OfRun (List ℕ)) (files : List ℕ → Source) (is_verbose : Bool) (old : Option (List ℕ)) (plan : PlanTextOf)
+    → RunsPlan clock paths files is_verbose old old plan (Err (nowhere NoMemory))
+plan_lacks clock paths files is_verbose old plan = beside_lacks clock paths files is_verbose old plan paths.second_plan
 
--- a report on the text of a dialplan may find no memory
+-- memory may run out before a report on the text of a dialplan
 pub listing_lacks : (path : List ℕ) (files : List ℕ → Source) (old : Option (List ℕ)) (plan : PlanTextOf) → ListsText path files old old plan (Err (nowhere NoMemory))
 listing_lacks path files old plan =
     (Reads-any (with_text files path plan.text path) _ (λ text. (reports_lacks old _, lacks_report_place path text)), tt)
@@ -519,10 +519,11 @@ pub auditing_lacks : (choice : ChoiceOf) (path : List ℕ) (files : List ℕ →
     → AuditsText choice path files old old plan (Err (nowhere NoMemory))
 auditing_lacks choice path files old plan = audit_lacks choice path (with_text files path plan.text path) old
 
-audit_asked_lacks : (is_wide : Bool) (choice : ChoiceOf) (path : List ℕ) (files : List ℕ → Source) (old : Option (List ℕ))
-    → AuditsAsked is_wide choice path files old old (Err (nowhere NoMemory))
-audit_asked_lacks true choice path files old = dialplan_lacks (AuditsText choice path files old old) path old (auditing_lacks choice path files old) Faults files
-audit_asked_lacks false choice path files old = audit_lacks choice path (files path) old
+audit_asked_lacks : (is_wide : Bool) (clock : Option (List ℕ)) (choice : ChoiceOf) (path : List ℕ) (files : List ℕ → Source) (old : Option (List ℕ))
+    → AuditsAsked is_wide clock choice path files old old (Err (nowhere NoMemory))
+audit_asked_lacks true clock choice path files old =
+    dialplan_lacks (AuditsText choice path files old old) path old (auditing_lacks choice path files old) Report clock files
+audit_asked_lacks false clock choice path files old = audit_lacks choice path (files path) old
 
 run_asked_lacks : (paths : OfRun (List ℕ)) (sources : OfRun Source) (threads : Option ℕ) (is_verbose : Bool) (old : Option (List ℕ))
     → RunsAsked paths sources threads is_verbose old old (Err (nowhere NoMemory))
@@ -546,30 +547,32 @@ check_lacks : (path : List ℕ) (old : Option (List ℕ)) (plan : Result PlanFil
 check_lacks path old (Ok plan) = (Appends-nil old, refl)
 check_lacks path old (Err fault) = (Appends-nil old, refl)
 
--- a request may find no memory before it does anything
-pub Serves-lacks : (files : List ℕ → Source) (input : Source) (want : RequestOf) (explains : Bool) (old : Option (List ℕ)) → Serves files input want explains old old (Err (nowhere NoMemory))
-Serves-lacks files input joined explains old = ((Reads-any input _ (λ text. writes_lacks old _), refl), tt)
-Serves-lacks files input (check file) explains old = (Reads-any (files file) _ (λ text. (reports_lacks old _, lacks_report_place file text)), tt)
-Serves-lacks files input (check_files file) explains old =
-    ((nothing_known, record { texts = λ name. tt; names = λ pattern. tt }, λ has agrees. check_lacks file old (read_plan_of has file)), tt)
-Serves-lacks files input (check_queues queues) explains old = (Reads-any (files queues) _ (λ text. (reports_lacks old _, lacks_report_place queues text)), tt)
-Serves-lacks files input (check_both file queues) explains old =
+-- memory may run out before a request does anything
+pub Serves-lacks : (files : List ℕ → Source) (input : Source) (want : RequestOf) (options : OptionsOf) (old : Option (List ℕ)) → Serves files input want options old old (Err (nowhere NoMemory))
+Serves-lacks files input joined options old = ((Reads-any input _ (λ text. writes_lacks old _), refl), tt)
+Serves-lacks files input (check file) options old = (Reads-any (files file) _ (λ text. (reports_lacks old _, lacks_report_place file text)), tt)
+Serves-lacks files input (check_files file) options old =
+    ((nothing_known, record { texts = λ name. tt; names = λ pattern. tt }, λ has agrees. check_lacks file old (read_plan_of (moment_in options.clock) has file)), tt)
+Serves-lacks files input (check_queues queues) options old = (Reads-any (files queues) _ (λ text. (reports_lacks old _, lacks_report_place queues text)), tt)
+Serves-lacks files input (check_both file queues) options old =
     (Reads-any (files file) _ (λ plan. Reads-any (files queues) _ (λ held. (reports_lacks old _, lacks_two_place file queues plan held))), tt)
-Serves-lacks files input (listing file) explains old = (Reads-any (files file) _ (λ text. (reports_lacks old _, lacks_report_place file text)), tt)
-Serves-lacks files input (listing_files file) explains old =
-    dialplan_lacks (ListsText file files old old) file old (listing_lacks file files old) Faults files
-Serves-lacks files input (auditing file) explains old = Reads-any (files file) _ (λ text. (audits_lacks old _, lacks_report_place file text, tt))
-Serves-lacks files input (auditing_by file choice) explains old = audit_asked_lacks choice.is_wide choice file files old
-Serves-lacks files input (matching lookup all) explains old = Reads-any (files lookup.file) _ (λ text. (reports_lacks old _, lacks_report_place lookup.file text, tt))
-Serves-lacks files input (matching_files lookup all) explains old =
-    dialplan_lacks (LooksUpText lookup files all explains old old) lookup.file old (matching_lacks lookup files all explains old) Unfollowed files
-Serves-lacks files input (explaining fault) explains old = ((Appends-nil old, refl), tt)
-Serves-lacks files input (run paths threads is_verbose) explains old = (run_asked_lacks paths (sources_of files paths) threads is_verbose old, tt)
-Serves-lacks files input (run_wide paths is_verbose) explains old =
-    dialplan_lacks (RunsPlan paths files is_verbose old old) paths.plan old (plan_lacks paths files is_verbose old) Unfollowed files
-Serves-lacks files input (debug paths held is_verbose) explains old = (debug_asked_lacks paths (sources_of files paths) held is_verbose old, tt)
-Serves-lacks files input (reaching question) explains old =
+Serves-lacks files input (listing file) options old = (Reads-any (files file) _ (λ text. (reports_lacks old _, lacks_report_place file text)), tt)
+Serves-lacks files input (listing_files file) options old =
+    dialplan_lacks (ListsText file files old old) file old (listing_lacks file files old) Report options.clock files
+Serves-lacks files input (auditing file) options old = Reads-any (files file) _ (λ text. (audits_lacks old _, lacks_report_place file text, tt))
+Serves-lacks files input (auditing_by file choice) options old = audit_asked_lacks choice.is_wide options.clock choice file files old
+Serves-lacks files input (matching lookup all) options old = Reads-any (files lookup.file) _ (λ text. (reports_lacks old _, lacks_report_place lookup.file text, tt))
+Serves-lacks files input (matching_files lookup all) options old =
+    dialplan_lacks (LooksUpText lookup files all options.explains old old) lookup.file old (matching_lacks lookup files all options.explains old) LookUp
+    options.clock files
+Serves-lacks files input (explaining fault) options old = ((Appends-nil old, refl), tt)
+Serves-lacks files input (run paths threads is_verbose) options old = (run_asked_lacks paths (sources_of files paths) threads is_verbose old, tt)
+Serves-lacks files input (run_wide paths is_verbose) options old =
+    dialplan_lacks (RunsPlan options.clock paths files is_verbose old old) paths.plan old (plan_lacks options.clock paths files is_verbose old) to_run
+    options.clock files
+Serves-lacks files input (debug paths held is_verbose) options old = (debug_asked_lacks paths (sources_of files paths) held is_verbose old, tt)
+Serves-lacks files input (reaching question) options old =
     Reads-any (files question.file) _ (λ plan. ReadsSome-any (option_map files question.queues) _ (λ queues. (
-      reaches_lacks question explains old (plan >>= λ plan. some_text queues >>= λ queues. files_of plan queues),
+      reaches_lacks question options.explains old (plan >>= λ plan. some_text queues >>= λ queues. files_of plan queues),
       lacks_files_place question.file question.queues plan queues,
     )))

@@ -12,7 +12,7 @@ use Rattle.dp_program.specs.declared.faulted.Place.{Place}
 use Rattle.dp_program.specs.declared.faulted.Place.TheVariants.{InLine, InFile, Nowhere}
 use Rattle.dp_program.specs.declared.faulted.Unread.{Unread}
 
--- the place of a fault: a line of a file that was read, a file that could not be read, or none
+-- the place of a fault: a line of a file that was read, a file that could not be read, or no place
 pub data PlaceOf : Type 0 where
   in_line : LineOfFile → PlaceOf
   in_file : List ℕ → PlaceOf
@@ -31,7 +31,7 @@ nowhere fault = record { fault = fault; place = Nowhere }
 abbrev pub unread_reason : Unread → Option PbxFault
 unread_reason unread = reason_of unread.fault
 
--- the place of the fault of an unread file: the file, or none if memory ran out
+-- the place of the fault of an unread file: the file, or no place if memory ran out
 abbrev pub place_unread : Unread → PbxFault → Place
 place_unread unread (Coded code line) = InFile unread.path
 place_unread unread NoMemory = Nowhere

@@ -1,4 +1,4 @@
--- What is known of files and of the input, and what reading them whole comes to.
+-- What is known of files and of the input, and the results of reading them whole.
 use Rattle.std.specs.Prelude.{◌≡◌, ◌⊎◌, ℕ, Bool, true, false, List, Option, Some, None, Result, Ok, Err, IfErr}
 use Rattle.std.specs.declared.io.ErrorKind.{ErrorKind}
 use Rattle.std.specs.declared.io.ErrorKind.TheVariants.{OutOfMemory}
@@ -14,11 +14,11 @@ abbrev pub read_fault : {X : Type 0} → Result X ReadFault → Result X PbxFaul
 read_fault (Ok x) = Ok x
 read_fault (Err fault) = Err (fault_of_read fault)
 
--- all bytes of a file, where it has no more than a file may have
+-- all bytes of a file, if it has no more than allowed
 abbrev pub whole_text : List ℕ → Result (List ℕ) PbxFault
 whole_text bytes = read_fault (whole_of bytes)
 
--- why a file could not be opened, by the kind of the error
+-- why a file could not be opened, given the kind of the error
 abbrev pub opening_fault : ErrorKind → PbxFault
 opening_fault OutOfMemory = NoMemory
 opening_fault _ = Coded ReadFailed None
@@ -55,30 +55,30 @@ is_failed_read (Coded BadScript line) = false
 is_failed_read (Coded BadBreak line) = false
 is_failed_read NoMemory = false
 
--- whether the call ended with a failed read
+-- whether a call ended with a failed read
 abbrev pub has_read_failed : {X : Type 0} → Result X PbxFault → Bool
 has_read_failed (Ok x) = false
 has_read_failed (Err fault) = is_failed_read fault
 
--- what is known of a file or of the input: all its bytes, where they are known, and whether a read of it may fail
+-- what is known of a file or of the input: all its bytes, if they are known, and whether a read may fail
 pub record Source : Type 0 where
   pub bytes : Option (List ℕ)
   pub fails : Bool
 
--- a source of these bytes, a read of which may fail or not
+-- a source with these bytes, and whether a read of it may fail
 abbrev pub source : Option (List ℕ) → Bool → Source
 source bytes fails = record { bytes = bytes; fails = fails }
 
--- what the bytes of a source give where no read fails, its text or that it is too long
+-- the result of reading these bytes if no read fails: their text, or that it is too long
 abbrev pub IsTextOf : Option (List ℕ) → Result (List ℕ) PbxFault → Type 0
 IsTextOf (Some bytes) text = text ≡ whole_text bytes
 IsTextOf None text = IfErr text (λ fault. fault ≡ Coded TooLong None)
 
--- what reading a source whole may come to; it fails only where the source tells of a failed read
+-- a possible result of reading a source whole; it is a failed read only if a read of the source may fail
 abbrev pub MayGive : Source → Result (List ℕ) PbxFault → Type 0
 MayGive source text = IsTextOf source.bytes text ⊎ ((text ≡ Err (Coded ReadFailed None)) × (source.fails ≡ true))
 
--- something holds of what reading a source whole came to
+-- a property of the result of reading a source whole
 pub record Reads (source : Source) (P : Result (List ℕ) PbxFault → Type 0) : Type 0 where
   pub text : Result (List ℕ) PbxFault
   pub given : MayGive source text

@@ -19,7 +19,7 @@ is_bare plan = list_all (λ context. length context.entries == 0 && length conte
 abbrev pub lacking : PlanOf → List ℕ
 lacking plan = if length plan.contexts == 0 then codes "context" else codes "entry"
 
--- the line that says that a file may be no dialplan, given what the file lacks
+-- the line that says that a file may not be a dialplan, given what the file lacks
 abbrev pub bare_line : List ℕ → List ℕ → List ℕ
 bare_line file lack = codes "pbx: " ++ file ++ codes " has no " ++ lack ++ codes ": is it a dialplan?\n"
 

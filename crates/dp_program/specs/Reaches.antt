@@ -26,8 +26,8 @@ use Rattle.dp_program.specs.declared.hints.Served.{Served}
 abbrev pub told_of_name : List ℕ → Bool → PlanOf → List ℕ → List ℕ
 told_of_name file explains plan name = name_told file name explains plan (number_of plan name)
 
--- the hints on a dialplan: that the file may be no dialplan, or which named contexts it lacks, in the order: the context, the target, the
--- contexts where other calls come in
+-- the hints on a dialplan: that the file may not be a dialplan, or which named contexts it lacks, in this order: the context, the target,
+-- the contexts where other calls come in
 abbrev pub hint_of : List ℕ → AskOf → Bool → PlanOf → List ℕ
 hint_of file ask explains plan =
     if is_bare plan then bare_line file (lacking plan)

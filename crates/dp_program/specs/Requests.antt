@@ -4,6 +4,7 @@ use Rattle.std.specs.Option.{option_map}
 use Rattle.dp_answer.specs.Asks.{AskOf}
 use Rattle.dp_program.specs.Texts.{OfRun, paths_of}
 use Rattle.dp_wide_runs.specs.Kinds.{ChoiceOf, choice_of}
+use Rattle.dp_program.specs.declared.options.Options.{Options}
 use Rattle.dp_program.specs.declared.request.Lookup.{Lookup}
 use Rattle.dp_program.specs.declared.request.ReachQuestion.{ReachQuestion}
 use Rattle.dp_program.specs.declared.request.Request.{Request}
@@ -40,6 +41,14 @@ question_of question = record {
   queues = option_map (λ path. path.now) question.queues;
   ask = asked_in question;
 }
+
+-- the options of a request, with their texts
+pub record OptionsOf : Type 0 where
+  pub explains : Bool
+  pub clock : Option (List ℕ)
+
+abbrev pub options_of : Options → OptionsOf
+options_of options = record { explains = options.explains; clock = option_map (λ word. word.now) options.clock }
 
 -- what the program is asked for, with its texts
 pub data RequestOf : Type 0 where

@@ -25,7 +25,7 @@ place_text (in_line line) = line_text line
 place_text (in_file path) = file_text path
 place_text in_none = []
 
--- the explanation of a fault: its place, and the sentence on it; running out of memory has none
+-- the explanation of a fault: its place, and the sentence on it; running out of memory has no explanation
 abbrev pub explanation : PbxFault → PlaceOf → List ℕ
 explanation (Coded code line) place = place_text place ++ sentence_text (said_of code)
 explanation NoMemory place = []

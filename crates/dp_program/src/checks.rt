@@ -120,7 +120,7 @@ fn check_before<W: WriteTold>(
     Ok(0)
 }
 
-/// The fault of a dialplan's text, or if it has none the later fault.
+/// The fault of a dialplan's text, or the later fault if the text has no fault.
 fn first_fault(alloc: Global, plan: &[u8], later: PbxFault) -> PbxFault
     ensures first { (given : Result (List ℕ) PbxFault) → Refuses (reason_of later) given
         → Refuses (reason_of result) (spec.after_plan plan.now given) }

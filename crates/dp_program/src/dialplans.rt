@@ -1,5 +1,6 @@
 //! Dialplans that are read with the files that they include.
-ghost use Rattle.std.specs.Prelude.{◌≡◌, ◌++◌, IfOk, IfErr, OnOk, Result, map, true};
+ghost use Rattle.std.specs.Prelude.{◌≡◌, ◌++◌, ◌∷◌, [], IfOk, IfErr, OnOk, Result, map, true};
+ghost use Rattle.std.specs.Option.{option_map};
 ghost use Rattle.dp_conf.specs.Answers.{Answers};
 ghost use Rattle.dp_commands.specs.LinePlaces.{places_of};
 ghost use Rattle.dp_files.specs.FolderFiles.{ReadsFolder};
@@ -22,6 +23,7 @@ use dp_commands::{LinePlaces, LinePosition, PbxFault, SourceLines};
 use dp_files::{MadeLine, ReadingFault, SourceFile, path_of};
 use dp_notices::{NotedLine, PlanFiles, Shown, print_notices, read_folder_plan};
 use dp_plan::{NoMemory, Text};
+use dp_wide::{Moment, read_moment};
 use std::alloc::Global;
 
 /// A dialplan's text, and where its lines come from.
@@ -31,7 +33,7 @@ pub(crate) struct PlanText {
     pub(crate) text: Vec<u8>,
     /// The paths of the files that were read.
     names: Vec<Text>,
-    /// For each line of the text, the line of a file that it is made of.
+    /// For each line of the text, the line of a file from which it is made.
     lines: Vec<LinePosition>,
 }
 
@@ -67,7 +69,36 @@ impl PlanText {
     }
 }
 
-/// What reading a dialplan for a command gives.
+/// What a command reads a dialplan for.
+#[derive(Clone, Copy)]
+pub(crate) enum PlanUse {
+    /// To report on it.
+    Report,
+    /// To look up an entry in it.
+    LookUp,
+    /// To run it.
+    Run,
+}
+
+/// The notices for which a command does nothing, given what it reads a dialplan for.
+fn shown_for(purpose: PlanUse) -> Shown
+    ensures { result ≡ spec.shown_for purpose }
+{
+    match purpose {
+        PlanUse::Report => Shown::Faults,
+        PlanUse::LookUp | PlanUse::Run => Shown::Unfollowed,
+    }
+}
+
+/// The moment that the word of `--clock` writes, if there is one.
+pub(crate) fn moment_in(clock: Option<&str>) -> Option<Moment>
+    ensures { result ≡ spec.moment_in (option_map (λ word. word.now) clock.entry) }
+{
+    let word = clock?;
+    read_moment(word.as_bytes())
+}
+
+/// The result of reading a dialplan for a command.
 #[derive(Drop)]
 pub(crate) enum ReadDialplan {
     /// The text that the command uses.
@@ -86,7 +117,7 @@ fn position_of(noted: &NotedLine) -> LinePosition
     }
 }
 
-/// The position of the line that a line is made of.
+/// The position of the line from which a line is made.
 fn source_position(lines: &[NotedLine], made: &MadeLine) -> LinePosition
     ensures { result ≡ spec.source_position lines.now made.now }
 {
@@ -96,7 +127,7 @@ fn source_position(lines: &[NotedLine], made: &MadeLine) -> LinePosition
     }
 }
 
-/// Adds the positions of the lines that lines are made of.
+/// Adds the positions of the lines from which lines are made.
 fn push_positions(
     positions: &mut Vec<LinePosition>,
     lines: &[NotedLine],
@@ -136,11 +167,55 @@ fn push_paths(
     Ok(())
 }
 
-/// The text of a dialplan that was read from files, and where its lines come from.
-fn plan_text(alloc: Global, plan: &PlanFiles) -> Result<PlanText, NoMemory>
-    ensures { IfOk result (λ text. spec.text_now text ≡ spec.plan_text (plan_now plan.now)) }
+/// Adds a line.
+fn push_line(text: &mut Vec<u8>, line: &[u8]) -> Result<(), NoMemory>
+    ensures { OnOk result (text.new.items ≡ text.old.items ++ (line.now ++ 10 ∷ [])) }
 {
-    let text = plan.text(alloc)?;
+    text.extend_from_slice(line)?;
+    text.push(b'\n')?;
+    Ok(())
+}
+
+/// Adds the lines that set the global `CLOCK` to a word.
+fn push_clock_text(text: &mut Vec<u8>, word: &[u8]) -> Result<(), NoMemory>
+    ensures { OnOk result (text.new.items ≡ text.old.items ++ spec.clock_text word.now) }
+{
+    text.extend_from_slice(b"[globals]\nCLOCK=")?;
+    push_line(text, word)
+}
+
+/// Adds these lines, if the word writes a moment.
+fn push_clock(text: &mut Vec<u8>, word: &str) -> Result<(), NoMemory>
+    ensures { OnOk result (text.new.items ≡ text.old.items ++ spec.clock_lines word.now) }
+{
+    match read_moment(word.as_bytes()) {
+        Some(_) => push_clock_text(text, word.as_bytes()),
+        None => Ok(()),
+    }
+}
+
+/// Adds the lines that a command adds to a dialplan's text, given what it reads the dialplan for and the word of `--clock`.
+fn push_lines(text: &mut Vec<u8>, purpose: PlanUse, clock: Option<&str>) -> Result<(), NoMemory>
+    ensures { OnOk result (text.new.items ≡ text.old.items ++ spec.lines_added purpose (option_map (λ word. word.now) clock.entry)) }
+{
+    match (purpose, clock) {
+        (PlanUse::Run, Some(word)) => push_clock(text, word),
+        (PlanUse::Run, None) | (PlanUse::Report, _) | (PlanUse::LookUp, _) => Ok(()),
+    }
+}
+
+/// The text of a dialplan that was read from files, and where its lines come from.
+fn plan_text(
+    alloc: Global,
+    purpose: PlanUse,
+    clock: Option<&str>,
+    plan: &PlanFiles,
+) -> Result<PlanText, NoMemory>
+    ensures { IfOk result (λ text. spec.text_now text
+        ≡ spec.plan_text purpose (option_map (λ word. word.now) clock.entry) (plan_now plan.now)) }
+{
+    let mut text = plan.text(alloc)?;
+    push_lines(&mut text, purpose, clock)?;
     let mut names = Vec::with_capacity(alloc, plan.files.len())?;
     push_paths(alloc, &mut names, first_name(&plan.files), &plan.files)?;
     let mut lines = Vec::with_capacity(alloc, plan.made.len())?;
@@ -148,27 +223,34 @@ fn plan_text(alloc: Global, plan: &PlanFiles) -> Result<PlanText, NoMemory>
     Ok(PlanText { text, names, lines })
 }
 
-/// What a command makes of a dialplan that was read, given the notices for which it does nothing.
-fn dialplan_of(alloc: Global, shown: Shown, plan: &PlanFiles) -> Result<ReadDialplan, NoMemory>
-    ensures { IfOk result (λ read. spec.read_now read ≡ spec.dialplan_of shown (plan_now plan.now)) }
+/// The result for a command of a dialplan that was read, given what the command reads it for and the word of `--clock`.
+fn dialplan_of(
+    alloc: Global,
+    purpose: PlanUse,
+    clock: Option<&str>,
+    plan: &PlanFiles,
+) -> Result<ReadDialplan, NoMemory>
+    ensures { IfOk result (λ read. spec.read_now read
+        ≡ spec.dialplan_of purpose (option_map (λ word. word.now) clock.entry) (plan_now plan.now)) }
 {
-    let told = print_notices(alloc, shown, plan)?;
+    let told = print_notices(alloc, shown_for(purpose), plan)?;
     if !told.is_empty() {
         return Ok(ReadDialplan::Faulty(told));
     }
-    let text = plan_text(alloc, plan)?;
+    let text = plan_text(alloc, purpose, clock, plan)?;
     Ok(ReadDialplan::Loads(text))
 }
 
-/// The same of what reading the dialplan of a path gave.
+/// The same, given the result of reading the dialplan at a path.
 fn dialplan_in<'a>(
     alloc: Global,
     path: &'a str,
-    shown: Shown,
+    purpose: PlanUse,
+    clock: Option<&str>,
     read: Result<PlanFiles, ReadingFault>,
 ) -> Result<ReadDialplan, Unread<'a>>
     ensures read { (plan : Result PlanFilesOf Reading) → Answers plan_now first_fault read plan
-        → Answers spec.read_now unread_reason result (spec.dialplan_read shown plan) }
+        → Answers spec.read_now unread_reason result (spec.dialplan_read purpose (option_map (λ word. word.now) clock.entry) plan) }
     ensures path { IfErr result (λ unread. unread.path.now ≡ path.now) }
     ensures fault { IfErr result (λ unread. is_read_fault unread.fault ≡ true) }
 {
@@ -181,7 +263,7 @@ fn dialplan_in<'a>(
             });
         }
     };
-    match dialplan_of(alloc, shown, &plan) {
+    match dialplan_of(alloc, purpose, clock, &plan) {
         Ok(dialplan) => Ok(dialplan),
         Err(refused) => Err(Unread {
             path,
@@ -190,24 +272,26 @@ fn dialplan_in<'a>(
     }
 }
 
-/// Reads the dialplan of a path with the files that it includes, given the notices for which the command does nothing.
+/// Reads the dialplan at a path with the files that it includes, given what the command reads it for and the word of `--clock`.
 pub(crate) fn read_dialplan<'a, F: ReadFiles>(
     files: &F,
     alloc: Global,
     path: &'a str,
-    shown: Shown,
+    purpose: PlanUse,
+    clock: Option<&str>,
 ) -> Result<ReadDialplan, Unread<'a>>
     ensures read { ReadsFolder (MayTellOf (F.source_at files.now) path.now)
-        (λ has. Answers spec.read_now unread_reason result (spec.dialplan_read shown (plan_of has path.now))) }
+        (λ has. Answers spec.read_now unread_reason result (spec.dialplan_read purpose (option_map (λ word. word.now) clock.entry)
+        (plan_of (spec.moment_in (option_map (λ word. word.now) clock.entry)) has path.now))) }
     ensures path { IfErr result (λ unread. unread.path.now ≡ path.now) }
     ensures fault { IfErr result (λ unread. is_read_fault unread.fault ≡ true) }
 {
     let paths = SystemPaths { files };
-    let read = read_folder_plan(alloc, &paths, path);
-    dialplan_in(alloc, path, shown, read)
+    let read = read_folder_plan(alloc, &paths, path, moment_in(clock));
+    dialplan_in(alloc, path, purpose, clock, read)
 }
 
-/// The answer of a command that does nothing for these notices: they are told beside it, and the status is 1.
+/// The result of a command that does nothing because of these notices: they are printed beside it, and the status is 1.
 pub(crate) fn faulty(told: Vec<u8>) -> Served
     ensures status { result.status ≡ 1 }
     ensures hint { result.hint.items ≡ told.items }

@@ -16,7 +16,7 @@ use std::{fs, io};
 
 /// Files that are read whole.
 pub trait ReadFiles {
-    // What is known of the file of a path.
+    // What is known of the file at a path.
     ghost source_at: { Self → List ℕ → Source };
 
     /// All bytes of a file.
@@ -25,8 +25,8 @@ pub trait ReadFiles {
             (λ text. Answers (λ read. read.items) reason_of result text) }
         ensures fault { IfErr result (λ fault. is_read_fault fault ≡ true) };
 
-    /// The names of what a folder holds, in any order, and none where it cannot be read. They are known to no contract. The error comes
-    /// only where a growth was refused.
+    /// The names of the entries of a folder, in any order; none if it cannot be read. No contract knows them. It fails only if memory runs
+    /// out.
     fn list_folder(&self, alloc: Global, path: &str) -> Result<Vec<Text>, NoMemory>;
 }
 
@@ -63,7 +63,7 @@ fn read_open<R: Read + Drop>(alloc: Global, file: R) -> Result<Vec<u8>, PbxFault
     read_source(alloc, &mut Told::new(file))
 }
 
-/// Adds the name of an entry of a folder. One that cannot be read, or that is not UTF-8, is passed over.
+/// Adds the name of an entry of a folder. An entry that cannot be read, or whose name is not UTF-8, is skipped.
 fn push_name<R: Files + Drop>(
     alloc: Global,
     names: &mut Vec<Text>,
@@ -98,7 +98,7 @@ fn names_in<R: Files + AllocGlobal + Clone + Drop>(
     }
 }
 
-/// The files of the system. What they hold is known to no contract, and each read of them may fail.
+/// The files of the system. No contract knows what they contain, and each read of them may fail.
 impl<R: Files + AllocGlobal + Clone + Drop> ReadFiles for R {
     ghost use Rattle.std.specs.Prelude.{None, true};
     ghost use Rattle.dp_program.specs.Files.{source};

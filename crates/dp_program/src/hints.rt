@@ -62,7 +62,7 @@ pub(crate) fn lacking(plan: &Dialplan) -> &'static [u8]
     }
 }
 
-/// Adds the line that says that a file may be no dialplan, given what the file lacks.
+/// Adds the line that says that a file may not be a dialplan, given what the file lacks.
 pub(crate) fn push_bare_line(hint: &mut Vec<u8>, file: &str, lack: &[u8]) -> Result<(), NoMemory>
     ensures { OnOk result (hint.new.items ≡ hint.old.items ++ spec.bare_line file.now lack.now) }
 {

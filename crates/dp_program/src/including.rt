@@ -1,4 +1,4 @@
-//! What the request does that checks a dialplan with the files that it includes.
+//! The request that checks a dialplan with the files that it includes.
 ghost use Rattle.std.specs.Prelude.{◌≡◌, ◌||◌, Ok, Result};
 ghost use Rattle.dp_conf.specs.Answers.{Answers};
 ghost use Rattle.dp_commands.specs.Faults.{is_write_failed};
@@ -15,6 +15,7 @@ use dp_commands::{Code, PbxFault};
 use dp_conf::WriteTold;
 use dp_files::ReadingFault;
 use dp_notices::{PlanFiles, check_plan, read_folder_plan};
+use dp_wide::Moment;
 use std::alloc::Global;
 
 /// Why nothing was read, as a fault of the program.
@@ -34,7 +35,7 @@ pub(crate) fn reading_fault(fault: ReadingFault) -> PbxFault
     }
 }
 
-/// Reports on a dialplan that was read: its notices, and its counts or how many faults it has. The status is 1 where it has any.
+/// Reports on a dialplan that was read: its notices, and then its counts or the number of its faults. The status is 1 if it has any.
 fn report_plan<W: WriteTold>(
     alloc: Global,
     plan: &PlanFiles,
@@ -48,7 +49,7 @@ fn report_plan<W: WriteTold>(
     Ok(if report.faults == 0 { 0 } else { 1 })
 }
 
-/// What a check of a dialplan that was read writes and answers, or why it was not read.
+/// Reports on a dialplan that was read, or gives the reason why it was not.
 fn check_read<'a, W: WriteTold>(
     alloc: Global,
     file: &'a str,
@@ -69,17 +70,19 @@ fn check_read<'a, W: WriteTold>(
     }
 }
 
-/// Reports on the dialplan of a file and of the files that it includes.
+/// Reports on the dialplan of a file and of the files that it includes, given the moment by which includes with times are read, if there is
+/// one.
 pub(crate) fn serve_check_including<'a, F: ReadFiles, W: WriteTold>(
     files: &F,
     alloc: Global,
     file: &'a str,
+    moment: Option<Moment>,
     output: &mut W,
 ) -> Result<u8, Faulted<'a>>
-    ensures serves { spec.ChecksIncluding file.now (F.source_at files.now) (W.contents output.old) (W.contents output.new) result }
+    ensures serves { spec.ChecksIncluding moment file.now (F.source_at files.now) (W.contents output.old) (W.contents output.new) result }
     ensures told { W.has_failed output.new ≡ (W.has_failed output.old || is_write_failed (without_place result)) }
 {
     let paths = SystemPaths { files };
-    let read = read_folder_plan(alloc, &paths, file);
+    let read = read_folder_plan(alloc, &paths, file, moment);
     check_read(alloc, file, read, output)
 }

@@ -1,13 +1,14 @@
 //! The requests that list, audit or query a dialplan that is read with the files that it includes.
 ghost use Rattle.std.specs.Prelude.{◌≡◌, ◌||◌};
+ghost use Rattle.std.specs.Option.{option_map};
 ghost use Rattle.dp_commands.specs.Faults.{is_write_failed};
 ghost use Rattle.dp_program.specs.Dialplans.{text_now};
 ghost use Rattle.dp_program.specs.Faulted.{without_place};
-ghost use Rattle.dp_program.specs.Requests.{lookup_of};
+ghost use Rattle.dp_program.specs.Requests.{lookup_of, options_of};
 ghost use Rattle.dp_program.specs.Serves as spec;
 ghost use Rattle.dp_wide_runs.specs.Kinds.{choice_of};
 
-use crate::dialplans::{PlanText, ReadDialplan, faulty, read_dialplan};
+use crate::dialplans::{PlanText, PlanUse, ReadDialplan, faulty, read_dialplan};
 use crate::faulted::Faulted;
 use crate::files::ReadFiles;
 use crate::hints::{Served, without_hint};
@@ -15,7 +16,6 @@ use crate::reports::{Manner, serve_list, serve_match};
 use crate::request::Lookup;
 use crate::wide_audits::serve_audit_by;
 use dp_conf::WriteTold;
-use dp_notices::Shown;
 use dp_wide_runs::AuditChoice;
 use std::alloc::Global;
 
@@ -34,17 +34,19 @@ fn list_text<'a, F: ReadFiles, W: WriteTold>(
     without_hint(alloc, serve_list(&made, alloc, file, output))
 }
 
-/// Lists the dialplan of a file and of those that it includes.
+/// Lists the dialplan of a file and of those that it includes, given the word of `--clock`.
 pub(crate) fn serve_list_including<'a, F: ReadFiles, W: WriteTold>(
     files: &F,
     alloc: Global,
     file: &'a str,
+    clock: Option<&str>,
     output: &mut W,
 ) -> Result<Served, Faulted<'a>>
-    ensures serves { spec.ListsIncluding file.now (F.source_at files.now) (W.contents output.old) (W.contents output.new) result }
+    ensures serves { spec.ListsIncluding (option_map (λ word. word.now) clock.entry) file.now (F.source_at files.now) (W.contents output.old)
+        (W.contents output.new) result }
     ensures told { W.has_failed output.new ≡ (W.has_failed output.old || is_write_failed (without_place result)) }
 {
-    match read_dialplan(files, alloc, file, Shown::Faults) {
+    match read_dialplan(files, alloc, file, PlanUse::Report, clock) {
         Ok(ReadDialplan::Loads(plan)) => list_text(files, alloc, file, &plan, output),
         Ok(ReadDialplan::Faulty(told)) => Ok(faulty(told)),
         Err(unread) => Err(Faulted::from(unread)),
@@ -56,14 +58,20 @@ pub(crate) fn serve_match_including<'a, F: ReadFiles, W: WriteTold>(
     files: &F,
     alloc: Global,
     lookup: &Lookup<'a>,
-    manner: Manner,
+    manner: Manner<'_>,
     output: &mut W,
 ) -> Result<Served, Faulted<'a>>
-    ensures serves { spec.LooksUpIncluding (lookup_of lookup.now) (F.source_at files.now) manner.all manner.explains
-        (W.contents output.old) (W.contents output.new) result }
+    ensures serves { spec.LooksUpIncluding (options_of manner.entry.options).clock (lookup_of lookup.now) (F.source_at files.now)
+        manner.entry.all (options_of manner.entry.options).explains (W.contents output.old) (W.contents output.new) result }
     ensures told { W.has_failed output.new ≡ (W.has_failed output.old || is_write_failed (without_place result)) }
 {
-    match read_dialplan(files, alloc, lookup.file, Shown::Unfollowed) {
+    match read_dialplan(
+        files,
+        alloc,
+        lookup.file,
+        PlanUse::LookUp,
+        manner.options.clock,
+    ) {
         Ok(ReadDialplan::Loads(plan)) => {
             let made = plan.made_files(files, lookup.file);
             serve_match(&made, alloc, lookup, manner, output)
@@ -73,22 +81,30 @@ pub(crate) fn serve_match_including<'a, F: ReadFiles, W: WriteTold>(
     }
 }
 
+/// An audit over the wide table: its file, what it reports, and the word of `--clock`.
+#[derive(Clone, Copy)]
+pub(crate) struct WideAudit<'a, 'w> {
+    pub(crate) file: &'a str,
+    pub(crate) choice: AuditChoice<'w>,
+    pub(crate) clock: Option<&'w str>,
+}
+
 /// Audits the dialplan of a file and of those that it includes as requested.
 pub(crate) fn serve_audit_including<'a, F: ReadFiles, W: WriteTold>(
     files: &F,
     alloc: Global,
-    file: &'a str,
-    choice: AuditChoice<'_>,
+    asked: WideAudit<'a, '_>,
     output: &mut W,
 ) -> Result<Served, Faulted<'a>>
-    ensures serves { spec.AuditsIncluding (choice_of choice.entry) file.now (F.source_at files.now) (W.contents output.old)
-        (W.contents output.new) result }
+    ensures serves { spec.AuditsIncluding (option_map (λ word. word.now) asked.entry.clock) (choice_of asked.entry.choice) asked.entry.file.now
+        (F.source_at files.now) (W.contents output.old) (W.contents output.new) result }
     ensures told { W.has_failed output.new ≡ (W.has_failed output.old || is_write_failed (without_place result)) }
 {
-    match read_dialplan(files, alloc, file, Shown::Faults) {
+    let file = asked.file;
+    match read_dialplan(files, alloc, file, PlanUse::Report, asked.clock) {
         Ok(ReadDialplan::Loads(plan)) => {
             let made = plan.made_files(files, file);
-            serve_audit_by(&made, alloc, file, choice, output)
+            serve_audit_by(&made, alloc, file, asked.choice, output)
         }
         Ok(ReadDialplan::Faulty(told)) => Ok(faulty(told)),
         Err(unread) => Err(Faulted::from(unread)),

@@ -1,4 +1,4 @@
-//! Files of a system, one of which has a text that was made of it.
+//! Files of a system, one of which has a generated text.
 ghost use Rattle.std.specs.Prelude.{◌≡◌, IfErr, Some, true, false};
 ghost use Rattle.dp_conf.specs.Answers.{Answers};
 ghost use Rattle.dp_conf.specs.Words.{same_text};
@@ -11,7 +11,7 @@ use dp_conf::MOST_BYTES;
 use dp_plan::{NoMemory, Text};
 use std::alloc::Global;
 
-/// Files of which the one at a path has a made text: the dialplan that was read from it and from the files that it includes.
+/// Files of which the one at a path has a generated text: the dialplan that was read from it and from the files that it includes.
 #[derive(Clone, Copy)]
 pub(crate) struct MadeFiles<'a, F: ReadFiles> {
     pub(crate) files: &'a F,
@@ -26,7 +26,7 @@ fn is_same_path(path: &str, other: &str) -> bool
     path.as_bytes() == other.as_bytes()
 }
 
-/// The bytes of a text, where it has no more than a file may have.
+/// The bytes of a text, if it has no more than a file may have.
 fn read_made(alloc: Global, text: &[u8]) -> Result<Vec<u8>, PbxFault>
     ensures read { Answers (λ read. read.items) reason_of result (whole_text text.now) }
     ensures fault { IfErr result (λ fault. is_read_fault fault ≡ true) }
@@ -41,7 +41,7 @@ fn read_made(alloc: Global, text: &[u8]) -> Result<Vec<u8>, PbxFault>
     Ok(bytes)
 }
 
-/// The same, as what is read of a file with this text.
+/// The same, as the result of reading a file with this text.
 #[tactic(auto, using(crate::proofs::DialplanLemmas::reads_made))]
 fn read_made_file(alloc: Global, text: &[u8]) -> Result<Vec<u8>, PbxFault>
     ensures read { Reads (source (Some text.now) false) (λ given. Answers (λ read. read.items) reason_of result given) }

@@ -3,17 +3,19 @@ ghost use Rattle.std.specs.Prelude.{◌≡◌, ◌≢◌, ◌||◌};
 ghost use Rattle.dp_commands.specs.Faults.{is_write_failed};
 ghost use Rattle.dp_program.specs.Faulted.{without_place};
 ghost use Rattle.dp_program.specs.Files.{source};
-ghost use Rattle.dp_program.specs.Requests.{request_asked, joined};
+ghost use Rattle.dp_program.specs.Requests.{joined, options_of, request_asked};
 ghost use Rattle.dp_program.specs.Serves as spec;
 
 use crate::checks::{serve_check, serve_check_both, serve_check_queues};
+use crate::dialplans::moment_in;
 use crate::faulted::Faulted;
 use crate::files::ReadFiles;
 use crate::hints::{Served, without_hint};
 use crate::including::serve_check_including;
 use crate::including_reports::{
-    serve_audit_including, serve_list_including, serve_match_including,
+    WideAudit, serve_audit_including, serve_list_including, serve_match_including,
 };
+use crate::options::Options;
 use crate::reaches::serve_reach;
 use crate::reports::{Manner, serve_audit, serve_explain, serve_list, serve_match};
 use crate::request::Request;
@@ -26,21 +28,22 @@ use std::alloc::Global;
 use std::sync::Wait;
 use std::thread::Threads;
 
-/// Does what was asked for, and gives the status and what is told beside it: the files are read first, and then their texts. A fault is answered with the place
-/// where it stands: the line of a file, or the file that could not be read. With `explains` the notes of `check` have their explanations below them.
+/// Does what a request asks for, and gives the status and the hints beside it. The files are read first, and then their texts. A fault
+/// comes with its place: the line of a file, or the file that could not be read. If the options explain, each note of `check` has its
+/// explanation below it.
 ///
-/// `rt` is for the threads of a run that asks for them.
+/// `rt` is for the threads of a run that has them.
 pub fn serve<'a, F: ReadFiles, I: ReadTold, W: WriteTold, R: Threads + Wait + Sync>(
     rt: &R,
     files: &F,
     alloc: Global,
     request: &Request<'a>,
-    explains: bool,
+    options: Options<'a>,
     input: &mut I,
     output: &mut W,
 ) -> Result<Served, Faulted<'a>>
     ensures serves { spec.Serves (F.source_at files.now) (source (I.remaining input.old) (I.has_failed input.new))
-        (request_asked request.now) explains
+        (request_asked request.now) (options_of options.entry)
         (W.contents output.old) (W.contents output.new) result }
     ensures told { W.has_failed output.new ≡ (W.has_failed output.old || is_write_failed (without_place result)) }
     ensures heard { I.has_failed input.new ≡ (I.has_failed input.old || spec.fails_on_input (request_asked request.now)
@@ -50,10 +53,16 @@ pub fn serve<'a, F: ReadFiles, I: ReadTold, W: WriteTold, R: Threads + Wait + Sy
     match request {
         Request::Joined => without_hint(alloc, serve_joined(alloc, input, output)),
         Request::Check { file } => {
-            without_hint(alloc, serve_check(files, alloc, file, explains, output))
+            without_hint(
+                alloc,
+                serve_check(files, alloc, file, options.explains, output),
+            )
         }
         Request::CheckIncluding { file } => {
-            without_hint(alloc, serve_check_including(files, alloc, file, output))
+            without_hint(
+                alloc,
+                serve_check_including(files, alloc, file, moment_in(options.clock), output),
+            )
         }
         Request::CheckQueues { queues } => {
             without_hint(alloc, serve_check_queues(files, alloc, queues, output))
@@ -61,28 +70,30 @@ pub fn serve<'a, F: ReadFiles, I: ReadTold, W: WriteTold, R: Threads + Wait + Sy
         Request::CheckBoth { files: paths } => {
             without_hint(
                 alloc,
-                serve_check_both(files, alloc, paths, explains, output),
+                serve_check_both(files, alloc, paths, options.explains, output),
             )
         }
         Request::Listing { file } => without_hint(alloc, serve_list(files, alloc, file, output)),
-        Request::ListIncluding { file } => serve_list_including(files, alloc, file, output),
+        Request::ListIncluding { file } => {
+            serve_list_including(files, alloc, file, options.clock, output)
+        }
         Request::Audit { file } => serve_audit(files, alloc, file, output),
         Request::AuditBy { file, choice } if choice.is_wide => {
-            serve_audit_including(files, alloc, file, *choice, output)
+            let choice = *choice;
+            let asked = WideAudit {
+                file,
+                choice,
+                clock: options.clock,
+            };
+            serve_audit_including(files, alloc, asked, output)
         }
         Request::AuditBy { file, choice } => serve_audit_by(files, alloc, file, *choice, output),
         Request::Match { lookup, all } => {
-            let manner = Manner {
-                all: *all,
-                explains,
-            };
+            let manner = Manner { all: *all, options };
             serve_match(files, alloc, lookup, manner, output)
         }
         Request::MatchIncluding { lookup, all } => {
-            let manner = Manner {
-                all: *all,
-                explains,
-            };
+            let manner = Manner { all: *all, options };
             serve_match_including(files, alloc, lookup, manner, output)
         }
         Request::Explain { fault } => without_hint(alloc, serve_explain(*fault, output)),
@@ -120,6 +131,7 @@ pub fn serve<'a, F: ReadFiles, I: ReadTold, W: WriteTold, R: Threads + Wait + Sy
             let asked = WideRun {
                 files: run,
                 is_verbose: *is_verbose,
+                clock: options.clock,
             };
             serve_run_including(files, alloc, asked, output)
         }
@@ -133,6 +145,12 @@ pub fn serve<'a, F: ReadFiles, I: ReadTold, W: WriteTold, R: Threads + Wait + Sy
             held,
             is_verbose: false,
         } => without_hint(alloc, serve_debug(files, alloc, run, held, output)),
-        Request::Reach { question } => serve_reach(files, alloc, question, explains, output),
+        Request::Reach { question } => serve_reach(
+            files,
+            alloc,
+            question,
+            options.explains,
+            output,
+        ),
     }
 }

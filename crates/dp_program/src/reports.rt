@@ -13,13 +13,14 @@ use crate::entries::FaultNumber;
 use crate::faulted::{Faulted, placed_nowhere, with_place};
 use crate::files::ReadFiles;
 use crate::hints::{Served, audit_hint, match_hint};
+use crate::options::Options;
 use crate::request::Lookup;
 use crate::texts::read_text;
 use dp_commands::{PbxFault, audit, list_plan, match_all, match_one};
 use dp_conf::WriteTold;
 use std::alloc::Global;
 
-/// Audits a dialplan, and hints if it may be none.
+/// Audits a dialplan, and hints if the file may not be a dialplan.
 #[tactic(auto, using(crate::proofs::HintsLemmas::audit_hint_refused))]
 fn audit_told<W: WriteTold>(
     alloc: Global,
@@ -87,28 +88,29 @@ fn look_up<W: WriteTold>(
     }
 }
 
-/// How to look up an entry: whether to report all extensions that match, and whether to suggest names for one that does not exist.
+/// How to look up an entry: whether to report all extensions that match, and the options of the request. If it explains, it suggests names
+/// for one that does not exist.
 #[derive(Clone, Copy)]
-pub(crate) struct Manner {
+pub(crate) struct Manner<'w> {
     pub(crate) all: bool,
-    pub(crate) explains: bool,
+    pub(crate) options: Options<'w>,
 }
 
-/// Reports in the same way, and hints if the dialplan may be none, or has no context with the name.
+/// Reports in the same way, and hints if the file may not be a dialplan, or has no context with the name.
 #[tactic(auto, using(crate::proofs::HintsLemmas::match_hint_refused))]
 fn look_up_told<W: WriteTold>(
     alloc: Global,
     plan: &[u8],
     lookup: &Lookup<'_>,
-    manner: Manner,
+    manner: Manner<'_>,
     output: &mut W,
 ) -> Result<Served, PbxFault>
     ensures reports { Reports (W.contents output.old) (W.contents output.new)
-        (spec.look_up (lookup_of lookup.now) manner.all plan.now) (status_in result) }
-    ensures tells { Tells (match_hint_of (lookup_of lookup.now) manner.explains plan.now) result }
+        (spec.look_up (lookup_of lookup.now) manner.entry.all plan.now) (status_in result) }
+    ensures tells { Tells (match_hint_of (lookup_of lookup.now) manner.entry.options.explains plan.now) result }
     ensures told { W.has_failed output.new ≡ (W.has_failed output.old || is_write_failed result) }
 {
-    let hint = match_hint(alloc, lookup, manner.explains, plan)?;
+    let hint = match_hint(alloc, lookup, manner.options.explains, plan)?;
     let status = look_up(alloc, plan, lookup, manner.all, output)?;
     Ok(Served { status, hint })
 }
@@ -118,11 +120,11 @@ pub(crate) fn serve_match<'a, F: ReadFiles, W: WriteTold>(
     files: &F,
     alloc: Global,
     lookup: &Lookup<'a>,
-    manner: Manner,
+    manner: Manner<'_>,
     output: &mut W,
 ) -> Result<Served, Faulted<'a>>
-    ensures serves { spec.LooksUp (lookup_of lookup.now) (F.source_at files.now lookup.now.file.now) manner.all manner.explains
-        (W.contents output.old) (W.contents output.new) result }
+    ensures serves { spec.LooksUp (lookup_of lookup.now) (F.source_at files.now lookup.now.file.now) manner.entry.all
+        manner.entry.options.explains (W.contents output.old) (W.contents output.new) result }
     ensures told { W.has_failed output.new ≡ (W.has_failed output.old || is_write_failed (without_place result)) }
 {
     let plan = read_text(files, alloc, lookup.file)?;

@@ -1,10 +1,10 @@
-//! What the program is asked for.
+//! The requests to the program.
 use crate::entries::FaultNumber;
 use dp_commands::PlanNames;
 use dp_plan::Priority;
 use dp_wide_runs::AuditChoice;
 
-/// What is looked up in a dialplan: what was dialled, in the context where the call begins, and at which priority.
+/// A look-up in a dialplan: what was dialled, in the context where the call begins, and at which priority.
 #[derive(Clone, Copy, Debug, PartialEq, Eq)]
 pub struct Lookup<'a> {
     /// The file of the dialplan.
@@ -13,7 +13,7 @@ pub struct Lookup<'a> {
     pub context: &'a str,
     /// What was dialled.
     pub text: &'a str,
-    /// The priority that is asked for.
+    /// The priority.
     pub priority: Priority,
 }
 
@@ -26,18 +26,18 @@ pub struct CheckFiles<'a> {
     pub queues: &'a str,
 }
 
-/// What is asked about the calls that come in at a context of a dialplan, by words.
+/// A question about the calls that come in at a context of a dialplan, in words of the command line.
 #[derive(Clone, Copy, Debug, PartialEq, Eq)]
 pub struct ReachQuestion<'a> {
     /// The file of the dialplan.
     pub file: &'a str,
-    /// The file of the queues; without it there are none.
+    /// The file of the queues; without it there are no queues.
     pub queues: Option<&'a str>,
     /// The name of the context where the call comes in.
     pub context: &'a str,
-    /// The name of a context of which it is asked whether the call may reach it; without it all that it may run is told.
+    /// The name of a context that the call may or may not reach; without it everything that the call may run is reported.
     pub target: Option<&'a str>,
-    /// The names of the contexts where other calls come in, parted by commas; without them, each of the dialplan.
+    /// The names of the contexts where other calls come in, separated by commas; without them, every context of the dialplan.
     pub starts: Option<&'a str>,
     /// The bytes of a dialled extension, as ranges.
     pub exten: Option<&'a str>,
@@ -50,7 +50,7 @@ pub struct ReachQuestion<'a> {
 pub struct RunFiles<'a> {
     /// The dialplan.
     pub plan: &'a str,
-    /// The queues; without them there are none.
+    /// The file of the queues; without it there are no queues.
     pub queues: Option<&'a str>,
     /// The second dialplan, which a line `reload` of the script puts in force.
     pub second_plan: Option<&'a str>,
@@ -62,7 +62,7 @@ impl<'a> RunFiles<'a> {
     ghost use Rattle.std.specs.Prelude.{◌≡◌};
     ghost use Rattle.std.specs.Option.{option_map};
 
-    /// The paths of the dialplans, as a verbose run tells them.
+    /// The paths of the dialplans, as a verbose run prints them.
     pub(crate) fn plan_names(&self) -> PlanNames<'a>
         ensures plan { result.plan.now ≡ self.now.plan.now }
         ensures second { option_map (λ name. name.now) result.second_plan ≡ option_map (λ path. path.now) self.now.second_plan }
@@ -77,82 +77,82 @@ impl<'a> RunFiles<'a> {
 /// What a command line asks for.
 #[derive(Clone, Copy, Debug, PartialEq, Eq)]
 pub enum Request<'a> {
-    /// No command: to run the joined text of the standard input.
+    /// No command: runs the joined text of the standard input.
     Joined,
-    /// `check FILE`: to load a dialplan.
+    /// `check FILE`: loads a dialplan.
     Check {
         file: &'a str,
     },
-    /// `check --asterisk FILE`: to load a dialplan from a file and from those that it includes, and to tell each fault.
+    /// `check --asterisk FILE`: loads a dialplan from a file and from those that it includes, and reports each fault.
     CheckIncluding {
         file: &'a str,
     },
-    /// `check --queues QUEUES`: to load a file of queues.
+    /// `check --queues QUEUES`: loads a queue file.
     CheckQueues {
         queues: &'a str,
     },
-    /// `check --queues QUEUES FILE`: to load a dialplan and a file of queues.
+    /// `check --queues QUEUES FILE`: loads a dialplan and a queue file.
     CheckBoth {
         files: CheckFiles<'a>,
     },
-    /// `list FILE`: to list a dialplan in its canonical text.
+    /// `list FILE`: lists a dialplan as its canonical text.
     Listing {
         file: &'a str,
     },
-    /// `list --asterisk FILE`: to list a dialplan that is read from a file and from those that it includes.
+    /// `list --asterisk FILE`: lists a dialplan that is read from a file and from those that it includes.
     ListIncluding {
         file: &'a str,
     },
-    /// `audit FILE`: to tell what the writer of a dialplan may not have meant.
+    /// `audit FILE`: reports what the writer of a dialplan may not have meant.
     Audit {
         file: &'a str,
     },
-    /// `audit [--asterisk] [--only KINDS] [--ignore KINDS] FILE` with at least one of these options: to tell the findings of some kinds, or
+    /// `audit [--asterisk] [--only KINDS] [--ignore KINDS] FILE` with at least one of these options: reports the findings of some kinds, or
     /// those over the wide table. Over the wide table the dialplan is read from a file and from those that it includes.
     AuditBy {
         file: &'a str,
         choice: AuditChoice<'a>,
     },
-    /// `match [--all] FILE CONTEXT TEXT [PRIORITY]`: to find the entry that answers, and to say of all extensions that match what
-    /// becomes of them, where that is asked for.
+    /// `match [--all] FILE CONTEXT TEXT [PRIORITY]`: finds the entry that answers and, if all are asked for, reports what decides about
+    /// each extension that matches.
     Match {
         lookup: Lookup<'a>,
         all: bool,
     },
-    /// `match --asterisk [--all] FILE CONTEXT TEXT [PRIORITY]`: to find the same in a dialplan that is read from a file and from those that
-    /// it includes. Where the dialplan has something that this program cannot follow, nothing is looked up.
+    /// `match --asterisk [--all] FILE CONTEXT TEXT [PRIORITY]`: does the same in a dialplan that is read from a file and from those that it
+    /// includes. If the dialplan has something that this program cannot follow, nothing is looked up.
     MatchIncluding {
         lookup: Lookup<'a>,
         all: bool,
     },
-    /// `explain CODE`: to print the manual's entry of a fault.
+    /// `explain CODE`: prints the manual's entry on a fault.
     Explain {
         fault: FaultNumber,
     },
-    /// `run [--queues QUEUES] [--reload DIALPLAN] [--threads N] [--verbose] FILE SCRIPT`: to run a script on a dialplan, with the queues
-    /// and beside the second dialplan of files where these are named, and in so many threads where a number is given. A verbose run
-    /// prints more above the lines of steps and of refusals; one in threads prints the same as it would else.
+    /// `run [--queues QUEUES] [--reload DIALPLAN] [--threads N] [--verbose] FILE SCRIPT`: runs a script on a dialplan, with the queues and
+    /// the second dialplan of further files if they are named, in threads if their number is given. A verbose run prints more above the
+    /// lines of steps and of refusals; a run in threads prints the same with or without `--verbose`.
     Run {
         files: RunFiles<'a>,
         threads: Option<u32>,
         is_verbose: bool,
     },
-    /// `run --asterisk [--queues QUEUES] [--reload DIALPLAN] [--verbose] FILE SCRIPT`: to run a script on a dialplan likewise, over the
-    /// applications and functions of the wide table. Each dialplan is read from a file and from those that it includes. The script may
-    /// tell facts, and the run stops before what is unknown. Where a dialplan has something that this program cannot follow, nothing runs.
+    /// `run --asterisk [--queues QUEUES] [--reload DIALPLAN] [--verbose] FILE SCRIPT`: runs a script on a dialplan in the same way, over
+    /// the applications and functions of the wide table. Each dialplan is read from a file and from those that it includes. The script may
+    /// state facts, and the run stops before anything unknown. If a dialplan has something that this program cannot follow, nothing runs.
     RunWide {
         files: RunFiles<'a>,
         is_verbose: bool,
     },
-    /// `debug [--queues QUEUES] [--reload DIALPLAN] --break BREAK [--verbose] FILE SCRIPT`: to run a script on a dialplan likewise, with
-    /// a halt at each step where the break holds.
+    /// `debug [--queues QUEUES] [--reload DIALPLAN] --break BREAK [--verbose] FILE SCRIPT`: runs a script on a dialplan in the same way,
+    /// and halts at each step where the break holds.
     Debug {
         files: RunFiles<'a>,
         held: &'a str,
         is_verbose: bool,
     },
-    /// `reach [--queues QUEUES] [--start CONTEXTS] [--exten BYTES] [--caller NUMBERS] [--to TARGET] FILE CONTEXT`: to tell what a call
-    /// may run that comes in at a context, or whether it may reach another.
+    /// `reach [--queues QUEUES] [--start CONTEXTS] [--exten BYTES] [--caller NUMBERS] [--to TARGET] FILE CONTEXT`: reports what a call that
+    /// comes in at a context may run, or whether it may reach another context.
     Reach {
         question: ReachQuestion<'a>,
     },

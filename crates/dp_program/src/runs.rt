@@ -66,7 +66,7 @@ fn status_of<H: Drop>(ran: (u8, H)) -> u8
     status
 }
 
-/// Runs the script of a run on its dialplan, in so many threads that no gate holds, and gives the status.
+/// Runs the script of a run on its dialplan in this number of threads, which no gate holds, and gives the status.
 fn run_in_threads<W: WriteTold, R: Threads + Wait + Sync>(
     rt: &R,
     alloc: Global,

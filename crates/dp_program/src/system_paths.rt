@@ -1,4 +1,4 @@
-//! The files of a system, as what reads a dialplan with its included files asks for them.
+//! The files of a system, for the reader of a dialplan with its included files.
 ghost use Rattle.std.specs.Prelude.{IfOk};
 ghost use Rattle.dp_files.specs.FolderFiles.{MayRead};
 ghost use Rattle.dp_files.specs.Sources.{text_now};
@@ -18,7 +18,7 @@ pub(crate) struct SystemPaths<'a, F: ReadFiles> {
     pub(crate) files: &'a F,
 }
 
-/// The bytes of a file, where it has no more than a file may have.
+/// The bytes of a file, if it has no more than allowed.
 fn text_of(bytes: Vec<u8>) -> FileText
     ensures { (source : Source) → AreBytes source.bytes bytes.items → MayRead (MayHold source) (text_now result) }
 {
@@ -28,7 +28,7 @@ fn text_of(bytes: Vec<u8>) -> FileText
     FileText::Bytes(bytes)
 }
 
-/// What reading the file of a path gives.
+/// The result of reading the file at a path.
 fn read_text<F: ReadFiles>(files: &F, alloc: Global, path: &str) -> Result<FileText, NoMemory>
     ensures { IfOk result (λ text. MayRead (MayHold (F.source_at files.now path.now)) (text_now text)) }
 {
@@ -50,7 +50,7 @@ impl<'a, F: ReadFiles> Paths for SystemPaths<'a, F> {
 
     ghost may_be = { λ paths path text. MayHold (F.source_at paths.files.now path) text };
 
-    // What a folder has is known to no contract.
+    // No contract knows what a folder contains.
     ghost may_list = { λ _ _ _. Unit {0} };
 
     fn read_path(&self, alloc: Global, path: &str) -> Result<FileText, NoMemory> {

@@ -16,7 +16,7 @@ use dp_conf::WriteTold;
 use dp_wide_runs::{AuditChoice, audit_by};
 use std::alloc::Global;
 
-/// Audits a dialplan as requested, and hints if it may be none.
+/// Audits a dialplan as requested, and hints if the file may not be a dialplan.
 #[tactic(auto, using(crate::proofs::HintsLemmas::choice_hint_refused))]
 fn audit_told<W: WriteTold>(
     alloc: Global,

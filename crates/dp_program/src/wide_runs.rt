@@ -1,5 +1,6 @@
 //! The requests that run a script over the wide table.
 ghost use Rattle.std.specs.Prelude.{◌≡◌, ◌||◌, None, Some};
+ghost use Rattle.std.specs.Option.{option_map};
 ghost use Rattle.dp_commands.specs.Faults.{is_write_failed};
 ghost use Rattle.dp_program.specs.Dialplans.{text_now};
 ghost use Rattle.dp_program.specs.Faulted.{without_place};
@@ -7,7 +8,7 @@ ghost use Rattle.dp_program.specs.Serves as spec;
 ghost use Rattle.dp_program.specs.Texts.{paths_of, sources_of, texts_of};
 ghost use Rattle.dp_program.specs.WideRuns.{places_of};
 
-use crate::dialplans::{PlanText, ReadDialplan, faulty, read_dialplan};
+use crate::dialplans::{PlanText, PlanUse, ReadDialplan, faulty, read_dialplan};
 use crate::entries::ManualEntries;
 use crate::faulted::{Faulted, placed_in_run};
 use crate::files::ReadFiles;
@@ -16,7 +17,6 @@ use crate::request::RunFiles;
 use crate::texts::{Texts, read_texts};
 use dp_commands::{PbxFault, PlanPlaces};
 use dp_conf::WriteTold;
-use dp_notices::Shown;
 use dp_wide_runs::{run_wide, run_wide_verbose};
 use std::alloc::Global;
 
@@ -78,14 +78,15 @@ fn serve_run_wide_verbose<'a, F: ReadFiles, W: WriteTold>(
     placed_in_run(run, &texts, answered)
 }
 
-/// A run over the wide table: its files, and whether it is verbose.
+/// A run over the wide table: its files, whether it is verbose, and the word of `--clock`.
 #[derive(Clone, Copy)]
 pub(crate) struct WideRun<'r, 'a> {
     pub(crate) files: &'r RunFiles<'a>,
     pub(crate) is_verbose: bool,
+    pub(crate) clock: Option<&'a str>,
 }
 
-/// Runs the script of a run over files in which its dialplans have the texts that were made of them.
+/// Runs the script of a run over files in which its dialplans have the generated texts.
 fn run_made<'a, F: ReadFiles, W: WriteTold>(
     files: &F,
     alloc: Global,
@@ -102,6 +103,7 @@ fn run_made<'a, F: ReadFiles, W: WriteTold>(
         WideRun {
             files: run,
             is_verbose: true,
+            clock: _,
         } => without_hint(
             alloc,
             serve_run_wide_verbose(files, alloc, run, places, output),
@@ -109,6 +111,7 @@ fn run_made<'a, F: ReadFiles, W: WriteTold>(
         WideRun {
             files: run,
             is_verbose: false,
+            clock: _,
         } => without_hint(alloc, serve_run_wide(files, alloc, run, output)),
     }
 }
@@ -191,11 +194,11 @@ fn run_after<'a, F: ReadFiles, W: WriteTold>(
     first: FirstPlan<'_, 'a>,
     output: &mut W,
 ) -> Result<Served, Faulted<'a>>
-    ensures serves { spec.RunsSecond (paths_of asked.entry.files.now) (F.source_at files.now) asked.entry.is_verbose
+    ensures serves { spec.RunsSecond (option_map (λ word. word.now) asked.entry.clock) (paths_of asked.entry.files.now) (F.source_at files.now) asked.entry.is_verbose
         (W.contents output.old) (W.contents output.new) (text_now first.entry.plan.now) first.entry.path.now result }
     ensures told { W.has_failed output.new ≡ (W.has_failed output.old || is_write_failed (without_place result)) }
 {
-    match read_dialplan(files, alloc, first.path, Shown::Unfollowed) {
+    match read_dialplan(files, alloc, first.path, PlanUse::Run, asked.clock) {
         Ok(ReadDialplan::Loads(second)) => {
             let plans = PlanTexts {
                 plan: first.plan,
@@ -217,7 +220,7 @@ fn run_beside<'a, F: ReadFiles, W: WriteTold>(
     plan: &PlanText,
     output: &mut W,
 ) -> Result<Served, Faulted<'a>>
-    ensures serves { spec.RunsPlan (paths_of asked.entry.files.now) (F.source_at files.now) asked.entry.is_verbose
+    ensures serves { spec.RunsPlan (option_map (λ word. word.now) asked.entry.clock) (paths_of asked.entry.files.now) (F.source_at files.now) asked.entry.is_verbose
         (W.contents output.old) (W.contents output.new) (text_now plan.now) result }
     ensures told { W.has_failed output.new ≡ (W.has_failed output.old || is_write_failed (without_place result)) }
 {
@@ -238,11 +241,11 @@ pub(crate) fn serve_run_including<'a, F: ReadFiles, W: WriteTold>(
     asked: WideRun<'_, 'a>,
     output: &mut W,
 ) -> Result<Served, Faulted<'a>>
-    ensures serves { spec.RunsIncluding (paths_of asked.entry.files.now) (F.source_at files.now) asked.entry.is_verbose
+    ensures serves { spec.RunsIncluding (option_map (λ word. word.now) asked.entry.clock) (paths_of asked.entry.files.now) (F.source_at files.now) asked.entry.is_verbose
         (W.contents output.old) (W.contents output.new) result }
     ensures told { W.has_failed output.new ≡ (W.has_failed output.old || is_write_failed (without_place result)) }
 {
-    match read_dialplan(files, alloc, asked.files.plan, Shown::Unfollowed) {
+    match read_dialplan(files, alloc, asked.files.plan, PlanUse::Run, asked.clock) {
         Ok(ReadDialplan::Loads(plan)) => run_beside(files, alloc, asked, &plan, output),
         Ok(ReadDialplan::Faulty(told)) => Ok(faulty(told)),
         Err(unread) => Err(Faulted::from(unread)),

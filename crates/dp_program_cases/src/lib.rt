@@ -1,7 +1,7 @@
 //! Cases of the program's command lines, as tables with their answers, and of the examples of the documents, which `docs/check` compares
 //! with the documents byte for byte.
 //!
-//! A crate with tests is proved twice, so the cases of the libraries stand in crates of their own, where each is proved once.
+//! A crate with tests is proved twice, so the cases of the libraries are in crates of their own, where each is proved once.
 #![tactic(auto)]
 
 #[cfg(test)]

@@ -1,6 +1,6 @@
 //! A folder of files, and command lines that are run over it.
 //!
-//! This is for tests alone.
+//! This is only for tests.
 #![tactic(auto)]
 
 use dp_case_tables::check_same;
@@ -15,8 +15,8 @@ use std::test::Fail;
 use std::thread::Threads;
 use std::{env, fs, str};
 
-/// The files of the folder that the command lines find, beside `folder`, which is one itself, and `long`, which has one
-/// byte more than a file may have. There is none that is called `missing`. A `¶` is a line feed.
+/// The files of the folder that the command lines find, besides `folder`, which is a folder itself, and `long`, which has one byte more
+/// than a file may have. No file is called `missing`. A `¶` is a line feed.
 const FILES: &str = "\
 # What the manual has as sample/extensions.conf and sample/calls.script, and its example of patterns.
 sample→; The telephones of a small house.¶[globals]¶DESK=100¶¶[phones]¶exten => 100,1(desk),NoOp(the front desk)¶same => n,Hangup()¶exten => _1XX,1,NoOp(a room)¶same => n,Goto(${DESK},desk)         ; nobody is in: to the front desk¶exten => _NXXXXXX,1,NoOp(a call to town)¶ same => n,Hangup()¶include => rest¶¶[rest]¶exten => _X.,1,NoOp(no such number)¶ same => n,Hangup()¶
@@ -67,6 +67,9 @@ faulty.script→start main 100¶jump 1¶
 priority→[main]¶exten => s,0,NoOp()¶
 name→[main]¶exten => s,1,NoOp()¶exten => _[],1,NoOp()¶
 switched→[main]¶lswitch => Loopback/x¶
+filled→[main]¶#exec /bin/true¶exten => s,1,Hangup()¶
+macros→[main]¶exten => s,1,Macro(x)¶exten => s,2,Hangup()¶[macro-x]¶exten => s,1,NoOp(in)¶
+macros.script→start main s¶step 1 4¶
 ignoring→[main]¶ignorepat => 9¶
 hinted→[main]¶exten => 100,hint,Line/1¶
 plus→[main]¶exten => s,n+1,NoOp()¶
@@ -95,7 +98,7 @@ pieces.script→start main s¶step 1 3¶
 dashed→[-in-]¶exten => 1,1,NoOp¶
 ";
 
-/// The text with each character like the one in place of the other.
+/// The text with each character of one kind replaced by the other.
 fn replace_sign(alloc: Global, text: &str, old: char, new: char) -> Result<String, NoMemory> {
     let mut out = String::new(alloc);
     for character in text.chars() {
@@ -134,8 +137,7 @@ fn words_of(alloc: Global, folder: &str, line: &str) -> Result<Vec<String>, NoMe
     Ok(all)
 }
 
-/// The status of a command line, and all that it prints on the standard output and on standard error, as
-/// `STATUS→OUTPUT→ERRORS`.
+/// The status of a command line, and its output and errors, as `STATUS→OUTPUT→ERRORS`.
 fn output_of<R: Files + Threads + Wait + Sync + AllocGlobal + Clone + Drop>(
     rt: &R,
     folder: &str,
@@ -177,8 +179,8 @@ fn with_names(alloc: Global, folder: &str, text: &str) -> Result<String, NoMemor
     Ok(out)
 }
 
-/// Whether a command line has this status and prints this, all of it in one line, with `@NAME` for the path of a file. After a `←` stands the
-/// standard input.
+/// Whether a command line has this status and prints this, all in one line, with `@NAME` for the path of a file. The standard input comes
+/// after a `←`.
 pub fn check_line<R: Files + Threads + Wait + Sync + AllocGlobal + Clone + Drop>(
     rt: &R,
     folder: &str,
@@ -192,7 +194,7 @@ pub fn check_line<R: Files + Threads + Wait + Sync + AllocGlobal + Clone + Drop>
     check_same(asked, &got, want)
 }
 
-/// Whether each case of a table is so.
+/// Checks each case of a table.
 pub fn check_table<R: Files + Threads + Wait + Sync + AllocGlobal + Clone + Drop>(
     rt: &R,
     folder: &str,
@@ -229,7 +231,7 @@ fn write_files<R: Files + AllocGlobal>(rt: &R, folder: &str) -> Result<(), Fail>
     Ok(())
 }
 
-/// Makes the folder and its files, and gives its path. The number is that of the process.
+/// Makes the folder and its files, and returns its path. The number is that of the process.
 pub fn make_folder<R: Files + Env + AllocGlobal>(
     rt: &R,
     name: &str,

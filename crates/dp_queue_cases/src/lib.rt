@@ -1,6 +1,6 @@
 //! Cases of variables, of texts that are expanded, and of queues, as tables with their answers.
 //!
-//! A crate with tests is proved twice, so the cases of the libraries stand in crates of their own, where each is proved once.
+//! A crate with tests is proved twice, so the cases of the libraries are in crates of their own, where each is proved once.
 #![tactic(auto)]
 
 #[cfg(test)]

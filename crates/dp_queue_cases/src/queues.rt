@@ -1,4 +1,4 @@
-//! Queues, how they load and what their calls answer, worked out by hand from the rules.
+//! Queues, how they load and what their functions answer, worked out by hand from the rules.
 mod every_fault;
 mod files;
 mod manual;
@@ -17,7 +17,7 @@ use dp_queue::{NoMemory, QueueFault, Queues};
 use std::alloc::Global;
 use std::test::Fail;
 
-/// What a file of queues loads as.
+/// The result of loading a file of queues.
 struct Loads;
 
 impl Question for Loads {
@@ -29,7 +29,7 @@ impl Question for Loads {
     }
 }
 
-/// How much a file of many members or queues loads as.
+/// The counts of what a file of many members or queues loads as.
 struct Counted;
 
 impl Question for Counted {
@@ -53,7 +53,7 @@ fn counts_of(alloc: Global, text: &[u8]) -> Result<String, Fail> {
     }
 }
 
-/// What the queues of a file answer to steps between ` ; `, one answer after another.
+/// The answers of the queues of a file to steps separated by ` ; `, one after another.
 struct Acts;
 
 fn take_steps(

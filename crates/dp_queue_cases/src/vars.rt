@@ -120,7 +120,7 @@ fn push_expanded(
     }
 }
 
-/// The expansion of a text, in characters of the numbers of its bytes.
+/// The expansion of a text, each byte as the character with its number.
 fn expansion(alloc: Global, world: &World, text: &[u8]) -> Result<String, NoMemory> {
     let mut out = String::new(alloc);
     push_expanded(&mut out, alloc, world, text)?;
@@ -133,14 +133,14 @@ fn local_of(alloc: Global, name: &[u8], value: &[u8]) -> Result<Local, NoMemory>
     Ok(Local { name, value })
 }
 
-/// A frame with one local, which goes back to its number.
+/// A frame with one local, which returns to its number.
 fn push_frame(alloc: Global, world: &mut World, name: &[u8], value: &[u8]) -> Result<(), NoMemory> {
     let mut locals = Vec::new(alloc);
     locals.push(local_of(alloc, name, value)?)?;
     world.store.push_frame(alloc, 1, locals)
 }
 
-/// A global that is expanded before it is put, with no channel.
+/// A global that is expanded before it is set, without a channel.
 fn put_expanded(
     alloc: Global,
     world: &mut World,
@@ -153,7 +153,7 @@ fn put_expanded(
     world.globals.put(alloc, name, value.as_bytes())
 }
 
-/// A frame with a local for each name, which goes back to its number.
+/// A frame with a local for each name, which returns to its number.
 fn push_names(alloc: Global, world: &mut World, names: &str) -> Result<(), NoMemory> {
     let mut locals = Vec::new(alloc);
     for name in names.split(' ') {
@@ -224,7 +224,7 @@ fn take_step(alloc: Global, world: &mut World, step: &str) -> Result<(), NoMemor
     Ok(())
 }
 
-/// Takes the steps between ` ; `.
+/// Takes the steps separated by ` ; `.
 fn take_all(alloc: Global, world: &mut World, steps: &str) -> Result<(), NoMemory> {
     for step in steps.split(" ; ") {
         take_step(alloc, world, step)?;
@@ -232,7 +232,7 @@ fn take_all(alloc: Global, world: &mut World, steps: &str) -> Result<(), NoMemor
     Ok(())
 }
 
-/// The expansion in a world of what stands after the last ` ; `, after the steps between those before it.
+/// The expansion in a world of the text after the last ` ; `, after the steps before it.
 fn expanded_in(alloc: Global, world: &mut World, asked: &str) -> Result<String, Fail> {
     let (steps, text) = asked.rsplit_once(" ; ").unwrap_or(("", asked));
     take_all(alloc, world, steps)?;
@@ -241,13 +241,12 @@ fn expanded_in(alloc: Global, world: &mut World, asked: &str) -> Result<String, 
     Ok(out)
 }
 
-/// The expansion of what stands after the last ` ; `, after the steps between those before it.
+/// The expansion of the text after the last ` ; `, after the steps before it.
 ///
-/// `set NAME=VALUE` sets a variable, `local` a local of the innermost frame, `push` adds a frame with one local, `frame NAME ..`
-/// one with several, `pop` drops the innermost, `return NAME=VALUE` drops it and then sets a variable, `drop` drops all
-/// frames, `after` sets a variable after a change that puts the global `TOLD`, `refused` does so where the change is
-/// refused, `global` puts a global, `expanded` puts one whose value is expanded before, and `gone` takes the channel away.
-/// The channel is 7 at `main`, `100`, 2 with the caller `5551234`.
+/// `set NAME=VALUE` sets a variable, `local` a local of the innermost frame, `push` adds a frame with one local, `frame NAME ..` one with
+/// several, `pop` drops the innermost, `return NAME=VALUE` drops it and then sets a variable, `drop` drops all frames, `after` sets a
+/// variable after a change that sets the global `TOLD`, `refused` does so if the change fails, `global` sets a global, `expanded` sets one
+/// whose value is expanded before, and `gone` takes the channel away. The channel is 7 at `main`, `100`, 2 with the caller `5551234`.
 struct Expanded;
 
 impl Question for Expanded {

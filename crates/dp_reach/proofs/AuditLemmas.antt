@@ -1,4 +1,4 @@
--- A closed audit is right of every run from the beginning.
+-- A closed audit is right about every run from the beginning.
 use Rattle.std.proofs.Common.{◌≡◌, inl, inr, ℕ, ◌+◌, ◌-◌, ◌≤◌, ◌==◌, nat_lt, nat_eq, Bool, true, false, cond, List, [], ◌∷◌, ◌++◌, length, map, codes, Some, None, slice_get, unwrap_or, refl, sym, subst, arith, if◌then◌else◌}
 use Rattle.std.proofs.lemmas.List.{length-append}
 use Rattle.std.proofs.lemmas.Option.{slice_get_past}
@@ -60,7 +60,7 @@ in-new_channel : (claim : Claim) (context exten caller : List ℕ) → Covers cl
 in-new_channel claim context exten caller covers is =
     record { place = covers; store = record { variables = held-empty claim.names; locals = tt; back = tt }; caller = is; phase = tt }
 
--- what the values of globals see: no channel gives its own extension and context, and these are empty then
+-- what the values of globals see: there is no channel with its own extension and context, so these are empty
 nothing-fits : (names : Names) (globals : Named) → AreHeld names globals → (name : List ℕ)
     → Fits (variable_pieces (names_outside names) name) (value_or_empty (channel_map None ∷ globals ∷ []) name)
 nothing-fits names globals held name =

@@ -1,4 +1,4 @@
--- A text without the blanks at its ends is cut at the parentheses where it is cut with them.
+-- A text without the blanks at its ends is cut at the same parentheses as with them.
 use Rattle.std.proofs.Common.{◌≡◌, ℕ, ◌==◌, Bool, true, false, List, [], ◌∷◌, ◌++◌, Option, Some, None, refl, sym, ap, ◌∙◌, if◌then◌else◌}
 use borrow.Author.Tests.{eqb-true}
 use Rattle.std.specs.Option.{option_map_or}
@@ -6,7 +6,7 @@ use Rattle.dp_conf.proofs.TextLemmas.{Avoids, IsCut, cut_once-here, cut_once-is,
 use Rattle.dp_conf.specs.Blanks.{before_kept, is_blank, trim, trim_end, trim_start}
 use Rattle.dp_conf.specs.Cut.{before_last, cut_once}
 
--- blanks at the ends do not count for a cut at a byte that is none
+-- blanks at the ends do not affect a cut at a byte that is not a blank
 start-cut : (front rest : List ℕ) → trim_start (front ++ 40 ∷ rest) ≡ trim_start front ++ 40 ∷ rest
 start-cut [] rest = refl
 start-cut (b ∷ bs) rest = by (is_blank b) (start-cut bs rest)

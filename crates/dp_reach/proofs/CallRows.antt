@@ -1,4 +1,4 @@
--- The rows that enter subroutines stay inside where what they owe is met.
+-- The rows that enter subroutines stay inside if what they owe is met.
 use Rattle.std.proofs.Common.{◌≡◌, inl, inr, ℕ, suc, ◌+◌, ◌-◌, ◌≤◌, Bool, true, false, List, [], ◌∷◌, ◌++◌, map, length, take, reverse, ◌==◌, codes, slice_get, Option, Some, None, nat_le, refl, sym, ap, ◌∙◌, subst, if◌then◌else◌, arith}
 use Rattle.std.proofs.lemmas.Bool.{leb-true}
 use Rattle.std.proofs.lemmas.List.{length-append, length-take}
@@ -36,7 +36,7 @@ use Rattle.dp_reach.proofs.GotoRow.{includes-all}
 use Rattle.dp_reach.proofs.StoreLemmas.{AreLocals, each-get, kept-with_frame}
 use Rattle.dp_reach.proofs.TargetLemmas.{FitsOne, arguments-within, covers-included, covers-same, in-target, in-within}
 
--- parts of which the last is another
+-- parts with a different last part
 abbrev with_last : List (List ℕ) → List ℕ → List (List ℕ)
 with_last parts last = take (length parts - 1) parts ++ last ∷ []
 
@@ -72,7 +72,7 @@ in-last plan own place area (c ∷ e ∷ p ∷ shapes) (a ∷ b ∷ []) last ins
 in-last plan own place area (c ∷ e ∷ p ∷ []) (a ∷ b ∷ d ∷ f ∷ parts) last inside are some found = absurd are.1.1.1
 in-last plan own place area (c ∷ e ∷ p ∷ q ∷ shapes) (a ∷ b ∷ d ∷ []) last inside are some found = absurd are.1.1.1
 
--- a place that is found is asked for
+-- a place that is found is a requested one
 found-asked : (plan : PlanOf) (o : Option Place) (place : Place) → if_found plan o ≡ Some place → o ≡ Some place
 found-asked plan None place is = absurd cc
 found-asked plan (Some p) place is = by (is_found plan p.context p.exten p.priority) is
@@ -114,7 +114,7 @@ locals-all claim set met number [] all = tt
 locals-all claim set met number (value ∷ values) all =
     (within-more set _ (met (codes "ARG" ++ decimal number)) value all.0, locals-all claim set met (number + 1) values all.1)
 
--- what a call of a part within a set is within it
+-- the priority and the arguments of a subroutine call are within a set
 record IsCallWithin (set : Bytes) (call : SubroutineCall) : Type 0 where
   priority : Within set call.priority
   arguments : AllByRecursion (Within set) call.arguments
@@ -156,13 +156,13 @@ call-within set part call within is = by (cut_once 40 part) refl is
         subst (IsCallWithin set) one (record { priority = within; arguments = tt })
     by (Some cut) from same = inner cut from (before_last 41 cut.1) refl same
 
--- the locals of a call by the pieces of its last part
+-- the locals of a call, given the pieces of its last part
 module _ (claim : Claim) (set : Bytes) (pieces : List Piece) (part : List ℕ) (call : SubroutineCall) (last : IsLastPart pieces part) (within : Within set part)
     (is : called_by part (cut_once 40 part) ≡ Some call) where
   all-locals : Meets claim (HoldsAll set) → AreLocals claim.names (argument_locals 1 call.arguments)
   all-locals met = locals-all claim set met 1 call.arguments (call-within set part call within is).arguments
 
-  -- by what stands between the parentheses
+  -- given the text between the parentheses
   inner-locals : (inside : List Piece) (text : List ℕ) → Fits inside text → MeetsAll claim (if are_clean 0 inside then numbered_duties 1 (shapes_of inside) else HoldsAll set ∷ [])
       → inner_arguments text ≡ call.arguments → AreLocals claim.names (argument_locals 1 call.arguments)
   inner-locals inside text fits met same = by (are_clean 0 inside) refl met
@@ -216,7 +216,7 @@ some-all : (parts : List (List Piece)) (texts : List (List ℕ)) → SomeFit par
 some-all [] texts fit = absurd fit
 some-all (pieces ∷ more) texts fit = fit
 
--- a subroutine that is entered by a text
+-- a subroutine that is entered with a text
 module _ (claim : Claim) (area : Area) (pieces : List Piece) (text : List ℕ) (cell : CellOf) (good : IsGood claim cell) (inside : IsIn area cell.place) (own : Covers claim.plan claim.reach cell.place)
     (fits : Fits pieces text) (met : MeetsAll claim (subroutine_duties area pieces)) where
   met-leads : MeetsAll claim (map Leads (targets area pieces))

@@ -1,4 +1,4 @@
--- A channel in the reach stays in it, whatever becomes of it.
+-- A channel in the reach stays in it, whatever happens to it.
 use Rattle.std.proofs.Common.{◌≡◌, ◌⊎◌, inl, inr, ℕ, ◌+◌, Bool, true, false, List, [], ◌∷◌, Option, Some, None, unwrap_or, slice_get, refl, sym, ap, ◌∙◌, codes, if◌then◌else◌}
 use Rattle.std.proofs.lemmas.Option.{slice_get-map}
 use Rattle.std.specs.List.{AllByRecursion}
@@ -30,7 +30,7 @@ use Rattle.dp_reach.proofs.StoreLemmas.{kept-set}
 use Rattle.dp_reach.proofs.TargetLemmas.{covers-same}
 use Rattle.dp_reach.proofs.UnknownLemmas.{unknown-invalid}
 
--- the area that a covered place is in
+-- the area of a covered place
 pub record IsFound (P : Area → Type 0) (place : Place) : Type 0 where
   pub area : Area
   pub inside : IsIn area place
@@ -42,7 +42,7 @@ covered P (area ∷ areas) place all (inl here) = record { area = area; inside =
 covered P (area ∷ areas) place all (inr there) = covered P areas place all.1 there
 
 module _ (duties : List ℕ → Duties) (claim : Claim) (answers : EntryId → Bool) (closed : IsClosed duties claim answers) where
-  -- the area of a covered place, where its context is known
+  -- the area of a covered place, if its context is known
   pub area-of : (place : Place) → Covers claim.plan claim.reach place → IsUnknown claim.plan place.context ⊎ IsFound (IsAreaClosed duties claim answers) place
   area-of place (inl unknown) = inl unknown
   area-of place (inr is) = inr (covered (IsAreaClosed duties claim answers) claim.reach place closed.areas is)
@@ -163,7 +163,7 @@ module _ (duties : List ℕ → Duties) (claim : Claim) (answers : EntryId → B
       by true = in-hung_up (with_dial_status c (status_name status)) set
       by false = in-going_on (with_dial_status c (status_name status)) set
 
-  -- what an application leaves of its channel
+  -- the channel after an application
   pub in-after_application : (c : Channel) (o : Option Move) → IsChannelIn claim c → ((move : Move) → o ≡ Some move → LeadsInto claim c.place move) → IsChannelIn claim (after_application claim.plan c o)
   in-after_application c None here leads = in-hung_up c here
   in-after_application c (Some move) here leads = in-after_move c move here (leads move refl)

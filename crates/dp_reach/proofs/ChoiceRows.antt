@@ -1,4 +1,4 @@
--- The rows that choose between targets stay inside where what they owe is met.
+-- The rows that choose between targets stay inside if what they owe is met.
 use Rattle.std.proofs.Common.{◌≡◌, inl, inr, ℕ, Bool, true, false, List, [], ◌∷◌, ◌++◌, Option, Some, None, refl, ap, subst, if◌then◌else◌}
 use Rattle.std.specs.List.{flat_map}
 use Rattle.std.specs.Option.{option_and_then}
@@ -25,7 +25,7 @@ use Rattle.dp_reach.specs.Holding.{Claim, LeadsInto}
 use Rattle.dp_reach.proofs.GotoRow.{includes-all}
 use Rattle.dp_reach.proofs.TargetLemmas.{FitsOne, arguments-within, covers-included, in-front, in-later, in-targets, in-within}
 
--- a side that is there is what it is
+-- a side that exists is what it is
 present-is : (side kept result : List ℕ) → present_by side kept ≡ Some result → side ≡ result
 present-is side [] result is = absurd cc
 present-is side (b ∷ bs) result is = cc
@@ -45,7 +45,7 @@ side-fits text rest fits (At first second) (Some cut) are sides known true side 
 side-fits text rest fits (At first second) (Some cut) are sides known false side result is same =
     subst (λ s. FitsOne s result) (let e : first ∷ second ∷ [] ≡ sides = cc in e) (inr (inl (subst (Fits second) (let e : cut.1 ≡ result = cc in e) are.1)))
 
--- what is chosen, by the side that is taken
+-- the choice, given the side that is taken
 chosen_side-side : (o : Option (List ℕ)) (result : List ℕ) → option_and_then (λ side. present_by side (trim side)) o ≡ Some result → o ≡ Some result
 chosen_side-side None result is = absurd cc
 chosen_side-side (Some side) result is = ap (λ s. Some s) (present-is side (trim side) result is)
@@ -64,7 +64,7 @@ chosen_side-fits pieces text result fits sides known is = by (cut_pieces 63 piec
         side-fits cut.1 rest are.1 (cut_level 58 0 rest) (cut_outside 58 cut.1) (cut-level 58 rest cut.1 are.1) sides known (holds cut.0) result result
         (chosen_side-side (side_of (holds cut.0) cut.1 (cut_outside 58 cut.1)) result is) refl
 
--- what is chosen is a part of the text
+-- the choice is a part of the text
 cut-within : (set : Bytes) (mark : ℕ) (text before front rest : List ℕ) → Within set text → Within set before → cut_after (stands_outside mark) before text ≡ Some (front, rest)
     → Within set front × Within set rest
 cut-within set mark [] before front rest is start cut = absurd cc
@@ -104,7 +104,7 @@ in-one plan area own place text inside found (pieces ∷ more) (inl here) =
 in-one plan area own place text inside found (pieces ∷ more) (inr there) =
     in-later (targets area pieces) (flat_map (targets area) more) place (in-one plan area own place text inside found more there)
 
--- the target of what is chosen
+-- the target of the choice
 pub covers-chosen_side : (claim : Claim) (area : Area) (own place : Place) (pieces : List Piece) (set : Bytes) (text side : List ℕ) → IsIn area own → Fits pieces text → Within set text
     → MeetsAll claim (sides_duties area set (sides_in pieces)) → chosen_side text ≡ Some side → parts_place claim.plan own (arguments_of side) ≡ Some place → Covers claim.plan claim.reach place
 covers-chosen_side claim area own place pieces set text side inside fits within met is found = by (sides_in pieces) refl met

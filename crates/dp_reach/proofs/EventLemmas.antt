@@ -1,4 +1,4 @@
--- An event of a channel in the reach leaves it there, and all that is shared as it is claimed; an entry that it runs is an answer.
+-- An event of a channel in the reach leaves it there, and everything shared as it is claimed; an entry that it runs is an answer.
 use Rattle.std.proofs.Common.{◌≡◌, ◌⊎◌, inl, inr, ℕ, Bool, true, false, ◌||◌, List, [], ◌∷◌, ◌++◌, Option, Some, None, refl, sym, ◌∙◌, subst, codes, if◌then◌else◌}
 use Rattle.dp_conf.proofs.TextLemmas.{each-append}
 use Rattle.dp_pattern.specs.Matches.{Matches}
@@ -53,7 +53,7 @@ pub record IsOwnIn (claim : Claim) (answers : EntryId → Bool) (own : Own) : Ty
   pub shared : IsSharedIn claim own.shared
   pub reply : IsReplyIn answers own.reply
 
--- what is known of a match puts no other bytes into an area's names
+-- what is known of a match adds no other bytes to an area's names
 named-matched : (claim : Claim) (area : Area) (name : Meaning) (text : List ℕ) → Fits area.exten text → Matches name text → IsNamed claim area
     → IsNamed claim (area_matched area name)
 named-matched claim area name text fits matching named =
@@ -74,7 +74,7 @@ module _ (touches : List ℕ → Touch) (rows : Rows) (lawful : IsLawful touches
   shared-ended : (shared : SharedState) (number : ℕ) → IsSharedIn claim shared → IsSharedIn claim (without_talk shared number)
   shared-ended shared number all = record { globals = all.globals; settings = end_talk-settings shared.queues number ∙ all.settings }
 
-  -- a step where no entry is found
+  -- a step that finds no entry
   own-unfound : (shared : SharedState) (c : Channel) → IsSharedIn claim shared → IsChannelIn claim c → IsOwnIn claim answers (unfound claim.plan shared c)
   unfolding unfound
   own-unfound shared c all here = by (is_invalid claim.plan c.place) refl
@@ -84,7 +84,7 @@ module _ (touches : List ℕ → Touch) (rows : Rows) (lawful : IsLawful touches
       by true is = record { channel = in-invalid duties claim answers closed c is here; shared = all; reply = tt }
       by false is = record { channel = in-hung_up duties claim answers closed c here; shared = all; reply = tt }
 
-  -- the entry that is found, by what is known of its match
+  -- the entry that is found, given what is known of its match
   record IsRun (c : Channel) (found : Located) : Type 0 where
     area : Area
     inside : IsIn area c.place
@@ -105,7 +105,7 @@ module _ (touches : List ℕ → Touch) (rows : Rows) (lawful : IsLawful touches
             entry = at.holds.entries found.id found.entry may;
           }
 
-  -- a step by an entry
+  -- a step, given its entry
   own-after_run : (shared : SharedState) (number : ℕ) (c : Channel) → IsSharedIn claim shared → IsChannelIn claim c → (found : Located) → entry_found claim.plan c.place ≡ Some found
       → (o : Option Row) → rows found.entry.application ≡ o
       → IsOwnIn claim answers (after_run claim.plan found.id (application_outcome c (after_dispatch o (arguments_seen standard_functions shared number c found.entry.arguments) (cell_of shared number c))))
@@ -184,7 +184,7 @@ module _ (touches : List ℕ → Touch) (rows : Rows) (lawful : IsLawful touches
       by true is = own-dial digit shared number c all here c.phase here.phase is
       by false is = own-refused BadDigit shared c all here
 
-  -- the end of a time
+  -- a time-out
   own-leave : (shared : SharedState) (number : ℕ) (c : Channel) (status : List ℕ) → IsSharedIn claim shared → IsChannelIn claim c → Within (claim.names.bytes (codes "QUEUESTATUS")) status
       → IsOwnIn claim answers (leave shared number c status)
   own-leave shared number c status all here is =
@@ -211,7 +211,7 @@ module _ (touches : List ℕ → Touch) (rows : Rows) (lawful : IsLawful touches
       by (Dialling goes_on has_timer) at = dial has_timer
       by Ended at = own-refused refused_ended shared c all here
 
-  -- a question whether to leave
+  -- a channel asks whether it has to leave its queue
   pub own-poll : (shared : SharedState) (number : ℕ) (c : Channel) → IsSharedIn claim shared → IsChannelIn claim c → IsOwnIn claim answers (poll_row claim.plan shared number c)
   unfolding poll_row
   own-poll shared number c all here = by c.phase
@@ -246,7 +246,7 @@ module _ (touches : List ℕ → Touch) (rows : Rows) (lawful : IsLawful touches
       by (Dialling goes_on has_timer) = own-taken shared _ all (in-after_cancel duties claim answers closed c here)
       by Ended = own-refused refused_ended shared c all here
 
-  -- what comes of a call to devices
+  -- the result of a call to devices
   pub own-dial_result : (status : DialStatus) (shared : SharedState) (number : ℕ) (c : Channel) → IsSharedIn claim shared → IsChannelIn claim c
       → IsOwnIn claim answers (dial_result_row status claim.plan shared number c)
   unfolding dial_result_row

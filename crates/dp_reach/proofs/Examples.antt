@@ -1,4 +1,4 @@
--- What usual entries owe, where each name has digits alone.
+-- What usual entries owe, if each name has only digits.
 use Rattle.std.proofs.Common.{◌≡◌, ℕ, List, [], ◌∷◌, ◌++◌, map, codes, refl}
 use Rattle.std.specs.Fmt.{digits as digits_in}
 use Rattle.dp_conf.specs.GroupsRead.{levels, reading_of}
@@ -12,14 +12,14 @@ use Rattle.dp_reach.specs.Areas.{Area, area_at}
 use Rattle.dp_reach.specs.Bounds.{Calls, Duties, Duty, Holds, HoldsAll, Leads, Waits, gosub_duties, goto_duties, goto_if_duties}
 use Rattle.dp_reach.specs.Settings.{set_duties}
 
--- digits alone
+-- only digits
 abbrev plain : Names
 plain = record { bytes = λ name. digits; exten = any_bytes_of digits; context = any_bytes_of digits; caller = digits; all = digits }
 
 abbrev here : Area
 here = area_at (exactly (codes "from-pstn")) (any_bytes_of digits)
 
--- a shape and a duty in words: `.` for one byte and `*` for any number of them
+-- a shape and a duty in words: `.` for one byte and `*` for any number of bytes
 abbrev told_shape : List Piece → List ℕ
 told_shape [] = []
 told_shape (Known byte ∷ pieces) = byte ∷ told_shape pieces

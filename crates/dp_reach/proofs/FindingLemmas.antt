@@ -1,4 +1,4 @@
--- An entry that is found at a place of an area may be found from it, and the place is in what is known of its match.
+-- An entry that is found at a place of an area may be found from the area, and the place agrees with what is known of its match.
 use Rattle.std.proofs.Common.{◌≡◌, ℕ, zero, suc, true, ◌==◌, List, [], ◌∷◌, Option, Some, None, MatchOption, slice_get, eq-eqb, refl, sym, ap, ◌∙◌, subst, nat_cmp, Less, Equal}
 use Rattle.std.specs.Cmp.{nat_cmp_is}
 use Rattle.std.specs.Option.{option_and_then, option_map}
@@ -20,7 +20,7 @@ use Rattle.dp_pieces.proofs.WithinLemmas.{either-left, either-right}
 use Rattle.dp_reach.specs.Areas.{Area, IsIn, area_matched}
 use Rattle.dp_reach.specs.Finding.{MayFind}
 
--- what stands in a search order is searched
+-- the contexts in a search order are searched
 has-at : (order : List ℕ) (place number : ℕ) → slice_get order place ≡ Some number → has order number ≡ true
 has-at [] place number is = absurd cc
 has-at (c ∷ order) zero number is =

@@ -1,4 +1,4 @@
--- The row of `Goto` stays inside where what it owes is met.
+-- The row of `Goto` stays inside if what it owes is met.
 use Rattle.std.proofs.Common.{List, [], ◌∷◌, map}
 use Rattle.dp_flow.specs.Jumps.{goto_row}
 use Rattle.dp_reach.specs.Areas.{Area, IncludesAll, targets}

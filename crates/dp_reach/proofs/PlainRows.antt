@@ -1,4 +1,4 @@
--- The rows that jump nowhere stay inside where what they owe is met.
+-- The rows that jump nowhere stay inside if what they owe is met.
 use Rattle.std.proofs.Common.{◌≡◌, ℕ, Bool, true, false, ◌-◌, List, [], ◌∷◌, codes, length, Option, Some, None, refl, subst, if◌then◌else◌}
 use Rattle.dp_conf.specs.Levels.{arguments_of}
 use Rattle.dp_queue.specs.Joining.{would_join, after_join}
@@ -90,7 +90,7 @@ return-bounded claim area pieces arguments cell good inside own fits met = by (i
           subst (Covers claim.plan claim.reach) same (each-get (λ (frame : Frame Place). Covers claim.plan claim.reach frame.back) cell.store.frames (length cell.store.frames - 1) frame good.store.back is);
     }
 
--- a name is set to a text that is told
+-- a name is set to a known text
 good-told : (claim : Claim) (cell : CellOf) (name text : List ℕ) → IsGood claim cell → Meets claim (Holds name (bytes_in text)) → IsKept claim (set cell.store name text)
 good-told claim cell name text good met = kept-set claim cell.store name text good.store (within-more (bytes_in text) (claim.names.bytes name) met text (within-own text))
 

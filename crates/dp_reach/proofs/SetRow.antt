@@ -1,4 +1,4 @@
--- The row of `Set` stays inside where what it owes is met.
+-- The row of `Set` stays inside if what it owes is met.
 use Rattle.std.proofs.Common.{◌≡◌, ℕ, Bool, true, false, ◌==◌, List, [], ◌∷◌, ◌++◌, codes, eq-eqb, Option, Some, None, refl, sym, ap, ◌∙◌, subst, if◌then◌else◌}
 use Rattle.std.specs.FinMap.{insert}
 use Rattle.dp_conf.proofs.TextLemmas.{Avoids, cut_once-here, cut_once-is, each-cut_rest}
@@ -20,7 +20,7 @@ use Rattle.dp_reach.specs.Settings.{any_argument_duties, called_duties, function
 use Rattle.dp_reach.proofs.CallPieces.{cut-trimmed}
 use Rattle.dp_reach.proofs.StoreLemmas.{held-insert, kept-set, kept-set_local}
 
--- where no text is known before one byte, a text that is known before another has none of it
+-- if no text is known before one byte, a text that is known before another has none of it
 known-avoids : (mark byte : ℕ) (pieces : List Piece) (cut : List ℕ × List Piece) → cut_known mark pieces ≡ None → cut_known byte pieces ≡ Some cut → Avoids mark cut.0
 known-avoids mark byte [] cut none is = absurd cc
 known-avoids mark byte (OneOf set ∷ pieces) cut none is = absurd cc
@@ -49,7 +49,7 @@ known-avoids mark byte (Known b ∷ pieces) cut none is =
 apart : (a b : ℕ) → (a == b) ≡ false → a ≡ b → ⊥
 apart a b differs same = let no : false ≡ true = sym differs ∙ eq-eqb a b same in let c : ⊥ = cc in c
 
--- a text that is cut at two bytes: where what stands before the one has none of the other, what stands before the other begins with it
+-- a text that is cut at two bytes: if the part before the first has none of the second, the part before the second begins with it
 parted-later : (inner outer : ℕ) → (inner == outer) ≡ false → (head rest front after : List ℕ) → head ++ inner ∷ rest ≡ front ++ outer ∷ after → Avoids outer head
     → (inside : List ℕ) × (front ≡ head ++ inner ∷ inside)
 parted-later inner outer differs [] rest [] after same clear = absurd (apart inner outer differs (let first : inner ≡ outer = cc in first))
@@ -114,7 +114,7 @@ module _ (claim : Claim) where
   good-name cell name value None set good is met = good-variable cell name value good (within-more set (claim.names.bytes name) met.0 value is)
   good-name cell name value (Some cut) set good is met = good-called cell cut.0 value (argument_of cut.1) set good is met
 
-  -- where each name may have the bytes, so may the one that is set
+  -- if each name may have the bytes, so may the one that is set
   module _ (set : Bytes) (met : MeetsAll claim (HoldsAll set ∷ Calls set ∷ [])) where
     each-function : (function argument : List ℕ) → MeetsAll claim (function_duties function argument set)
     each-function function argument =
@@ -147,7 +147,7 @@ module _ (claim : Claim) where
           good-name cell (trim cut.0) cut.1 (cut_once 40 (trim cut.0)) set good
           (each-cut_rest (λ x. set x ≡ true) 61 arguments cut.0 cut.1 (cut_once-is 61 arguments cut.0 cut.1 from) is) (each-name set met (trim cut.0) (cut_once 40 (trim cut.0)))
 
-  -- where a function of any argument may have the bytes, so may that of one
+  -- if a function with any argument may have the bytes, so may one with this argument
   each-argument : (function argument : List ℕ) (set : Bytes) → MeetsAll claim (any_argument_duties function set) → MeetsAll claim (function_duties function argument set)
   each-argument function argument set =
       by (same_text function (codes "GLOBAL")) (same_text function (codes "LOCAL")) (same_text function (codes "CALLERID")) (same_text argument (codes "num"))
@@ -161,7 +161,7 @@ module _ (claim : Claim) where
       by false false true false met = tt
       by false false false d met = tt
 
-  -- a pair of which no more than a function's name is known
+  -- a pair of which only a function's name is known
   good-headed : (cell : CellOf) (arguments : List ℕ) (set : Bytes) (cut : List ℕ × List Piece) → IsGood claim cell → Within set arguments → Avoids 61 cut.0
       → IsHeaded 40 cut arguments → MeetsAll claim (any_argument_duties (trim_start cut.0) set) → IsGood claim (with_pair cell (cut_once 61 arguments))
   good-headed cell arguments set cut good is clear known met = by (cut_once 61 arguments) refl

@@ -1,4 +1,4 @@
--- What the texts of a channel in the reach see is as it is claimed.
+-- What the texts of a channel in the reach see is as claimed.
 use Rattle.std.proofs.Common.{◌≡◌, ℕ, ◌-◌, Bool, true, false, cond, List, [], ◌∷◌, ◌++◌, map, reverse, length, Option, Some, None, if◌then◌else◌, unwrap_or, nat_eq, refl, sym, subst, codes}
 use Rattle.std.proofs.lemmas.List.{reverse-append}
 use Rattle.std.specs.Cmp.Lexicographic.{bytes_decides, pointwise}
@@ -54,7 +54,7 @@ locals-held names (frame ∷ frames) all = (all.0, locals-held names frames all.
 
 module _ (claim : Claim) (named : AreNamed claim) (shared : SharedState) (number : ℕ) (c : Channel) (area : Area) (inside : IsIn area c.place) (exten : IsPart (pieces_set area.exten) claim.names.all)
     (context : IsPart (pieces_set area.context) claim.names.all) (kept : IsKept claim c.store) (globals : AreHeld claim.names shared.globals) (caller : Within claim.names.caller c.caller) where
-  -- what a name has beside its extension and its context
+  -- what a name has besides the channel's extension and context
   rest-held : (name : List ℕ) → IsHeld (claim.names.bytes name) (cond (pointwise nat_eq name (codes "PRIORITY")) (Some (decimal c.place.priority))
       (cond (pointwise nat_eq name (codes "CHANNEL")) (Some (channel_name number)) None))
   rest-held name =

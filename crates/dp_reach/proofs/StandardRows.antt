@@ -1,4 +1,4 @@
--- Each row of this program's table stays inside where what it owes is met.
+-- Each row of this program's table stays inside if what it owes is met.
 use Rattle.std.proofs.Common.{◌≡◌, ℕ, Bool, true, false, List, Option, Some, codes, subst, if◌then◌else◌}
 use Rattle.std.proofs.lemmas.Option.{none-some, same_Some}
 use Rattle.dp_conf.specs.Words.{same_word}

@@ -1,4 +1,4 @@
--- Stores whose values have the bytes that their names may have, after a name is set and after a frame comes or goes.
+-- Stores whose values have the bytes that their names may have, after a name is set and after a frame is pushed or dropped.
 use Rattle.std.proofs.Common.{◌≡◌, ℕ, zero, suc, ◌-◌, Bool, true, false, cond, List, [], ◌∷◌, length, fold, slice_get, Option, Some, None, nat_eq, refl, sym, ap, ◌∙◌, subst}
 use Rattle.std.specs.List.{AllByRecursion}
 use Rattle.std.specs.Cmp.Lexicographic.{bytes_decides, nat_list_cmp_total, pointwise, slice_cmp, texts_ties}
@@ -14,7 +14,7 @@ use Rattle.dp_pieces.specs.Names.{Names}
 use Rattle.dp_reach.specs.Areas.{Covers}
 use Rattle.dp_reach.specs.Holding.{AreHeld, Claim, IsHeld, IsKept}
 
--- an element of a list of which each is such
+-- an element of a list with this property
 pub each-get : {X : Type 0} (P : X → Type 0) (xs : List X) (i : ℕ) (x : X) → AllByRecursion P xs → slice_get xs i ≡ Some x → P x
 each-get P [] i x all is = absurd cc
 each-get P (y ∷ ys) zero x all is = let same : y ≡ x = cc in subst P same all.0
@@ -33,7 +33,7 @@ held-insert names values name value held is q =
 pub held-empty : (names : Names) → AreHeld names empty
 held-empty names name = subst (IsHeld (names.bytes name)) (sym (get-empty (slice_cmp nat_cmp) name)) tt
 
--- locals of which each has the bytes of its name
+-- locals that each have the bytes of their names
 abbrev pub AreLocals : Names → List Local → Type 0
 AreLocals names locals = AllByRecursion (λ (local : Local). Within (names.bytes local.name) local.value) locals
 
@@ -43,7 +43,7 @@ held-locals names values (local ∷ locals) held all =
     held-locals names (map_with values local) locals (held-insert names values local.name local.value held all.0) all.1
 
 module _ (claim : Claim) where
-  -- a frame with its locals and the place that it goes back to
+  -- a frame with its locals and its return place
   abbrev IsFrame : Frame Place → Type 0
   IsFrame frame = AreHeld claim.names frame.locals × Covers claim.plan claim.reach frame.back
 

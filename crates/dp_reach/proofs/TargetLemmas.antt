@@ -69,7 +69,7 @@ in-areas (context ∷ contexts) extens place (inl here) others =
 in-areas (context ∷ contexts) extens place (inr there) others =
     in-later (map (area_at context) extens) (areas_of contexts extens) place (in-areas contexts extens place there others)
 
--- a place that is asked for has the context and the extension that are asked for
+-- a requested place has the requested context and extension
 record IsAt (context exten : List ℕ) (place : Place) : Type 0 where
   same_context : place.context ≡ context
   same_exten : place.exten ≡ exten

@@ -28,19 +28,19 @@ fn shapes_match_extension_names(rt: HostRuntime) -> Result<(), Fail> {
     check::<Shapes>(rt.alloc(), SHAPES)
 }
 
-/// Which bytes the values of names may have, by a table.
+/// Which bytes the values of names may have, given a table.
 #[test]
 fn bytes_that_values_may_have(rt: HostRuntime) -> Result<(), Fail> {
     check::<Names>(rt.alloc(), NAMES)
 }
 
-/// Texts read as pieces, by what is known of names.
+/// Texts read as pieces, given what is known of names.
 #[test]
 fn texts_are_read_as_pieces(rt: HostRuntime) -> Result<(), Fail> {
     check::<Texts>(rt.alloc(), TEXTS)
 }
 
-/// What each application owes by the pieces of its arguments, which places a reach has, and what is found.
+/// What each application owes because of the pieces of its arguments, which places a reach has, and what is found.
 #[test]
 fn duties_reached_places_and_findings(rt: HostRuntime) -> Result<(), Fail> {
     check::<Duties>(rt.alloc(), DUTIES)?;

@@ -1,12 +1,14 @@
-//! Cases of runs, of runs in threads, and of runs and audits over the wide table, as tables with all that they print.
+//! Cases of runs, of runs in threads, and of runs and audits over the wide table, as tables with their whole output.
 //!
-//! A crate with tests is proved twice, so the cases of the libraries stand in crates of their own, where each is proved once.
+//! A crate with tests is proved twice, so the cases of the libraries are in crates of their own, where each is proved once.
 #![tactic(auto)]
 
 #[cfg(test)]
 mod runs;
 #[cfg(test)]
 mod test_files;
+#[cfg(test)]
+mod test_runs;
 #[cfg(test)]
 mod threads;
 #[cfg(test)]

@@ -1,4 +1,4 @@
-//! Test files, with the tests that they are or all their faults, worked out by hand from the rules of the language.
+//! Test files, with their tests or all their faults, worked out by hand from the rules of the language.
 use dp_case_tables::{Question, bytes_of, check_all};
 use dp_commands::{ScriptLine, Turn};
 use dp_tests::{
@@ -36,15 +36,15 @@ call main s 200→Start { context: "main", exten: "s", caller: "200" }
 # `dial` is a digit for each byte.
 dial 1 7→Digit { channel: 1, digit: 55 }
 dial 1 *#D→Digit { channel: 1, digit: 42 } Digit { channel: 1, digit: 35 } Digit { channel: 1, digit: 68 }
-# Another file is put in force; its name may have blanks.
+# Another file is reloaded; its name may have blanks.
 reload b.conf→reload b.conf
 reload  my plan.conf →reload my plan.conf
-# What is passed over gives nothing.
+# Skipped lines give nothing.
 →nothing
  \t →nothing
 ; start main s→nothing
  ;start main s→nothing
-# What is none of the language.
+# Lines that are not of the language.
 start main→BadLine
 call main→BadLine
 call main s 200 more→BadLine
@@ -66,7 +66,7 @@ tests of all→BadLine
 Test of all→BadLine
 "#;
 
-/// The same of lines that expect something.
+/// The same for lines that expect something.
 const EXPECTATIONS: &str = r#"
 # A state is the rest of the line.
 expect 1 ended→1 is ended
@@ -86,7 +86,7 @@ expect 1 ran Set(A=f(1))→1 ran Set(A=f(1))
 expect 1 ran  Set (A=1) →1 ran Set(A=1)
 expect 1 passed Answer→1 passed Answer
 expect 1 passed Goto(a,b,1)→1 passed Goto(a,b,1)
-# Where it ran. A name goes by its meaning.
+# The place of what ran. A name is compared by its meaning.
 expect 1 at main,s→1 at main,s
 expect 1 at main,s,2→1 at main,s,2
 expect 1 at main , _1-X. , 3→1 at main,_1X.,3
@@ -108,12 +108,12 @@ expect refused 40→refused NoChannel
 expect refused 53→refused NotDialling
 expect refused BadDigit→refused BadDigit
 expect refused notready→refused NotReady
-# The rest does not hold.
+# After `not`, the rest does not hold.
 expect not 1 ended→not 1 is ended
 expect  not  1 ran Dial→not 1 ran Dial
 expect not global A=1→not global has A=1
 expect not refused 41→not refused NotReady
-# What has none of these forms.
+# Texts without one of these forms.
 expect→BadExpect
 expect not→BadExpect
 expect not not 1 ended→BadExpect
@@ -149,10 +149,10 @@ expect refused 40 41→BadExpect
 const FILES: &str = r#"
 # The whole of a small file.
 ; the office\ndialplan office.conf\nqueues queues.conf\nclock wed 2026-11-25 10:30\nassume DB\nglobal NIGHT=0\n\ntest A call is answered\ncall main s 200\nexpect 1 ran Answer\ntest  Two  \n; nothing comes\ndial 1 5\nexpect refused 40\nreload b.conf→dialplan office.conf @2|queues queues.conf @3|clock wed 2026-11-25 10:30 @4|assume DB @5|@6 Assign { channel: None, name: "NIGHT", value: "0" }|test A call is answered @8|@9 Start { context: "main", exten: "s", caller: "200" }|@10 1 ran Answer|test Two @11|@13 Digit { channel: 1, digit: 53 }|@14 refused NoChannel|@15 reload b.conf
-# A head alone, and a head behind its setup.
+# Only a head, and a head after its setup.
 dialplan a→dialplan a @1
 global A=1\nreload c\ndialplan a b→dialplan a b @3|@1 Assign { channel: None, name: "A", value: "1" }|@2 reload c
-# In a test each `clock` counts, and the head's stays.
+# In a test each `clock` counts, and that of the head stays.
 dialplan a\nclock wed 2026-11-25 10:30\ntest x\nclock thu 2026-11-26 10:30\nclock fri 2026-11-27 10:30→dialplan a @1|clock wed 2026-11-25 10:30 @2|test x @3|@4 Assign { channel: None, name: "CLOCK", value: "thu 2026-11-26 10:30" }|@5 Assign { channel: None, name: "CLOCK", value: "fri 2026-11-27 10:30" }
 # A test may have no line.
 dialplan a\ntest x\ntest x→dialplan a @1|test x @2|test x @3
@@ -160,18 +160,18 @@ dialplan a\ntest x\ntest x→dialplan a @1|test x @2|test x @3
 →1 NoDialplan
 test x→1 NoDialplan
 call main s→1 NoDialplan
-# Lines of the head that come twice or late.
+# Lines of the head that are repeated or late.
 dialplan a\ndialplan b→2 HeadTwice
 dialplan a\nqueues a\nqueues a\nclock wed 2026-11-25 10:30\nclock wed 2026-11-25 10:30\nassume DB\nassume CDR→3 HeadTwice|5 HeadTwice|7 HeadTwice
 dialplan a\ntest x\nqueues a\ndialplan a→3 HeadLate|4 HeadLate
 test x\ndialplan a→1 NoDialplan|2 HeadLate
 dialplan a\nqueues→2 BadLine
 dialplan→1 NoDialplan|1 BadLine
-# An expectation before the first test, and a test with no name.
+# An expectation before the first test, and a test without a name.
 dialplan a\nexpect 1 ended→2 ExpectOutside
 dialplan a\ntest\nexpect 1 ended→2 NoName
 dialplan a\n test ; \ntest→3 NoName
-# All faults are told, in the order of the lines, and at most one for each.
+# All faults are reported, in the order of the lines, and at most one for each.
 step 1\nexpect 1 ended\nexpect walk\ntest \ndialplan a\nexpect walk\nexpect 1 ended\nwalk→1 NoDialplan|1 BadLine|2 ExpectOutside|3 BadExpect|4 NoName|5 HeadLate|6 BadExpect|8 BadLine
 "#;
 
@@ -186,7 +186,7 @@ fn push_turn(out: &mut String, turn: &WideTurn) -> Result<(), Fail> {
     Ok(())
 }
 
-/// Adds what turns give, with a blank between two.
+/// Adds what turns give, separated by blanks.
 fn push_turns(out: &mut String, turns: &Items<ScriptLine<WideTurn>>) -> Result<(), Fail> {
     let mut is_first = true;
     for line in turns.as_slice() {
@@ -220,7 +220,7 @@ fn push_place(out: &mut String, place: &EntryPlace) -> Result<(), Fail> {
     Ok(())
 }
 
-/// Adds the channel of a value, or that it is the global's.
+/// Adds the channel of a value, or that it is a global.
 fn push_holder(out: &mut String, channel: Option<u32>) -> Result<(), Fail> {
     match channel {
         Some(channel) => write!(out, "{channel}")?,
@@ -343,7 +343,7 @@ fn faults_text(alloc: Global, faults: &[TestFault]) -> Result<String, Fail> {
     Ok(out)
 }
 
-/// What a file of a case is, or its faults.
+/// The contents of a file of a case, or its faults.
 struct WholeFile;
 
 impl Question for WholeFile {
@@ -400,6 +400,6 @@ fn lines_mean_what_their_words_say(rt: HostRuntime) -> Result<(), Fail> {
 
 /// A file is its head, its setup and its tests, or all its faults.
 #[test]
-fn files_are_tests_or_all_faults(rt: HostRuntime) -> Result<(), Fail> {
+fn test_files_are_read_or_have_all_their_faults(rt: HostRuntime) -> Result<(), Fail> {
     check_all::<WholeFile>(rt.alloc(), &[FILES])
 }

@@ -1,4 +1,4 @@
-//! Runs in threads, with the line that is printed of them and their histories, worked out by hand from the rules.
+//! Runs in threads, with the line that they print and their histories, worked out by hand from the rules.
 use dp_board::Gate;
 use dp_board_fixture::{Crossed, gate_of, hold_until};
 use dp_case_tables::{bytes_of, check_answer, check_heading};
@@ -22,8 +22,8 @@ impl Gate for Open {
     fn after(&self, _channel: u32, _reply: &Reply) {}
 }
 
-/// Worked cases. A case is how many threads there are, a dialplan that begins in `[main]` and a script, parted by `¦`; then an
-/// arrow, and what is printed with the status after it.
+/// Worked cases. A case is the number of threads, a dialplan that begins in `[main]` and a script, separated by `¦`; then an arrow, and the
+/// output followed by the status.
 const ROWS: &str = r"
 # threads-run
 2¦exten => s,1,NoOp()¦start main s\nstart main s\nstep 1\nstep 2→settled 2 seats 2 calls\nstatus 0
@@ -31,12 +31,12 @@ const ROWS: &str = r"
 1¦exten => s,1,NoOp()¦start main s\nstart main s\nstep 1\nstep 2→settled 1 seats 2 calls\nstatus 0
 64¦exten => s,1,NoOp()¦start main s\nstep 1→settled 64 seats 1 calls\nstatus 0
 0¦exten => s,1,NoOp()¦start main s\nstep 1→settled 1 seats 1 calls\nstatus 0
-# No event after the calls that come in first, and none at all.
+# No event after the calls that come in first, and no events at all.
 3¦exten => s,1,NoOp()¦start main s→settled 3 seats 0 calls\nstatus 0
 3¦¦→settled 3 seats 0 calls\nstatus 0
-# A `show` is passed over, and a call that comes in later is an event of a seat.
+# A `show` is skipped, and a call that comes in later is an event of a seat.
 2¦exten => s,1,NoOp()¦show 1 EXTEN\nstart main s\nshow 9 EXTEN\nstep 1 2\nstart main s→settled 2 seats 3 calls\nstatus 0
-# A line that is taken more than once has so many events.
+# A line that is taken several times has several events.
 2¦exten => s,1,Goto(1)¦start main s\nstep 1 1000→settled 2 seats 1000 calls\nstatus 0
 # A refused event leaves the status 1, and so does a refused event that comes before any call.
 2¦exten => s,1,NoOp()¦start main s\nstep 1\nstep 2→settled 2 seats 2 calls\nstatus 1
@@ -46,7 +46,7 @@ const ROWS: &str = r"
 2¦exten => s,1,NoOp()¦start main s\njump 1→fault 70 BadScript line 2
 ";
 
-/// Adds what a run ends with: `status STATUS`, or its fault as it is printed.
+/// Adds the result of a run: `status STATUS`, or its fault as it is printed.
 fn push_ending(out: &mut String, ended: Result<u8, PbxFault>) -> Result<(), NoMemory> {
     match ended {
         Ok(status) => write!(out, "status {status}"),
@@ -63,14 +63,14 @@ fn push_ending(out: &mut String, ended: Result<u8, PbxFault>) -> Result<(), NoMe
     }
 }
 
-/// All that was written, and after it what the run ended with.
+/// The whole output, followed by the result of the run.
 fn outcome(alloc: Global, ended: Result<u8, PbxFault>, written: &[u8]) -> Result<String, Fail> {
     let mut out = String::from_str(alloc, str::from_utf8(written)?)?;
     push_ending(&mut out, ended)?;
     Ok(out)
 }
 
-/// Asserts what a run has written and what it ended with.
+/// Asserts the output and result of a run.
 fn check_outcome(
     alloc: Global,
     asked: &str,
@@ -82,7 +82,7 @@ fn check_outcome(
     check_answer(alloc, asked, &got, want)
 }
 
-/// A dialplan and a script alone.
+/// Only a dialplan and a script.
 fn bare<'a>(plan: &'a [u8], script: &'a [u8]) -> RunTexts<'a> {
     RunTexts {
         plan,
@@ -92,7 +92,7 @@ fn bare<'a>(plan: &'a [u8], script: &'a [u8]) -> RunTexts<'a> {
     }
 }
 
-/// The status of a run of these texts, of which the history is dropped.
+/// The status of a run of these texts, whose history is dropped.
 fn end_status<R: Threads + Wait + Sync>(
     rt: &R,
     alloc: Global,
@@ -108,7 +108,7 @@ fn end_status<R: Threads + Wait + Sync>(
     Ok(status)
 }
 
-/// What a run in threads prints, and what it ends with.
+/// The output and result of a run in threads.
 fn check_row<R: Threads + Wait + Sync>(
     rt: &R,
     alloc: Global,
@@ -141,9 +141,9 @@ fn scripts_run_in_threads(rt: HostRuntime) -> Result<(), Fail> {
 /// The dialplan of all cases of gates.
 const GATED_PLAN: &[u8] = b"[main]\nexten => s,1,NoOp()\n";
 
-/// Cases of the gate of a run, after two calls to `s`, which has one priority. A case is how many threads there are, the channel that is
-/// held until the other has had its turns, or 0, and the events after the calls, parted by `¦`; then an arrow, what is printed with the
-/// status after it, and of channel 1 and of channel 2 the turn and the reply of each of its events, parted by `¦` too.
+/// Cases of the gate of a run, after two calls to `s`, which has one priority. A case is the number of threads, the channel that is held
+/// until the other has had its turns, or 0, and the events after the calls, separated by `¦`; then an arrow, the output followed by the
+/// status, and for channel 1 and for channel 2 the turn and the reply of each of its events, also separated by `¦`.
 const GATED: &str = r"
 # One seat has all turns.
 1¦0¦step 1\nstep 2\nstep 1\nstep 2→settled 1 seats 4 calls\nstatus 0¦0 ran 2 none¦1 ran 3 none
@@ -213,7 +213,7 @@ fn check_gate<R: Threads + Wait + Abort + Sync>(
     check_gated(rt, alloc, sharing, events, printed)
 }
 
-/// The gate is called round each event, with the turns of its seat, and the seats act at once.
+/// The gate is called around each event, with the turns of its seat, and the seats act at once.
 #[test]
 fn gates_are_called_around_each_event(rt: HostRuntime) -> Result<(), Fail> {
     for line in GATED.lines() {
@@ -225,7 +225,7 @@ fn gates_are_called_around_each_event(rt: HostRuntime) -> Result<(), Fail> {
     Ok(())
 }
 
-/// Holds each seat before its event until so many seats have come, and marks one that waits too long.
+/// Holds each seat before its event until this number of seats have come, and marks one that waits too long.
 #[derive(Drop)]
 struct Gathered {
     seats: u64,
@@ -280,7 +280,7 @@ fn check_gathered<R: Threads + Wait + Abort + Sync>(rt: &R, alloc: Global) -> Re
     )
 }
 
-/// Each seat has a thread of its own, also where there are more than eight: each comes to its gate while all others wait there.
+/// Each seat has a thread of its own, even if there are more than eight: each comes to its gate while all others wait there.
 #[test]
 fn nine_seats_act_at_once(rt: HostRuntime) -> Result<(), Fail> {
     check_gathered(&rt, rt.alloc())

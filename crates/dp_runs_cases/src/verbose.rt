@@ -1,4 +1,4 @@
-//! Verbose runs and verbose debugged runs, with all that they print, worked out by hand from the rules.
+//! Verbose runs and verbose debugged runs, with everything that they print, worked out by hand from the rules.
 use dp_case_tables::{Question, check_all};
 use dp_commands::{Explanations, PlanNames, debug_verbose, run_verbose};
 use dp_commands_fixture::{Texts, make_sink, outcome_text, read_texts};
@@ -26,26 +26,26 @@ pub(crate) const NAMES: PlanNames<'static> = PlanNames {
     second_plan: Some("b.conf"),
 };
 
-/// Runs. A case is a dialplan that begins in `[main]`, which is line 1 of its file, a file of queues and a script, parted by `¦`, and a
-/// second dialplan after a further `¦`, where there is one; then an arrow, and the trace with the status after it.
+/// Runs. A case is a dialplan that begins in `[main]`, which is line 1 of its file, a file of queues and a script, separated by `¦`, and a
+/// second dialplan after another `¦`, if there is one; then an arrow, and the trace followed by the status.
 const RUNS: &str = r"
-# Each step that runs an entry is told of, by the line of the entry, and nothing else is.
+# Each step that runs an entry is shown, by the line of the entry, and nothing else is.
 exten => s,1,NoOp(hello)\n\n; a comment\n same => n,Goto(200,1)\nexten => 200,1,Hangup()¦¦start main s\nstep 1 3→started 1\n  conf/a.conf:2 NoOp(hello)\nran 1 main,s,1 NoOp -> ready main,s,2\n  conf/a.conf:5 Goto(200,1)\nran 1 main,s,2 Goto -> ready main,200,1\n  conf/a.conf:6 Hangup()\nran 1 main,200,1 Hangup -> ended\nstatus 0
 exten => s,1,WaitExten()\nexten => i,1,NoOp()\nexten => h,1,NoOp()¦¦start main s\nstep 1\ndigit 1 7\nstep 1\nshow 1 INVALID_EXTEN\nhangup 1\nstep 1 2→started 1\n  conf/a.conf:2 WaitExten()\nran 1 main,s,1 WaitExten -> digits\nok 1 -> ready main,7,1\ninvalid 1 -> ready main,i,1\nINVALID_EXTEN=7\nok 1 -> ready main,h,1\n  conf/a.conf:4 NoOp()\nran 1 main,h,1 NoOp -> ready main,h,2\nno entry 1 -> ended\nstatus 0
-# The arguments are those of the step, as they are expanded before it; the application is as the entry has it.
+# The arguments are those of the step, as they are expanded before it; the application is as the entry writes it.
 exten => s,1,Set(N=4)\nexten => s,2,Set(N=$[${N} + 1])\nexten => s,3,nOoP(${N}-${EXTEN}-${LEN(${N}00)})\nexten => s,4,Goto(2)¦¦start main s\nstep 1 5→started 1\n  conf/a.conf:2 Set(N=4)\nran 1 main,s,1 Set -> ready main,s,2\n  conf/a.conf:3 Set(N=5)\nran 1 main,s,2 Set -> ready main,s,3\n  conf/a.conf:4 nOoP(5-s-3)\nran 1 main,s,3 nOoP -> ready main,s,4\n  conf/a.conf:5 Goto(2)\nran 1 main,s,4 Goto -> ready main,s,2\n  conf/a.conf:3 Set(N=6)\nran 1 main,s,2 Set -> ready main,s,3\nstatus 0
 exten => s,1,NoOp\nexten => s,2,Set(A=(x)¦¦start main s\nstep 1 2→started 1\n  conf/a.conf:2 NoOp()\nran 1 main,s,1 NoOp -> ready main,s,2\n  conf/a.conf:3 Set(A=(x)\nran 1 main,s,2 Set -> ready main,s,3\nstatus 0
 # Each channel expands for itself.
 exten => s,1,NoOp(${CALLERID(num)} in ${CHANNEL})¦¦start main s 55\nstart main s 66\nstep 2\nstep 1→started 1\nstarted 2\n  conf/a.conf:2 NoOp(66 in Channel/2)\nran 2 main,s,1 NoOp -> ready main,s,2\n  conf/a.conf:2 NoOp(55 in Channel/1)\nran 1 main,s,1 NoOp -> ready main,s,2\nstatus 0
-# An entry of a pattern, in a context that is included, and one below a line that is dropped.
+# An entry of a pattern, in an included context, and one below a line that is dropped.
 include => more\n[more]\nexten => _2XX,1,NoOp(${EXTEN})\nexten => _2XX,1,NoOp(again)\nexten => _2XX,2,NoOp(${CONTEXT})¦¦start main 200\nstep 1 2→started 1\n  conf/a.conf:4 NoOp(200)\nran 1 more,_2XX,1 NoOp -> ready main,200,2\n  conf/a.conf:6 NoOp(main)\nran 1 more,_2XX,2 NoOp -> ready main,200,3\nstatus 0
-# A context that stands in two places.
+# A context that is in two places.
 exten => s,1,NoOp(a)\n[x]\nexten => s,1,NoOp(x)\n[main]\nexten => s,2,NoOp(b)¦¦start main s\nstep 1 2→started 1\n  conf/a.conf:2 NoOp(a)\nran 1 main,s,1 NoOp -> ready main,s,2\n  conf/a.conf:6 NoOp(b)\nran 1 main,s,2 NoOp -> ready main,s,3\nstatus 0
 # Each refusal is explained, that of a `show` too.
 exten => s,1,Queue(q)¦[q]¦step 1\nstart main s\ndigit 1 5\ndigit 1 x\noffer z\noffer q\nstep 1\nstep 1→  because\n  such as\nrefused 40 NoChannel\nstarted 1\n  because\n  such as\nrefused 42 NotWaiting\n  because\n  such as\nrefused 51 BadDigit\n  because\n  such as\nrefused 44 NoQueue\n  because\n  such as\nrefused 45 NobodyWaiting\n  conf/a.conf:2 Queue(q)\nran 1 main,s,1 Queue -> queued q\n  because\n  such as\nrefused 41 NotReady\nstatus 1
 exten => s,1,Queue(q)¦[q]¦start main s\nstep 1\ntimeout 1\noffer q\nanswer Line/1\ndone Line/1\nhangup 1\nstep 1→started 1\n  conf/a.conf:2 Queue(q)\nran 1 main,s,1 Queue -> queued q\n  because\n  such as\nrefused 43 NoTimer\n  because\n  such as\nrefused 46 NoMember\n  because\n  such as\nrefused 47 NotRinging\n  because\n  such as\nrefused 48 NotTalking\nok 1 -> ended\n  because\n  such as\nrefused 49 Ended\nstatus 1
 ¦¦show 1 N\nstart main s\nresult 1 BUSY\nshow 1 EXTEN→  because\n  such as\nrefused 40 NoChannel\nstarted 1\n  because\n  such as\nrefused 53 NotDialling\nEXTEN=s\nstatus 1
-# After a reload the second dialplan is told of, and after one that is refused the first still.
+# After a reload the second dialplan is shown, and after a refused one still the first.
 exten => 100,1,NoOp(a)\nexten => 100,2,NoOp(b)¦¦start main 100\nstep 1\nreload\nstep 1\nreload\nstep 1¦[globals]\nX=1\n[main]\n\nexten => _1XX,2,NoOp(${X})\nexten => _1XX,3,NoOp(c)→started 1\n  conf/a.conf:2 NoOp(a)\nran 1 main,100,1 NoOp -> ready main,100,2\nok\n  b.conf:5 NoOp(1)\nran 1 main,_1XX,2 NoOp -> ready main,100,3\nok\n  b.conf:6 NoOp(c)\nran 1 main,_1XX,3 NoOp -> ready main,100,4\nstatus 0
 exten => 100,1,NoOp(a)\nexten => 100,2,NoOp(b)¦¦start main 100\nstep 1\nreload\nstep 1¦[main→started 1\n  conf/a.conf:2 NoOp(a)\nran 1 main,100,1 NoOp -> ready main,100,2\n  because\n  such as\nrefused 52 BadPlan\n  conf/a.conf:3 NoOp(b)\nran 1 main,100,2 NoOp -> ready main,100,3\nstatus 1
 # The faults are those of a plain run.
@@ -56,14 +56,14 @@ abc¦[q]\nmaxlen=x¦jump 1→fault 4 NoEquals line 2
 ¦¦→status 0
 ";
 
-/// Debugged runs. A case has a break before the others' parts.
+/// Debugged runs. A case has a break before the other parts.
 const DEBUGS: &str = r"
 # Below the line of a halt.
 main,200,1¦exten => 100,1,NoOp(hello)\nexten => 100,2,Goto(200,1)\nexten => 200,1,Hangup()¦¦start main 100\nstep 1 3→started 1\n  conf/a.conf:2 NoOp(hello)\nran 1 main,100,1 NoOp -> ready main,100,2\n  conf/a.conf:3 Goto(200,1)\nran 1 main,100,2 Goto -> ready main,200,1\nbreak 3\n  conf/a.conf:4 Hangup()\nran 1 main,200,1 Hangup -> ended\nend 4\nstatus 0
 main,s,1¦exten => s,1,Set(A=${A}x)\nexten => s,2,Goto(1)¦¦start main s\nstep 1 3→started 1\nbreak 1\n  conf/a.conf:2 Set(A=x)\nran 1 main,s,1 Set -> ready main,s,2\n  conf/a.conf:3 Goto(1)\nran 1 main,s,2 Goto -> ready main,s,1\nbreak 3\n  conf/a.conf:2 Set(A=xx)\nran 1 main,s,1 Set -> ready main,s,2\nend 4\nstatus 0
-# Where no entry runs nothing stands there.
+# If no entry runs, there is nothing.
 main,s,1¦¦¦start main s\nstep 1→started 1\nbreak 1\nno entry 1 -> ended\nend 2\nstatus 0
-# Refusals and reloads, and a `show` that is passed over.
+# Refusals and reloads, and a `show` that is skipped.
 main,100,2¦exten => 100,1,NoOp(a)\nexten => 100,2,NoOp(b)¦¦step 1\nshow 1 X\nstart main 100\nstep 1\nreload\nstep 1¦[globals]\nX=1\n[main]\nexten => _1XX,2,NoOp(${X})→  because\n  such as\nrefused 40 NoChannel\nstarted 1\n  conf/a.conf:2 NoOp(a)\nran 1 main,100,1 NoOp -> ready main,100,2\nok\nbreak 4\n  b.conf:4 NoOp(1)\nran 1 main,_1XX,2 NoOp -> ready main,100,3\nend 5\nstatus 1
 main,100,2¦exten => 100,1,NoOp(a)\nexten => 100,2,NoOp(b)¦¦start main 100\nstep 1\nreload\nstep 1¦[main→started 1\n  conf/a.conf:2 NoOp(a)\nran 1 main,100,1 NoOp -> ready main,100,2\n  because\n  such as\nrefused 52 BadPlan\nbreak 3\n  conf/a.conf:3 NoOp(b)\nran 1 main,100,2 NoOp -> ready main,100,3\nend 4\nstatus 1
 # The faults are those of a plain debugged run.
@@ -72,14 +72,14 @@ main,s,1¦abc¦¦jump 1→fault 4 NoEquals line 2
 main,s,1¦¦¦jump 1→fault 70 BadScript line 1
 ";
 
-/// All that a verbose run of these texts writes, and what it ends with after it.
+/// The whole output of a verbose run of these texts, followed by its result.
 fn run_answer(alloc: Global, texts: &Texts) -> Result<String, NoMemory> {
     let mut writer = make_sink(alloc, 4096, None);
     let ended = run_verbose::<Same, _>(alloc, texts.lend(), NAMES, &mut writer);
     outcome_text(alloc, ended, writer)
 }
 
-/// The same of a verbose debugged run.
+/// The same for a verbose debugged run.
 fn debug_answer(alloc: Global, held: &str, texts: &Texts) -> Result<String, NoMemory> {
     let mut writer = make_sink(alloc, 4096, None);
     let ended = debug_verbose::<Same, _>(alloc, texts.lend(), NAMES, held.as_bytes(), &mut writer);
@@ -94,7 +94,7 @@ fn texts_of(alloc: Global, asked: &str) -> Result<Texts, Fail> {
     Ok(texts)
 }
 
-/// What the verbose run of a case writes and ends with.
+/// The output and result of the verbose run of a case.
 struct Run;
 
 impl Question for Run {
@@ -105,7 +105,7 @@ impl Question for Run {
     }
 }
 
-/// What the verbose debugged run of a case writes and ends with.
+/// The output and result of the verbose debugged run of a case.
 struct Debugged;
 
 impl Question for Debugged {

@@ -1,49 +1,48 @@
-//! Audits that are asked for some kinds of findings or go by the wide table, with all that is printed of them, worked out by hand from the
-//! rules.
+//! Audits of some kinds of findings or over the wide table, with everything that they print, worked out by hand from the rules.
 use dp_case_tables::{Question, check_all};
 use dp_commands_fixture::{in_main, make_sink, outcome_text};
 use dp_wide_runs::{AuditChoice, KindChoice, are_kinds, audit_by};
 use std::alloc::Global;
 use std::test::Fail;
 
-/// Worked cases over the wide table. A case is the kinds that alone are told, or all of them where that cell is empty, and a dialplan that
-/// begins in `[main]`, parted by `¦`; then an arrow, and what is printed with the status after it.
+/// Worked cases over the wide table. A case is the kinds to report, or all of them if that cell is empty, and a dialplan that begins in
+/// `[main]`, separated by `¦`; then an arrow, and the output followed by the status.
 const WIDE: &str = r"
 # Applications that the wide table has, and one that it lacks, in any case.
 ¦exten => s,1,VoiceMail(1)\nexten => s,2,voicemail(1)\nexten => s,3,While(1)\nexten => s,4,Hangup()→NoApplication main,s,3 While\nok 1 findings\nstatus 1
 ¦exten => s,1,Answer()\nexten => s,2,Dial(Line/1)\nexten => s,3,Hangup()→ok 0 findings\nstatus 0
-# Variables are not told.
+# Variables are not reported.
 ¦exten => s,1,Set(A=${B}${UNIQUEID})→ok 0 findings\nstatus 0
-# The others are as ever.
+# The others are reported as without the option.
 ¦exten => s,1,Goto(9)\nexten => s,3,Hangup()\nexten => t,2,Hangup()\ninclude => main→Cycle main\nNoTarget main,s,1 9\nGap main,s,1 2\nNoFirst main,t,2\nok 4 findings\nstatus 1
-# A label that an application beyond the twenty-one may name is used. Its targets are not looked at.
+# A label that an application beyond the twenty-one may name is used. Its targets are not checked.
 ¦exten => s,1,GotoIfTime(*,*,*,*?open:shut)\nexten => s,2(open),NoOp()\nexten => s,3(late),Hangup()→Unused main,s,3 late\nok 1 findings\nstatus 1
 ¦exten => s,1,ExecIf($[1]?Goto(end):Macro(none))\nexten => s,2(end),Hangup()→ok 0 findings\nstatus 0
 # A call goes on in another extension.
 ¦exten => 100,1,NoOp()\nexten => 100,2,Dial(Line/1)\nexten => _X.,1,NoOp()\nexten => _X.,2,NoOp()\nexten => _X.,3,Dial(Line/2)→FallsThrough main,100,2 main,_X.,3\nok 1 findings\nstatus 1
-# Behind an application that ends there it does not.
+# After an application that ends there it does not.
 ¦exten => 100,1,NoOp()\nexten => 100,2,Hangup()\nexten => _X.,1,NoOp()\nexten => _X.,2,NoOp()\nexten => _X.,3,Dial(Line/2)→ok 0 findings\nstatus 0
 ¦exten => 1,1,Goto(s,1)\nexten => 2,1,return()\nexten => 3,1,Busy()\nexten => 4,1,Congestion()\nexten => 5,1,GotoIf($[1]?s,1)\nexten => s,1,Hangup()\nexten => _X,2,Hangup()→NoFirst main,_X,2\nFallsThrough main,5,1 main,_X,2\nok 2 findings\nstatus 1
-# Nor where the own extension goes on, by an include too; and an include may be where it goes on.
+# Nor if the extension itself goes on, through an include too; and the call may go on in an include.
 ¦exten => 100,1,NoOp()\nexten => 100,2,Hangup()\nexten => _X.,1,NoOp()\nexten => _X.,2,Hangup()→ok 0 findings\nstatus 0
 FallsThrough¦exten => 100,1,NoOp()\ninclude => more\n[more]\nexten => 100,2,NoOp()\nexten => _X.,3,NoOp()→FallsThrough more,100,2 more,_X.,3\nok 1 findings\nstatus 1
 FallsThrough¦exten => 100,1,NoOp()\ninclude => more\n[more]\nexten => _X.,2,NoOp()→FallsThrough main,100,1 more,_X.,2\nok 1 findings\nstatus 1
 # An endless run, by its first entry.
 ¦exten => s,1,Answer()\nexten => s,2,Set(A=1)\nexten => s,3,Log(NOTICE,x)\nexten => s,4,Goto(s,2)→Loop main,s,2\nok 1 findings\nstatus 1
 Loop¦exten => s,1,noop()\nexten => s,2,MSet(A=1,B=2)\nexten => s,3,Verbose(1,x)\nexten => s,4,Ringing()\nexten => s,5,Progress()\nexten => s,6,Proceeding()\nexten => s,7,UserEvent(x)\nexten => s,8,Goto(1)→Loop main,s,1\nok 1 findings\nstatus 1
-# What takes time, asks or ends is none.
+# A run with what takes time, asks or ends is not endless.
 Loop¦exten => s,1,Playback(x)\nexten => s,2,Goto(1)\nexten => t,1,SayDigits(1)\nexten => t,2,Goto(1)\nexten => u,1,GotoIf($[1]?1)\nexten => v,1,System(x)\nexten => v,2,Goto(1)→ok 0 findings\nstatus 0
-# Functions that Asterisk does not have, by their names as they are written, those inside of others too.
+# Functions that Asterisk does not have, by their names as they are written, also inside others.
 ¦exten => s,1,NoOp(${CUTT(a,b,1)})\nexten => s,2,Hangup()→NoFunction main,s,1 CUTT\nok 1 findings\nstatus 1
 ¦exten => s,1,Set(A=${LEN(${FOO(${BAR(1)})})}$[${BAZ(2):1} + 1])→NoFunction main,s,1 FOO\nNoFunction main,s,1 BAR\nNoFunction main,s,1 BAZ\nok 3 findings\nstatus 1
 ¦exten => s,1,Set(A=${cut(X,-,1)}${Len(x)})→NoFunction main,s,1 cut\nNoFunction main,s,1 Len\nok 2 findings\nstatus 1
-# Functions of the table and of Asterisk, and what is none.
+# Functions of the table and of Asterisk, and texts that are not functions.
 ¦exten => s,1,Set(A=${CUT(X,-,1)}${DB(a/b)}${CALLERID(num)}${IF($[1]?a:b)}${STRFTIME(1)}${SHELL(ls)}${GLOBAL(X)}${LEN(a)}${QUEUE_EXISTS(q)})→ok 0 findings\nstatus 0
 ¦exten => s,1,Set(FOO(1)=${A}(1)${B:1}${C${D}(1)}$FOO(1)FOO(2))→ok 0 findings\nstatus 0
 ¦exten => s,1,NoOp(${ FOO(1)})\nexten => s,2,NoOp(${FOO(1)→NoFunction main,s,1  FOO\nNoFunction main,s,2 FOO\nok 2 findings\nstatus 1
-# The further kinds come behind the others, each in the order of the file.
+# The further kinds come after the others, each in the order of the file.
 ¦exten => 9,1,NoOp(${FOO(1)})\nexten => 8,1,Goto(8,1)\nexten => 7,2,NoOp()\nexten => _X,2,NoOp()\nexten => _X,3,Goto(nowhere,s,1)→NoFirst main,7,2\nNoFirst main,_X,2\nNoTarget main,_X,3 nowhere,s,1\nFallsThrough main,9,1 main,_X,2\nFallsThrough main,7,2 main,_X,3\nLoop main,8,1\nNoFunction main,9,1 FOO\nok 7 findings\nstatus 1
-# Kinds alone, in any case and with blanks.
+# Only some kinds, in any case and with blanks.
 noapplication¦exten => s,1,While(1)\nexten => s,3,NoOp(${FOO(1)})→NoApplication main,s,1 While\nok 1 findings\nstatus 1
  NOFUNCTION , gap ¦exten => s,1,While(1)\nexten => s,3,NoOp(${FOO(1)})→Gap main,s,1 2\nNoFunction main,s,3 FOO\nok 2 findings\nstatus 1
 Hidden¦exten => s,1,While(1)\nexten => s,3,NoOp(${FOO(1)})→ok 0 findings\nstatus 0
@@ -51,23 +50,23 @@ Hidden¦exten => s,1,While(1)\nexten => s,3,NoOp(${FOO(1)})→ok 0 findings\nsta
 ¦abc→fault 4 NoEquals line 2
 ";
 
-/// The same over the applications of this program, in which the kinds are those that alone are told.
+/// The same over the applications of this program, with the kinds to report.
 const PLAIN: &str = r"
 ¦exten => s,1,VoiceMail(${A})\nexten => s,3,Hangup()→NoApplication main,s,1 VoiceMail\nGap main,s,1 2\nUnset main,s,1 A\nok 3 findings\nstatus 1
 unset¦exten => s,1,VoiceMail(${A})\nexten => s,3,Hangup()→Unset main,s,1 A\nok 1 findings\nstatus 1
 Gap,NoApplication¦exten => s,1,VoiceMail(${A})\nexten => s,3,Hangup()→NoApplication main,s,1 VoiceMail\nGap main,s,1 2\nok 2 findings\nstatus 1
-# What is found over the wide table alone is not told.
+# Findings that exist only over the wide table are not reported.
 ¦exten => s,1,Set(A=1)\nexten => s,2,Goto(1)\nexten => s,3,NoOp(${FOO(1)})→ok 0 findings\nstatus 0
 ¦abc→fault 4 NoEquals line 2
 ";
 
-/// The same, in which the kinds are those that are not told.
+/// The same, with the kinds to leave out.
 const WITHOUT: &str = r"
 gap¦exten => s,1,VoiceMail(${A})\nexten => s,3,Hangup()→NoApplication main,s,1 VoiceMail\nUnset main,s,1 A\nok 2 findings\nstatus 1
 GAP, unset ,NoApplication¦exten => s,1,VoiceMail(${A})\nexten => s,3,Hangup()→ok 0 findings\nstatus 0
 ";
 
-/// Texts, and whether each word of them is a kind of an audit, over the wide table and not.
+/// Texts, and whether each of their words is a kind of an audit, over the wide table and otherwise.
 const KINDS: &str = r"
 Cycle→wide plain
 cycle,NOTARGET , Gap,NoFirst,hidden,unused,noapplication→wide plain
@@ -80,7 +79,7 @@ Gap Hidden→none
 Gaps→none
 ";
 
-/// The kinds of a cell: those that alone are told, or all of them where it is empty.
+/// The kinds of a cell: those to report, or all of them if it is empty.
 fn only_of(cell: &str) -> KindChoice<'_> {
     if cell.is_empty() {
         KindChoice::All
@@ -89,7 +88,7 @@ fn only_of(cell: &str) -> KindChoice<'_> {
     }
 }
 
-/// All that an audit of a dialplan writes, and what it ends with after it.
+/// The whole output of an audit of a dialplan, followed by its result.
 fn answer_to(alloc: Global, plan: &str, choice: AuditChoice<'_>) -> Result<String, Fail> {
     let plan = in_main(alloc, plan)?;
     let mut writer = make_sink(alloc, 4096, None);
@@ -126,7 +125,7 @@ impl Question for PlainAudit {
     }
 }
 
-/// An audit that does not tell of some kinds.
+/// An audit that does not report some kinds.
 struct AuditWithout;
 
 impl Question for AuditWithout {
@@ -140,7 +139,7 @@ impl Question for AuditWithout {
     }
 }
 
-/// Of which audits the words of a text are kinds.
+/// The audits of which the words of a text are kinds.
 struct KindsOf;
 
 impl Question for KindsOf {
@@ -157,7 +156,7 @@ impl Question for KindsOf {
     }
 }
 
-/// Audits tell what they are asked for.
+/// Audits report the kinds that they are asked for.
 #[test]
 fn audits_report_the_kinds_that_are_asked_for(rt: HostRuntime) -> Result<(), Fail> {
     check_all::<WideAudit>(rt.alloc(), &[WIDE])?;

@@ -1,4 +1,4 @@
-//! Runs that tell facts and stop before what is unknown, with all that is printed of them, worked out by hand from the rules.
+//! Runs that state facts and stop before anything unknown, with everything that they print, worked out by hand from the rules.
 use dp_case_tables::{Question, check_all};
 use dp_commands_fixture::{Texts, make_sink, outcome_text, read_texts};
 use dp_conf::NoMemory;
@@ -6,17 +6,17 @@ use dp_wide_runs::run_wide;
 use std::alloc::Global;
 use std::test::Fail;
 
-/// Worked cases. A case is a dialplan that begins in `[main]`, a file of queues and a script, parted by `¦`, and a second dialplan
-/// after a further `¦`, where there is one; then an arrow, and the trace with the status after it.
+/// Worked cases. A case is a dialplan that begins in `[main]`, a file of queues and a script, separated by `¦`, and a second dialplan after
+/// another `¦`, if there is one; then an arrow, and the trace followed by the status.
 const STOPS: &str = r"
-# Where all is known a run goes as ever.
+# If everything is known, a run goes as without the option.
 exten => s,1,Set(A=1)\nexten => s,2,Hangup()¦¦start main s\nstep 1 2\nshow 1 A→started 1\nran 1 main,s,1 Set -> ready main,s,2\nran 1 main,s,2 Hangup -> ended\nA=1\nstatus 0
 exten => s,1,Queue(q)¦[q]\nmember => Line/1¦start main s\nstep 1\noffer q→started 1\nran 1 main,s,1 Queue -> queued q\noffered 1 1\nstatus 0
-# A step is not taken where a group or an application is unknown, and the state stays.
+# A step is not taken if a group or an application is unknown, and the state stays.
 exten => s,1,Set(A=${DB(x)})¦¦start main s\nstep 1\nshow 1 A→started 1\nunknown 1 DB(x) -> ready main,s,1\nA=\nstatus 4
 exten => s,1,While(1)¦¦start main s\nstep 1→started 1\nunknown 1 While -> ready main,s,1\nstatus 4
 exten => s,1,GotoIf($[7 / 2 = 3]?2)¦¦start main s\nstep 1→started 1\nunknown 1 $[7 / 2 = 3] -> ready main,s,1\nstatus 4
-# The other steps of the line are left out, and the next line asks anew.
+# The other steps of the line are left out, and the next line tries again.
 exten => s,1,NoOp()\nexten => s,2,While(1)¦¦start main s\nstep 1 5\nstep 1→started 1\nran 1 main,s,1 NoOp -> ready main,s,2\nunknown 1 While -> ready main,s,2\nunknown 1 While -> ready main,s,2\nstatus 4
 # The other channels go on.
 exten => s,1,While(1)\nexten => t,1,NoOp()¦¦start main s\nstart main t\nstep 1\nstep 2→started 1\nstarted 2\nunknown 1 While -> ready main,s,1\nran 2 main,t,1 NoOp -> ready main,t,2\nstatus 4
@@ -24,9 +24,9 @@ exten => s,1,While(1)\nexten => t,1,NoOp()¦¦start main s\nstart main t\nstep 1
 exten => s,1,While(1)¦¦start main s\nstep 1\nstep 9→started 1\nunknown 1 While -> ready main,s,1\nrefused 40 NoChannel\nstatus 1
 ";
 
-/// The same of facts.
+/// The same for facts.
 const FACTS: &str = r"
-# A fact makes known what was not, and the next step goes on.
+# A fact makes something known, and the next step goes on.
 exten => s,1,Set(A=${DB(x)})¦¦start main s\nstep 1\nlet 1 DB(x)=5\nstep 1\nshow 1 A→started 1\nunknown 1 DB(x) -> ready main,s,1\nok 1 -> ready main,s,1\nran 1 main,s,1 Set -> ready main,s,2\nA=5\nstatus 4
 exten => s,1,Set(A=${DB(x)})¦¦start main s\nglobal DB(x)=a b\nstep 1\nshow 1 A→started 1\nok\nran 1 main,s,1 Set -> ready main,s,2\nA=a b\nstatus 0
 # A cell of one channel is not that of another.
@@ -34,23 +34,23 @@ exten => s,1,Set(A=${CDR(x)})¦¦start main s\nstart main s\nlet 1 CDR(x)=5\nste
 # A value may be empty, and have blanks and signs inside.
 exten => s,1,NoOp()¦¦start main s\nlet 1 X=\nshow 1 X\nlet 1  Y =  a = b  \nshow 1 Y→started 1\nok 1 -> ready main,s,1\nX=\nok 1 -> ready main,s,1\nY=a = b\nstatus 0
 exten => s,1,NoOp()¦¦start main s\nlet 9 X=1→started 1\nrefused 40 NoChannel\nstatus 1
-# What came of an application outside, and how it goes on.
+# The result of an application that runs outside, and how the call goes on.
 exten => s,1,VoiceMail(1)\nexten => s,2,Set(A=${VMSTATUS})¦¦start main s\nstep 1\nlet 1 VMSTATUS=OK\ngo 1\nstep 1\nshow 1 A→started 1\nran 1 main,s,1 VoiceMail -> pause\nok 1 -> pause\nok 1 -> ready main,s,2\nran 1 main,s,2 Set -> ready main,s,3\nA=OK\nstatus 0
 exten => s,1,Read(PIN,beep)\nexten => s,2,GotoIf($[${PIN} = 42]?4)\nexten => s,4,NoOp()¦¦start main s\nstep 1\ngo 1\nstep 1\nlet 1 PIN=42\nstep 1→started 1\nran 1 main,s,1 Read -> pause\nok 1 -> ready main,s,2\nunknown 1 PIN -> ready main,s,2\nok 1 -> ready main,s,2\nran 1 main,s,2 GotoIf -> ready main,s,4\nstatus 4
 # The clock.
 exten => s,1,GotoIfTime(9:00-17:00,mon-fri,*,*?3)\nexten => s,3,NoOp()¦¦start main s\nstep 1\nclock wed 2026-11-25 10:30\nstep 1→started 1\nunknown 1 CLOCK -> ready main,s,1\nok\nran 1 main,s,1 GotoIfTime -> ready main,s,3\nstatus 4
-# What nothing wrote is empty where the script says so, of the functions that it names and of no other.
+# What nothing set is empty if the script says so, in the functions that it names and in no others.
 exten => s,1,Set(A=<${DB(x)}>)\nexten => s,2,Set(B=<${CDR(x)}>)¦¦assume DB\nstart main s\nstep 1 2\nshow 1 A→ok\nstarted 1\nran 1 main,s,1 Set -> ready main,s,2\nunknown 1 CDR(x) -> ready main,s,2\nA=<>\nstatus 4
 exten => s,1,Set(A=<${CDR(x)}${DB(x)}>)¦¦start main s\nassume DB  CDR\nstep 1\nshow 1 A→started 1\nok\nok\nran 1 main,s,1 Set -> ready main,s,2\nA=<>\nstatus 0
 exten => s,1,Set(A=${DB_EXISTS(x)}${DB_DELETE(x)}${CALLERID(name)}${DB(y)})¦¦assume DB CALLERID\nglobal DB(y)=1\nstart main s\nstep 1\nshow 1 A→ok\nok\nok\nstarted 1\nran 1 main,s,1 Set -> ready main,s,2\nA=01\nstatus 0
 exten => s,1,Set(A=${LEN(${CALLERID(all)})})¦¦start main s 7\nstep 1\nassume CALLERID\nstep 1\nshow 1 A→started 1\nunknown 1 CALLERID(all) -> ready main,s,1\nok\nran 1 main,s,1 Set -> ready main,s,2\nA=6\nstatus 4
 # Another place.
 exten => s,1,While(1)\nexten => t,1,NoOp()\nexten => t,2,NoOp()¦¦start main s\nredirect 1 main t\nstep 1\nredirect 1 main t 2\nredirect 9 main t→started 1\nok 1 -> ready main,t,1\nran 1 main,t,1 NoOp -> ready main,t,2\nok 1 -> ready main,t,2\nrefused 40 NoChannel\nstatus 1
-# Over an entry that is unknown, and over no other.
+# It skips an entry that is unknown, and no other.
 exten => s,1,While(1)\nexten => s,2,NoOp()¦¦start main s\npass 1\nstep 1\npass 1\npass 2\nhangup 1\npass 1→started 1\nok 1 -> ready main,s,2\nran 1 main,s,2 NoOp -> ready main,s,3\nrefused 41 NotReady\nrefused 40 NoChannel\nok 1 -> ended\nrefused 49 Ended\nstatus 1
 ";
 
-/// The same of faulty lines.
+/// The same for faulty lines.
 const FAULTS: &str = r"
 exten => s,1,NoOp()¦¦start main s\nlet 1 =5→fault 70 BadScript line 2
 exten => s,1,NoOp()¦¦let 1 X→fault 70 BadScript line 1
@@ -67,14 +67,14 @@ exten => s,1,NoOp()¦¦walk 1→fault 70 BadScript line 1
 abc¦¦walk 1→fault 4 NoEquals line 2
 ";
 
-/// All that a run of these texts writes, and what it ends with after it.
+/// The whole output of a run of these texts, followed by its result.
 fn answer_to(alloc: Global, texts: &Texts) -> Result<String, NoMemory> {
     let mut writer = make_sink(alloc, 4096, None);
     let ended = run_wide(alloc, texts.lend(), &mut writer);
     outcome_text(alloc, ended, writer)
 }
 
-/// What the run of a case writes and ends with.
+/// The output and result of the run of a case.
 struct WideRun;
 
 impl Question for WideRun {
@@ -87,7 +87,7 @@ impl Question for WideRun {
     }
 }
 
-/// Runs stop before what is unknown, and go on once it is told.
+/// Runs stop before anything unknown, and go on once a fact is stated.
 #[test]
 fn runs_stop_before_the_unknown(rt: HostRuntime) -> Result<(), Fail> {
     check_all::<WideRun>(rt.alloc(), &[STOPS, FACTS, FAULTS])

@@ -1,4 +1,4 @@
--- What lines make one after another is the file that they are.
+-- Lines that are taken one after another make the file that they are.
 use Rattle.std.proofs.Common.{◌≡◌, ℕ, Bool, true, false, ◌||◌, List, [], ◌∷◌, ◌++◌, fold, Option, Some, None, is_some, Result, refl, ap, sym, ◌∙◌}
 use Rattle.std.specs.List.{flat_map, list_any}
 use Rattle.std.specs.Option.{option_or, option_to_list}
@@ -251,7 +251,7 @@ module _ (dialplan queues clock assume : Option HeadLine) (setup : List TestLine
   has_test-turn None (Faulty kind) = refl
   has_test-turn (Some test) (Faulty kind) = refl
 
--- a test is open where one was, or where a line begins one
+-- a test is open if one was open, or if a line begins one
 has_test-fold : (draft : Draft) (lines : List MeantLine) → is_some (fold drafted_after draft lines).current ≡ (is_some draft.current || list_any begins_test lines)
 has_test-fold draft [] = sym (or-false (is_some draft.current))
 has_test-fold draft (line ∷ lines) =
@@ -266,7 +266,7 @@ has_head-head_in draft Queues = refl
 has_head-head_in draft Clock = refl
 has_head-head_in draft Assume = refl
 
--- what the lines before have made
+-- the result of the lines before
 abbrev made_of : List MeantLine → Draft
 made_of before = fold drafted_after undrafted before
 
@@ -274,7 +274,7 @@ made_of before = fold drafted_after undrafted before
 has_head-made_of : (before : List MeantLine) (word : HeadWord) → has_head (made_of before) word ≡ is_some (head_of word before)
 has_head-made_of before word = has_head-head_in (made_of before) word ∙ ap is_some (head-all word before)
 
--- what is wrong with the next line is what is wrong with it after the lines before
+-- the next line has the fault that it has after the lines before
 fault_with-made_of : (before : List MeantLine) (meaning : LineMeaning) → fault_with (made_of before) meaning ≡ fault_after before meaning
 fault_with-made_of before Nothing = refl
 fault_with-made_of before (Head word text turns) =
@@ -285,7 +285,7 @@ fault_with-made_of before (Event act) = refl
 fault_with-made_of before (Expect expectation) = ap expect_fault (has_test-fold undrafted before)
 fault_with-made_of before (Faulty kind) = refl
 
--- the faults that are found one after another are those that the lines have
+-- the faults that are found one after another are those of the lines
 faults_from-made_of : (before lines : List MeantLine) → faults_from (made_of before) lines ≡ faults_after before lines
 faults_from-made_of before [] = refl
 faults_from-made_of before (line ∷ lines) =
@@ -297,7 +297,7 @@ faults_from-made_of before (line ∷ lines) =
 
 -- ---- the file
 
--- what is answered for these parts of a file
+-- the result for these parts of a file
 abbrev made : Option HeadLine → Option HeadLine → Option HeadLine → Option HeadLine → List TestLine → List Test → List TestFault → Result TestFile (List TestFault)
 made dialplan queues clock assume setup tests faults =
     file_or_faults (closed_file (draft_of dialplan queues clock assume setup tests None) dialplan)
@@ -310,7 +310,7 @@ made-file_by lines None faults = refl
 made-file_by lines (Some dialplan) [] = refl
 made-file_by lines (Some dialplan) (fault ∷ faults) = refl
 
--- what is answered for all lines is the file that they are, or all their faults
+-- the result for all lines is the file that they are, or all their faults
 pub finished-file_in : (lines : List MeantLine) → finished (fold drafted_after undrafted lines) (faults_from undrafted lines) ≡ file_in lines
 unfolding file_in
 finished-file_in lines =

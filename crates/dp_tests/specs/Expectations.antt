@@ -28,7 +28,7 @@ abbrev pub call_of : List ℕ → Option (List ℕ) → Option Call
 call_of [] arguments = None
 call_of (byte ∷ name) arguments = Some (record { application = byte ∷ name; arguments = arguments })
 
--- the same, where no name of an application has a comma
+-- the same; the name of an application has no comma
 abbrev pub named_call : List ℕ → Option (List ℕ) → Option Call
 named_call name arguments = if list_any is_comma name then None else call_of name arguments
 
@@ -196,7 +196,7 @@ claim_by cut =
 abbrev pub expects : Bool → Claim → Expectation
 expects is_negated claim = record { is_negated = is_negated; claim = claim }
 
--- the expectation of a first word and the text after it: behind `not` stands the claim that does not hold
+-- the expectation of a first word and the text after it; after `not` comes the claim that does not hold
 abbrev pub expectation_by : List ℕ × List ℕ → Option Expectation
 expectation_by cut =
     if same_text cut.0 (codes "not") then option_map (expects true) (claim_by (cut_word cut.1))

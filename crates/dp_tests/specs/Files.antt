@@ -1,5 +1,5 @@
--- What a test file is, by its lines: its head and its setup are what stands before its first test, and each test is a line that begins it
--- with the lines up to the next one.
+-- The parts of a test file, given its lines: the head and the setup come before its first test, and each test is a line that begins it with
+-- the lines up to the next such line.
 use Rattle.std.specs.Prelude.{ℕ, ◌+◌, Bool, true, false, List, [], ◌∷◌, ◌++◌, Option, Some, None, is_some, Result, Ok, Err, if◌then◌else◌}
 use Rattle.std.specs.List.{flat_map, list_any}
 use Rattle.std.specs.Option.{option_or}
@@ -22,7 +22,7 @@ use Rattle.dp_tests.specs.declared.meaning.MeantLine.{MeantLine}
 
 -- ---- lines
 
--- lines with what each means by itself, where so many stand before them
+-- the lines with the meaning of each by itself, given the number of lines before them
 abbrev pub lines_after : ℕ → List (List ℕ) → List MeantLine
 lines_after number [] = []
 lines_after number (part ∷ parts) = meant_at (number + 1) part ∷ lines_after (number + 1) parts
@@ -187,7 +187,7 @@ abbrev pub faults_after : List MeantLine → List MeantLine → List TestFault
 faults_after before [] = []
 faults_after before (line ∷ lines) = fault_at line.line (fault_after before line.meaning) ++ faults_after (before ++ line ∷ []) lines
 
--- the fault of a head that names no dialplan; it stands at line 1
+-- the fault of a head that names no dialplan, which is reported at line 1
 abbrev pub dialplan_fault : Option HeadLine → List TestFault
 dialplan_fault None = (record { line = 1; kind = NoDialplan }) ∷ []
 dialplan_fault (Some dialplan) = []

@@ -50,7 +50,7 @@ dials channel digit = lines.gives (Digit channel digit)
 abbrev pub dialled_turns : ℕ → List ℕ → Option Turns
 dialled_turns channel digits = if list_all is_digit digits then Some (map (dials channel) digits) else None
 
--- the same, where a word writes the channel's number
+-- the same, if a word writes the channel's number
 abbrev pub dial_turns_of : List ℕ → List ℕ → Option Turns
 dial_turns_of word digits = option_and_then (λ channel. dialled_turns channel digits) (script.channel_in word)
 
@@ -63,11 +63,11 @@ dial_turns (channel ∷ digits ∷ more ∷ words) = None
 
 -- ---- lines
 
--- a line that is none of the language
+-- a line that is not of this language
 abbrev pub bad_line : LineMeaning
 bad_line = Faulty BadLine
 
--- a line is passed over if it has no word, or if its first word begins with `;`
+-- a line is skipped if it has no word, or if its first word begins with `;`
 abbrev pub is_passed_over : List ℕ → Bool
 is_passed_over [] = true
 is_passed_over (b ∷ word) = b == byte ";"

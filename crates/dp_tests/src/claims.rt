@@ -63,7 +63,7 @@ fn read_passed(alloc: Global, channel: u32, text: &[u8]) -> Result<Option<Claim>
     }
 }
 
-/// The claim that the last entry that a channel ran stands at the place in a text.
+/// The claim that the last entry that a channel ran is at the place in a text.
 fn read_at(alloc: Global, channel: u32, text: &[u8]) -> Result<Option<Claim>, NoMemory>
     ensures { IfOk result (λ claim. claim ≡ spec.at_claim channel text.now) }
 {
@@ -123,7 +123,7 @@ fn read_rings(alloc: Global, words: &[&[u8]]) -> Result<Option<Claim>, NoMemory>
     Ok(Some(Claim::Rings { agents }))
 }
 
-/// The claim that so many channels wait in a queue, or None if the word is no number.
+/// The claim that this number of channels wait in a queue, or None if the word is not a number.
 fn waiting_claim(alloc: Global, queue: &[u8], word: &[u8]) -> Result<Option<Claim>, NoMemory>
     ensures { IfOk result (λ claim. claim ≡ spec.waiting_by queue.now word.now) }
 {
@@ -144,7 +144,7 @@ fn read_waiting(alloc: Global, words: &[&[u8]]) -> Result<Option<Claim>, NoMemor
     }
 }
 
-/// The claim that an event was refused for the reason that a word names, or None if it names none.
+/// The claim that an event was refused for the reason that a word names, or None if the word names no reason.
 fn refused_by(word: &[u8]) -> Option<Claim>
     ensures { result ≡ spec.refused_by word.now }
 {
@@ -177,7 +177,7 @@ fn read_numbered(alloc: Global, word: &[u8], rest: &[u8]) -> Result<Option<Claim
     }
 }
 
-/// The claim that a first word and the text after it make, or None if they make none.
+/// The claim that a first word and the text after it make, or None if they do not make one.
 fn read_claim(alloc: Global, word: &[u8], rest: &[u8]) -> Result<Option<Claim>, NoMemory>
     ensures { IfOk result (λ claim. claim ≡ spec.claim_by (word.now, rest.now)) }
 {

@@ -105,7 +105,7 @@ impl Draft {
         }
     }
 
-    /// Takes a line of the head that stands in a test: one that states a fact is an event line of the test.
+    /// Takes a line of the head that is in a test: one that states a fact is an event line of the test.
     fn take_fact(&mut self, word: HeadWord, line: HeadLine) -> Result<(), NoMemory>
         ensures { OnOk result (self.new ≡ spec.with_fact self.old word line) }
     {

@@ -83,7 +83,7 @@ fn push_digits(turns: &mut Turns, channel: u32, digits: &[u8]) -> Result<(), NoM
     Ok(())
 }
 
-/// The turns of a channel that dials the bytes of a word, or None if one of them is no digit.
+/// The turns of a channel that dials the bytes of a word, or None if one of them is not a digit.
 fn dialled_turns(alloc: Global, channel: u32, word: &[u8]) -> Result<Option<Turns>, NoMemory>
     ensures { IfOk result (λ turns. turns ≡ spec.dialled_turns channel word.now) }
 {

@@ -10,7 +10,7 @@ pub struct Call {
     pub arguments: Option<Text>,
 }
 
-/// Where an entry stands: its context, its name by its meaning, and its priority if the line gives one.
+/// The place of an entry: its context, its name by its meaning, and its priority if the line gives one.
 #[derive(Drop)]
 pub struct EntryPlace {
     pub context: Text,
@@ -36,7 +36,7 @@ pub enum Claim {
         channel: u32,
         call: Call,
     },
-    /// `CH at CONTEXT,NAME[,PRIORITY]`: the last entry that the channel ran stands there.
+    /// `CH at CONTEXT,NAME[,PRIORITY]`: the last entry that the channel ran is at this place.
     At {
         channel: u32,
         place: EntryPlace,
@@ -51,7 +51,7 @@ pub enum Claim {
     Rings {
         agents: Items<Text>,
     },
-    /// `waiting QUEUE N`: so many channels wait in the queue.
+    /// `waiting QUEUE N`: this number of channels wait in the queue.
     Waiting {
         queue: Text,
         count: u32,

@@ -8,17 +8,17 @@ use dp_plan::NoMemory;
 /// What is wrong with a line of a test file.
 #[derive(Clone, Copy, Debug, PartialEq, Eq)]
 pub enum TestFaultKind {
-    /// The line is none of the language.
+    /// The line is not of this language.
     BadLine,
-    /// The line begins with `expect`, and what follows is none of the forms of an expectation.
+    /// The line begins with `expect`, and the text after it has none of the forms of an expectation.
     BadExpect,
     /// The head has a line with this first word already.
     HeadTwice,
-    /// A `dialplan` or `queues` line stands after the first `test`.
+    /// A `dialplan` or `queues` line comes after the first `test`.
     HeadLate,
-    /// There is no `dialplan` line before the first `test`. This fault stands at line 1.
+    /// There is no `dialplan` line before the first `test`. This fault is reported at line 1.
     NoDialplan,
-    /// An `expect` line stands before the first `test`.
+    /// An `expect` line comes before the first `test`.
     ExpectOutside,
     /// A test has no name.
     NoName,

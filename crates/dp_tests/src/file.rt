@@ -15,7 +15,7 @@ pub enum Act {
     Turns(Turns),
     /// `reload FILE`: the dialplan of the file with this name is put in force.
     Reload(Text),
-    /// `expect ..`; a setup has none.
+    /// `expect ..`; a setup has no such line.
     Expect(Expectation),
 }
 

@@ -11,7 +11,7 @@
 //! call        = `APP` | `APP(ARGS)`
 //! ```
 //!
-//! Blank lines, and lines that begin with `;`, are passed over. `clock` and `assume` after the first `test` are event lines of their test.
+//! Blank lines, and lines that begin with `;`, are skipped. `clock` and `assume` after the first `test` are event lines of their test.
 #![tactic(auto)]
 
 mod claims;

@@ -13,7 +13,7 @@ use dp_conf::trim;
 use dp_plan::{NoMemory, Text};
 use std::alloc::Global;
 
-/// Whether a line with this first word is passed over: it has no word, or its first word begins with `;`.
+/// Whether a line with this first word is skipped: it has no word, or its first word begins with `;`.
 fn is_passed_over(word: &[u8]) -> bool
     ensures { result ≡ spec.is_passed_over word.now }
 {
@@ -23,14 +23,14 @@ fn is_passed_over(word: &[u8]) -> bool
     }
 }
 
-/// Whether a script with facts has lines with this first word, and a test file has none.
+/// Whether a script with facts may have lines with this first word, and a test file may not.
 fn is_for_scripts(word: &[u8]) -> bool
     ensures { result ≡ spec.is_for_scripts word.now }
 {
     word == b"step".as_slice() || word == b"show".as_slice()
 }
 
-/// A faulty line that is none of the language.
+/// A faulty line that is not of this language.
 fn bad_line() -> LineMeaning
     ensures { result ≡ spec.bad_line }
 {
@@ -39,7 +39,7 @@ fn bad_line() -> LineMeaning
     }
 }
 
-/// An event line with these turns, or a faulty line if there are none.
+/// An event line with these turns, or a faulty line without turns.
 fn gives(turns: Option<Turns>) -> LineMeaning
     ensures { result ≡ spec.gives turns }
 {

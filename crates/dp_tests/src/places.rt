@@ -57,7 +57,7 @@ fn call_with(alloc: Global, name: &[u8], rest: &[u8]) -> Result<Option<Call>, No
     }
 }
 
-/// The call that a text writes, `APP` or `APP(ARGS)`, or None if it writes none.
+/// The call that a text writes, `APP` or `APP(ARGS)`, or None if it does not write one.
 pub(crate) fn read_call(alloc: Global, text: &[u8]) -> Result<Option<Call>, NoMemory>
     ensures { IfOk result (λ call. call ≡ spec.call_in text.now) }
 {
@@ -67,7 +67,7 @@ pub(crate) fn read_call(alloc: Global, text: &[u8]) -> Result<Option<Call>, NoMe
     }
 }
 
-/// The name that a text writes, or None if it is no name.
+/// The name that a text writes, or None if it is not a name.
 fn read_name(alloc: Global, text: &[u8]) -> Result<Option<SharedName>, NoMemory>
     ensures { IfOk result (λ name. name ≡ spec.name_in text.now) }
 {
@@ -92,7 +92,7 @@ fn read_priority(word: &[u8]) -> Option<u32>
     Some(number)
 }
 
-/// The place of the entries with this name in this context, or None if the context is empty or the name is no name.
+/// The place of the entries with this name in this context, or None if the context is empty or the name is malformed.
 fn named_place(alloc: Global, context: &[u8], name: &[u8]) -> Result<Option<EntryPlace>, NoMemory>
     ensures { IfOk result (λ place. place ≡ spec.named_place context.now (spec.name_in name.now)) }
 {
@@ -126,7 +126,7 @@ fn with_priority(place: EntryPlace, priority: u32) -> EntryPlace
     }
 }
 
-/// The place that a context, a name and a priority write, or None if they write none.
+/// The place that a context, a name and a priority write, or None if they do not write one.
 fn numbered_place(
     alloc: Global,
     context: &[u8],
@@ -144,7 +144,7 @@ fn numbered_place(
     Ok(Some(with_priority(place, priority)))
 }
 
-/// The place that these parts write, or None if they write none.
+/// The place that these parts write, or None if they do not write one.
 fn place_by(alloc: Global, parts: &[&[u8]]) -> Result<Option<EntryPlace>, NoMemory>
     ensures { IfOk result (λ place. place ≡ spec.place_by (map (λ part. part.now) parts.now)) }
 {
@@ -155,7 +155,7 @@ fn place_by(alloc: Global, parts: &[&[u8]]) -> Result<Option<EntryPlace>, NoMemo
     }
 }
 
-/// The place that a text writes, `CONTEXT,NAME` or `CONTEXT,NAME,PRIORITY`, or None if it writes none.
+/// The place that a text writes, `CONTEXT,NAME` or `CONTEXT,NAME,PRIORITY`, or None if it does not write one.
 pub(crate) fn read_place(alloc: Global, text: &[u8]) -> Result<Option<EntryPlace>, NoMemory>
     ensures { IfOk result (λ place. place ≡ spec.place_in text.now) }
 {

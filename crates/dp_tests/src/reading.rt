@@ -56,7 +56,7 @@ fn read_all(alloc: Global, text: &[u8]) -> Result<Reading, NoMemory>
     Ok(Reading { draft, faults })
 }
 
-/// Adds the fault of a head that names no dialplan before the others, if it names none.
+/// Adds, before the other faults, that the head names no dialplan, if that is so.
 fn add_dialplan_fault(has_dialplan: bool, faults: &mut Items<TestFault>) -> Result<(), NoMemory>
     ensures { OnOk result (faults.new ≡ spec.with_dialplan_fault has_dialplan faults.old) }
 {

@@ -39,7 +39,7 @@ pub(crate) fn setting_in(text: &[u8]) -> Option<(&[u8], &[u8])>
     Some((name, value))
 }
 
-/// The text without its last byte, or None if that is no `)`.
+/// The text without its last byte, or None if that byte is not a `)`.
 pub(crate) fn before_closing(text: &[u8]) -> Option<&[u8]>
     ensures { option_map (λ front. front.now) result ≡ without_last 41 text.now }
 {

@@ -1,4 +1,4 @@
-//! Configuration texts and what is in them, worked out by hand from the rules.
+//! Configuration texts and their contents, worked out by hand from the rules.
 mod args;
 mod codes;
 mod files;
@@ -21,7 +21,7 @@ fn check_parts(alloc: Global) -> Result<(), Fail> {
     check::<Cut>(alloc, CUTS)
 }
 
-/// Arguments, texts without blanks at their ends, words but for their case, numbers, and texts cut once.
+/// Arguments, texts without blanks at their ends, words without regard to case, numbers, and texts cut once.
 #[test]
 fn parts_of_texts(rt: HostRuntime) -> Result<(), Fail> {
     check_parts(rt.alloc())

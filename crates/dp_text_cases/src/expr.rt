@@ -160,7 +160,7 @@ const NEGATIONS: &str = r#"
 -""→
 "#;
 
-/// What is false is the empty text and any number that is zero.
+/// The empty text and any number that is zero are false.
 const TRUTH: &str = r#"
 !1→0
 ! 1→0
@@ -225,7 +225,7 @@ a = 1 / 0→
 1 + 1 / 0→
 "#;
 
-/// As numbers if both sides are, else by bytes.
+/// Compared as numbers if both sides are, else by bytes.
 const COMPARISONS: &str = r#"
 1 = 1→1
 1 == 1→1
@@ -331,7 +331,7 @@ const GROUPING: &str = r#"
 (((1) + ((2))))→3
 "#;
 
-/// The longest operator first; two that meet are two.
+/// The longest operator comes first; two adjacent ones are two.
 const SPELLINGS: &str = r#"
 1+1→2
 1 +1→2
@@ -395,7 +395,7 @@ a?b→
 1 = 1 ? 2→
 "#;
 
-/// What the grammar does not allow.
+/// Texts that the grammar does not allow.
 const FAULTS: &str = r#"
 →
 \x20→
@@ -432,7 +432,7 @@ const FAULTS: &str = r#"
 < 2→
 "#;
 
-/// Words and quoted operands of bytes above 127, whose order is that of bytes.
+/// Words and quoted operands of bytes above 127, which are ordered by their bytes.
 const HIGH_BYTES: &str = r#"
 # Of characters.
 é→é
@@ -444,7 +444,7 @@ z < é→1
 !é→0
 é | 1→é
 日本 > 1→1
-# Of bytes that are no characters.
+# Of bytes that are not characters.
 \xFF\x80→\xFF\x80
 \xFF=\xFF→1
 \xFF>\xFE→1
@@ -484,7 +484,7 @@ fn expressions_have_these_values(rt: HostRuntime) -> Result<(), Fail> {
     check_tables(&rt, rt.alloc())
 }
 
-/// That many copies of the piece after the text.
+/// This number of copies of the piece after the text.
 fn push_copies(text: &mut Vec<u8>, piece: &[u8], count: usize) -> Result<(), AllocError> {
     for _ in 0..count {
         text.extend_from_slice(piece)?;
@@ -492,7 +492,7 @@ fn push_copies(text: &mut Vec<u8>, piece: &[u8], count: usize) -> Result<(), All
     Ok(())
 }
 
-/// What stands after a `{`: the copies of a piece up to the `}`, and the rest as it is.
+/// The text after a `{`: the copies of a piece up to the `}`, and the rest as it is.
 fn push_part(text: &mut Vec<u8>, copies: &str, rest: &str) -> Result<(), Fail> {
     let (count, piece) = copies.split_once(' ').ok_or("no count")?;
     let count: usize = count.parse().ok().ok_or("no number")?;
@@ -501,7 +501,7 @@ fn push_part(text: &mut Vec<u8>, copies: &str, rest: &str) -> Result<(), Fail> {
     Ok(())
 }
 
-/// The text of a cell, in which `{COUNT PIECE}` is that many copies of the piece.
+/// The text of a cell, in which `{COUNT PIECE}` is this number of copies of the piece.
 fn repeat_piece(alloc: Global, cell: &str) -> Result<Vec<u8>, Fail> {
     let mut text = Vec::new(alloc);
     for part in cell.split('{') {
@@ -515,7 +515,7 @@ fn repeat_piece(alloc: Global, cell: &str) -> Result<Vec<u8>, Fail> {
 
 /// Texts and values with `{COUNT PIECE}` for copies of a piece.
 const REPEATED: &str = r"
-# Nested parentheses, minus signs and `!`, up to 32 inside one another and beyond.
+# Nested parentheses, minus signs and `!`, up to 32 deep and beyond.
 {32 (}1{32 )}→1
 {33 (}1{33 )}→
 {32 -}1→1
@@ -532,7 +532,7 @@ const REPEATED: &str = r"
 {33 (}1{33  + 1)}→
 {100000 (}1{100000 )}→
 {100000 -}1→
-# Parentheses side by side do not stand inside one another.
+# Parentheses side by side are not nested.
 {32 (}1{32 )} + {32 -}2→3
 # Long texts take time in proportion.
 {100000 1 + }1→100001
@@ -575,7 +575,7 @@ fn check_blank(rt: &impl Abort, alloc: Global, blank: u8) -> Result<(), Fail> {
     assert_value(rt, alloc, &quoted, &quoted)
 }
 
-/// A byte alone is a word, but for the blanks and the marks.
+/// A byte alone is a word, except the blanks and the marks.
 fn check_alone(rt: &impl Abort, alloc: Global, byte: u8) -> Result<(), Fail> {
     let marks = b"\"|&=<>+-*/%!():?~";
     let text = [byte];

@@ -1,4 +1,5 @@
-//! Files as people have them, and the text of a dialplan that is made of them, worked out by hand from the rules of configuration files.
+//! Dialplan files as people write them, and the text of a dialplan that is made from them, worked out by hand from the rules of
+//! configuration files.
 use dp_case_tables::{Question, bytes_of, check, check_same, push_bytes};
 use dp_conf::Text;
 use dp_files::{
@@ -9,10 +10,10 @@ use std::alloc::Global;
 use std::str;
 use std::test::Fail;
 
-/// Files, each as `NAME:TEXT` and parted by `‖`, of which `a` is the first; and the lines that are made of them, each as `FILE:LINE TEXT` and
-/// parted by ` / `. After a `#` stands what is told of lines, in that order.
+/// Files, each as `NAME:TEXT` and separated by `‖`, of which `a` is the first; and the lines made from them, each as `FILE:LINE TEXT` and
+/// separated by ` / `. The remarks on lines come after a `#`, in this order.
 const FILES: &str = r"
-# A file with none of the forms stands as it is.
+# A file with none of the forms is unchanged.
 a:[m]\nexten => 1,1,NoOp() ; x\n→a:1 [m] / a:2 exten => 1,1,NoOp() ; x / a:3  #
 # Block comments.
 a:[m]\nexten => 1,1,No;-- x --;Op()→a:1 [m] / a:2 exten => 1,1,NoOp() #
@@ -20,7 +21,7 @@ a:[m]\n;-- a\nexten => 2,1,A()\n--;exten => 3,1,B()→a:1 [m] / a:2  / a:3  / a:
 a:[m]\n;-- a ;-- b --; c --;exten => 3,1,B()→a:1 [m] / a:2 exten => 3,1,B() #
 a:[m]\n;--- a\nexten => 3,1,B()→a:1 [m] / a:2 ;--- a / a:3 exten => 3,1,B() #
 a:[m]\n;-- x\nexten => 1,1,A()→a:1 [m] / a:2  / a:3  # a:2 OpenComment
-# A file that is included begins in the section that is open, and the including file goes on in its own.
+# An included file begins in the section that is open, and the including file goes on in its own.
 a:[m]\n#include b\nexten => 2,1,B()‖b:exten => 1,1,A()→a:1 [m] / b:1 exten => 1,1,A() / a:3 exten => 2,1,B() #
 a:[m]\n#include b\nexten => 2,1,B()‖b:[n]\nexten => 1,1,A()→a:1 [m] / a:3 exten => 2,1,B() / b:1 [n] / b:2 exten => 1,1,A() #
 a:[m]\n#INCLUDE <b> ; x‖b:exten => 1,1,A()→a:1 [m] / b:1 exten => 1,1,A() #
@@ -43,7 +44,7 @@ a:[general]\nautofallthrough=no\nstatic=yes\n[globals]\nX=1→a:1 [general] / a:
 a:[m]\nignorepat => 9\nswitch => IAX2/x\nexten => 1/200,1,A()\nexten => 2,1,Dial,x→a:1 [m] # a:2 IgnorePat / a:3 Switch / a:4 CallerId / a:5 OldForm
 ";
 
-/// Patterns with `*` and `?`, each with a text, and whether it stands for it.
+/// Patterns with `*` and `?`, each with a text, and whether it matches it.
 const WILDCARDS: &str = r"
 *|a.conf→true
 *.conf|a.conf→true
@@ -79,7 +80,7 @@ fn push_kind(out: &mut String, kind: RemarkKind) -> Result<(), NoMemory> {
     }
 }
 
-/// Adds where a line stands.
+/// Adds the place of a line.
 fn push_source(
     out: &mut String,
     files: &[SourceFile],
@@ -123,7 +124,7 @@ fn push_remarks(out: &mut String, read: &DialplanFiles) -> Result<(), NoMemory> 
     Ok(())
 }
 
-/// Adds a file to others, by its name and its text.
+/// Adds a file to others, given its name and its text.
 fn add_file(alloc: Global, map: &mut FileMap, file: &str) -> Result<(), Fail> {
     let (name, text) = file.split_once(':').ok_or("no name")?;
     let name = Text::copy_of(alloc, name.as_bytes())?;
@@ -145,7 +146,7 @@ fn push_read(out: &mut String, read: &DialplanFiles) -> Result<(), NoMemory> {
     push_remarks(out, read)
 }
 
-/// Files, and what is made of them.
+/// Files, and what is made from them.
 struct Files;
 
 impl Question for Files {
@@ -161,7 +162,7 @@ impl Question for Files {
     }
 }
 
-/// Whether a pattern stands for a text.
+/// Whether a pattern matches a text.
 struct Wildcards;
 
 impl Question for Wildcards {
@@ -199,8 +200,8 @@ fn check_text(alloc: Global) -> Result<(), Fail> {
     )
 }
 
-/// Each made line ends with a line feed.
+/// Each generated line ends with a line feed.
 #[test]
-fn made_lines_are_a_text(rt: HostRuntime) -> Result<(), Fail> {
+fn generated_lines_are_a_text(rt: HostRuntime) -> Result<(), Fail> {
     check_text(rt.alloc())
 }

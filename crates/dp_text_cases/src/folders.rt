@@ -1,5 +1,5 @@
 //! Dialplans below a folder, worked out by hand from the rules of configuration files: at which paths their files are opened, in which
-//! order, and what is told.
+//! order, and with how many remarks.
 use dp_case_tables::{Question, bytes_of, check, push_bytes, text_of};
 use dp_conf::{MOST_BYTES, Text};
 use dp_files::{
@@ -8,17 +8,17 @@ use dp_files::{
 use std::alloc::Global;
 use std::test::Fail;
 
-/// The path of the first file, and then files, each as `PATH:TEXT`, all of them parted by `‖`; and the paths of the files that were opened,
-/// parted by blanks, with how many remarks there are after a `#`.
+/// The path of the first file, and then files, each as `PATH:TEXT`, all of them separated by `‖`; and the paths of the files that were
+/// opened, separated by blanks, with the number of remarks after a `#`.
 const FOLDERS: &str = r"
-# A name stands beside the first file, also where another file has it, and one that begins with `/` is a path.
+# A name is next to the first file, even if another file has it, and one that begins with `/` is a path.
 conf/m‖conf/m:#include a\n#include sub/b\n#include /etc/c‖conf/a:‖conf/sub/b:#include a‖/etc/c:#include a→conf/m conf/a conf/sub/b conf/a /etc/c conf/a#0
 m‖m:#include a\n#include sub/b‖a:‖sub/b:→m a sub/b#0
 /etc/m‖/etc/m:#include a‖/etc/a:→/etc/m /etc/a#0
-# The names of a pattern stand in byte order, whatever the order of the folder is.
+# The names that match a pattern are in byte order, whatever the order of the folder is.
 conf/m‖conf/m:#include *.x\n#include sub/?.x‖conf/b.x:‖conf/a.x:‖conf/.c.x:‖conf/sub/2.x:‖conf/sub/1.x:‖a.x:→conf/m conf/.c.x conf/a.x conf/b.x conf/sub/1.x conf/sub/2.x#0
 m‖m:#include *.x‖b.x:‖a.x:‖sub/c.x:→m a.x b.x#0
-# What is not there, and names that are no UTF-8.
+# Files that do not exist, and names that are not UTF-8.
 conf/m‖conf/m:#include a\n#include *.x\n#tryinclude b‖a:→conf/m#2
 m‖m:#include \xFF‖\xFF:→m#1
 conf/m‖m:→not found
@@ -33,7 +33,7 @@ struct Disk {
 }
 
 impl Disk {
-    /// The text of a path.
+    /// The text at a path.
     fn text(&self, path: &[u8]) -> Option<&[u8]> {
         for file in self.files.iter() {
             if file.name.bytes() == path {
@@ -44,7 +44,7 @@ impl Disk {
     }
 }
 
-/// The folder of a path with its `/`, and what stands after that.
+/// The folder of a path with its `/`, and the text after that.
 fn parts(path: &[u8]) -> (&[u8], &[u8]) {
     match path.iter().rposition(|byte| *byte == b'/') {
         Some(at) => path.split_at(at + 1),
@@ -81,7 +81,7 @@ impl Paths for Disk {
     }
 }
 
-/// A file by its path and its text.
+/// A file with its path and its text.
 fn file_of(alloc: Global, file: &str) -> Result<NamedText, Fail> {
     let (name, text) = file.split_once(':').ok_or("no path")?;
     let name = Text::new(bytes_of(alloc, name)?);
@@ -99,7 +99,7 @@ fn disk_of(alloc: Global, files: &str) -> Result<Disk, Fail> {
     Ok(disk)
 }
 
-/// The paths at which files were opened, and how many remarks there are.
+/// The paths at which files were opened, and the number of remarks.
 fn opened(alloc: Global, first: &str, read: &DialplanFiles) -> Result<String, Fail> {
     let mut out = String::new(alloc);
     for (at, file) in read.files.iter().enumerate() {
@@ -127,6 +127,6 @@ impl Question for Folders {
 }
 
 #[test]
-fn files_are_opened_beside_the_first(rt: HostRuntime) -> Result<(), Fail> {
+fn files_are_opened_next_to_the_first(rt: HostRuntime) -> Result<(), Fail> {
     check::<Folders>(rt.alloc(), FOLDERS)
 }

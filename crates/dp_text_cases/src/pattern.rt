@@ -14,7 +14,7 @@ use std::alloc::Global;
 use std::cmp::Ordering;
 use std::test::Fail;
 
-/// A question of names: a word, a blank, and one or two cells with a `|` between them.
+/// A question about names: a word, a blank, and one or two cells with a `|` between them.
 ///
 /// `read NAME` is the name's spelling or `fault CODE`; `matches NAME|TEXT` and `goes_on NAME|TEXT` are `yes` or `no`;
 /// `order NAME|NAME` is `before`, `after` or `same`, and `copy NAME` that of a name and its clone; `parts NAME` is what
@@ -90,7 +90,7 @@ fn push_parts(out: &mut String, name: &Name) -> Result<(), NoMemory> {
     }
 }
 
-/// How the first class stands to the second, by both orders of the comparison.
+/// How the first class compares with the second, in both orders of the comparison.
 fn order_of_classes(left: &Class, right: &Class) -> &'static str {
     match (compare_classes(left, right), compare_classes(right, left)) {
         (Ordering::Less, Ordering::Greater) => "before",
@@ -142,7 +142,7 @@ fn yes_or_no(holds: bool) -> &'static str {
     if holds { "yes" } else { "no" }
 }
 
-/// How the first name stands to the second, by both orders of the comparison and by `same`.
+/// How the first name compares with the second, in both orders of the comparison and by `same`.
 fn order_of(left: &Name, right: &Name) -> &'static str {
     match (
         compare(left, right),

@@ -1,5 +1,5 @@
-//! How Asterisk reads expressions. Each answer is worked out by hand from the rule: an expression is unknown that has a foreign mark outside
-//! quotes, a fraction, or a value and a quotient that is not whole; of the others one with a fault that is not empty is `0`.
+//! How Asterisk reads expressions. Each answer is worked out by hand from the rule: an expression is unknown if it has a foreign mark
+//! outside quotes, a fraction, or a value and a quotient that is not whole; otherwise it is `0` if it has a fault and is not empty.
 use dp_case_tables::{Question, bytes_of, check, text_of};
 use dp_expr::{ExpressionReading, asterisk_reading};
 use std::alloc::Global;
@@ -7,7 +7,7 @@ use std::test::Fail;
 
 /// The cases: an expression, and whether it is its value, `0` or unknown.
 const READINGS: &str = r#"
-# Empty expressions are no faults.
+# Empty expressions are not faults.
 →value
 \t  →value
 # Values, and quotients that are whole.
@@ -19,11 +19,11 @@ a→value
 7 % 2→value
 (8 / 4) / 2→value
 9223372036854775807 / 1→value
-# What stands in quotes is neither a mark nor a fraction.
+# What is in quotes is neither a mark nor a fraction.
 "a:b" = "a:b"→value
 "?~:"→value
 ".5"→value
-# No fractions: two points, a point alone, and a word with another byte.
+# Not fractions: two points, a point alone, and a word with another byte.
 1.2.3→value
 .→value
 v1.5→value
@@ -46,7 +46,7 @@ a/2→zero
 # A fault comes before a quotient that is not whole.
 a + 1/2→zero
 1/2 +→zero
-# Foreign marks, also where the rest is a fault.
+# Foreign marks, even if the rest is a fault.
 a : b→unknown
 "x" : "[0-9]+"→unknown
 a =~ b→unknown
@@ -56,9 +56,9 @@ a ~~ b→unknown
 a ? b→unknown
 1 ? 2 : 3→unknown
 1 + : →unknown
-# A quote without its end quotes nothing.
+# A quote without an end quotes nothing.
 "a : b→unknown
-# Fractions, also where the rest is a fault.
+# Fractions, even if the rest is a fault.
 1.5 + 1→unknown
 -1.5→unknown
 .5→unknown
@@ -66,7 +66,7 @@ a ? b→unknown
 1.5 +→unknown
 0 / 2.0→unknown
 a = 1.0→unknown
-# Quotients that are not whole, also on a side that is not chosen and where the rest makes it whole again.
+# Quotients that are not whole, even on a side that is not chosen, and even if the rest makes them whole again.
 1/2→unknown
 -7/2→unknown
 7/-2→unknown

@@ -1,4 +1,4 @@
--- The nodes and the names that are built from the entries of a context stand for these entries.
+-- The nodes and names that are built from the entries of a context represent these entries.
 use Rattle.std.proofs.Common.{◌≡◌, ℕ, zero, suc, ◌+◌, ◌-◌, ◌<◌, ◌≤◌, List, [], ◌∷◌, ◌++◌, length, map, take, drop, Option, Some, None, inl, inr, ◌⊎◌, arith, refl, sym, ap, subst, ◌∙◌, add-one, append_assoc, length-append}
 use Rattle.std.specs.Prelude.{slice_get, slice_range, sum_by, filter_map}
 use Rattle.std.specs.List.{AllByRecursion, cons_option}
@@ -20,7 +20,7 @@ use Rattle.dp_trie.specs.declared.plain.PlainName.{PlainName}
 use Rattle.dp_trie.specs.declared.ranked.Ranked.{Ranked}
 use Rattle.dp_trie.proofs.TreeLemmas.{drop-get, take-take, length-below}
 
--- ---- one node more
+-- ---- one more node
 
 known_from-push : (held : List HeldEntry) (nodes : List Node) (path : List (List ℕ)) (node : Node) → known_from held path (nodes ++ node ∷ []) ≡ known_from held path nodes ++ own held (take node.depth (path_end path nodes)) node.step
 known_from-push held [] path node = append-nil (own held (take node.depth path) node.step)
@@ -53,7 +53,7 @@ ranges-push count nodes node each one place other here = elim (get-push nodes no
   | inr same ↦ subst (λ (n : Node). IsRange count n.step) same one
 ]
 
--- ---- the nodes of one pattern more
+-- ---- the nodes of one more pattern
 
 abbrev class_node : ℕ → List ℕ → Node
 class_node depth class = record { depth = depth; step = Class class }
@@ -127,7 +127,7 @@ reaches-nodes old new classes from l reached = ap (λ cs. new ++ pattern_nodes (
 
 -- ---- the entries of a group
 
--- an entry is what is held of it, with its name
+-- an entry is what is kept of it, with its name
 held_known : (known : Known) → known_held known.name (hold_of known) ≡ known
 held_known known = refl
 
@@ -141,7 +141,7 @@ drop-map f zero xs = refl
 drop-map f (suc n) [] = refl
 drop-map f (suc n) (x ∷ xs) = drop-map f n xs
 
--- entries of one name are what is held of them, with that name
+-- entries of one name are what is kept of them, with that name
 named_held : (name : Meaning) (known : List Known) → AreNamed name known → map (known_held name) (map hold_of known) ≡ known
 named_held name [] same = refl
 named_held name (one ∷ known) same =
@@ -156,11 +156,11 @@ own_group known from until name is_group =
     ap (map (known_held name)) (ap (take (until - from)) (drop-map hold_of from known) ∙ take-map hold_of (until - from) (drop from known))
     ∙ named_held name (slice_range known from until) is_group.same
 
--- the first so many, and then those up to a later place
+-- the first entries, and then those up to a later place
 pub take-range : {X : Type 0} (xs : List X) (from until : ℕ) → from ≤ until → take until xs ≡ take from xs ++ slice_range xs from until
 take-range xs from until few = ap (λ k. take k xs) (let e : until ≡ from + (until - from) = omega (arith, few) in e) ∙ take-add from (until - from) xs
 
--- ---- the nodes of the first so many entries
+-- ---- the nodes of the first entries
 
 pub record IsBuilt (ranked : List Ranked) (nodes : List Node) (above : List (List ℕ)) (from : ℕ) : Type 0 where
   pub within : from ≤ length ranked
@@ -239,13 +239,13 @@ take-all_known : (ranked : List Ranked) (from : ℕ) → from ≤ length ranked 
 take-all_known ranked from few none =
     ap (λ n. take n (map known_now ranked)) (past_end ranked from few none ∙ sym (length-map ranked known_now)) ∙ take-whole (map known_now ranked)
 
--- where there are no more entries, all are there
+-- if no entries are left, all are there
 pub built-end : (ranked : List Ranked) (nodes : List Node) (above : List (List ℕ)) (from : ℕ) → IsBuilt ranked nodes above from → slice_get ranked from ≡ None → IsBuilt ranked nodes above (length ranked) × (take (length ranked) (map known_now ranked) ≡ map known_now ranked)
 built-end ranked nodes above from built none =
     let end = past_end ranked from built.within none in
     (subst (IsBuilt ranked nodes above) end built, ap (λ n. take n (map known_now ranked)) (sym end) ∙ take-all_known ranked from built.within none)
 
--- ---- the plain names of the first so many entries
+-- ---- the plain names of the first entries
 
 pub record AreBuilt (ranked : List Ranked) (names : List PlainName) (from : ℕ) : Type 0 where
   pub within : from ≤ length ranked
@@ -336,7 +336,7 @@ group-more ranked from until name one is_group here same = record {
       (all-push (Named name) (slice_range (map known_now ranked) from until) (known_now one) is_group.same same);
 }
 
--- ---- what two patterns share
+-- ---- the classes that two patterns share
 
 pub shared-step : (left right : List (List ℕ)) (k : ℕ) (x y : List ℕ) → slice_get left k ≡ Some x → slice_get right k ≡ Some y → x ≡ y → take k left ≡ take k right → take (k + 1) left ≡ take (k + 1) right
 shared-step left right k x y here there same before =
@@ -374,7 +374,7 @@ all-at P [] k x each here = absurd cc
 all-at P (y ∷ xs) zero x each here = (let same : y ≡ x = cc in subst P same each.0)
 all-at P (y ∷ xs) (suc k) x each here = all-at P xs k x each.1 here
 
--- the first so many that are kept, and one more
+-- the first of those that are kept, and one more
 pub filter_map-more : {X Y : Type 0} (f : X → Option Y) (xs : List X) (k : ℕ) (x : X) → slice_get xs k ≡ Some x → filter_map f (take (k + 1) xs) ≡ filter_map f (take k xs) ++ filter_map f (x ∷ [])
 filter_map-more {X = X} {Y = Y} f xs k x here = ap (filter_map f) (ap (λ n. take n xs) (add-one k) ∙ take-get xs k x here) ∙ parts (take k xs)
   where

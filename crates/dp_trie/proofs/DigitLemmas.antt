@@ -1,4 +1,4 @@
--- The digits of a text that has no dash are its bytes.
+-- The digits of a text without dashes are its bytes.
 use Rattle.std.proofs.Common.{◌≡◌, ℕ, zero, suc, ◌+◌, ◌-◌, ◌<◌, ◌≤◌, Bool, true, false, cond, not, eqb, ◌||◌, List, [], ◌∷◌, length, take, Option, Some, None, arith, refl, sym, ap, ◌∙◌, add-one, inl, inr, set}
 use Rattle.std.specs.Prelude.{slice_get, nat_lt, is_some}
 use Rattle.std.specs.List.{list_any}
@@ -17,7 +17,7 @@ length-without_dashes (b ∷ text) = by (not (is_dash b)) (length-without_dashes
     by true rest = omega (arith, rest)
     by false rest = omega (arith, rest)
 
--- where as many digits as bytes are counted, the digits are the bytes
+-- if as many digits as bytes are counted, the digits are the bytes
 pub undashed_whole : (text : List ℕ) → length (without_dashes text) ≡ length text → without_dashes text ≡ text
 undashed_whole [] e = refl
 undashed_whole (b ∷ text) e = by (not (is_dash b)) (length-without_dashes text) (undashed_whole text) e
@@ -28,11 +28,11 @@ undashed_whole (b ∷ text) e = by (not (is_dash b)) (length-without_dashes text
 
 -- ---- a place in a text
 
--- how many digits stand before a place
+-- the number of digits before a place
 abbrev pub digits_before : ℕ → List ℕ → ℕ
 digits_before p text = length (without_dashes (take p text))
 
--- a digit makes one more, and a dash none
+-- a digit adds one, and a dash adds none
 pub digit-step : (text : List ℕ) (p b : ℕ) → slice_get text p ≡ Some b → is_dash b ≡ false → digits_before (suc p) text ≡ suc (digits_before p text)
 digit-step [] p b here is = absurd cc
 digit-step (x ∷ text) zero b here is =
@@ -55,7 +55,7 @@ dash-step (x ∷ text) (suc p) b here is = by (not (is_dash x)) (dash-step text 
     by true rest = ap suc rest
     by false rest = rest
 
--- a digit has the number of those before it
+-- the number of a digit is the number of digits before it
 pub digit-at : (text : List ℕ) (p b : ℕ) → slice_get text p ≡ Some b → is_dash b ≡ false → slice_get (without_dashes text) (digits_before p text) ≡ Some b
 digit-at [] p b here is = absurd cc
 digit-at (x ∷ text) zero b here is =
@@ -73,15 +73,15 @@ take_end [] (suc p) few = refl
 take_end (x ∷ text) zero few = absurd (omega (arith, few))
 take_end (x ∷ text) (suc p) few = ap (λ l. x ∷ l) (take_end text p (omega (arith, few)))
 
--- at the end of the text there are no more
+-- at the end of the text there are no more digits
 pub digits-ended : (text : List ℕ) (p number : ℕ) → length text ≤ p → digits_before p text ≤ number → slice_get (without_dashes text) number ≡ None
 digits-ended text p number few most =
     let all : digits_before p text ≡ length (without_dashes text) = ap (λ l. length (without_dashes l)) (take_end text p few) in
     slice_get_past (without_dashes text) number (omega (arith, all, most))
 
--- ---- the bytes that are known to be no dashes
+-- ---- bytes that are known not to be dashes
 
--- a text with no dash is its digits
+-- the digits of a text without dashes are the text
 pub without_dashes-none : (text : List ℕ) → list_any (λ b. eqb b 45) text ≡ false → without_dashes text ≡ text
 without_dashes-none [] e = refl
 without_dashes-none (b ∷ text) e = by (eqb b 45) (without_dashes-none text) e
@@ -113,14 +113,14 @@ clear-place (x ∷ text) (suc count) k within before few = by (not (is_dash x)) 
 pub clear-digit : (text : List ℕ) (count k : ℕ) → IsClear text count → k < count → slice_get (without_dashes text) k ≡ slice_get text k
 clear-digit text count k clear few = clear-place text count k clear.within clear.before few
 
--- where they are all bytes, the digits are the text
+-- if they are all bytes, the digits are the text
 pub clear-whole : (text : List ℕ) (count : ℕ) → IsClear text count → count ≡ length text → without_dashes text ≡ text
 clear-whole text count clear all =
     let before = clear.before in
     let whole : digits_before count text ≡ length (without_dashes text) = ap (λ l. length (without_dashes l)) (take_end text count (omega (arith, all))) in
     undashed_whole text (omega (arith, before, whole, all))
 
--- a cursor a byte further
+-- a cursor one byte further
 pub stands-digit : (text : List ℕ) (p n b : ℕ) → slice_get text p ≡ Some b → is_dash b ≡ false → Stands text (record { place = p; number = n }) → Stands text (record { place = p + 1; number = n + 1 })
 stands-digit text p n b here is stands = record {
   within = (let inside = slice_get_within text p b here in omega (arith, inside));
@@ -133,7 +133,7 @@ stands-dash text p n b here is stands = record {
   before = (let step = dash-step text p b here is in let before = stands.before in let same = ap (λ k. digits_before k text) (add-one p) in omega (arith, step, before, same));
 }
 
--- and a byte back
+-- and one byte back
 pub back-digit : (text : List ℕ) (p n b : ℕ) → 0 < p → slice_get text (p - 1) ≡ Some b → is_dash b ≡ false → Stands text (record { place = p; number = n }) → Stands text (record { place = p - 1; number = n - 1 })
 back-digit text p n b some here is stands = record {
   within = (let inside = slice_get_within text (p - 1) b here in omega (arith, inside));
@@ -167,7 +167,7 @@ get-set_before (x ∷ near) zero k b less = absurd (omega (arith, less))
 get-set_before (x ∷ near) (suc n) zero b less = refl
 get-set_before (x ∷ near) (suc n) (suc k) b less = get-set_before near n k b (omega (arith, less))
 
--- the digits before a place stand beside the text
+-- the digits before a place are kept beside the text
 pub record AreKept (text near : List ℕ) (place number : ℕ) : Type 0 where
   pub size : length near ≡ 32
   pub within : place ≤ length text
@@ -200,7 +200,7 @@ kept-dash text near p n b here is are = record {
   kept = are.kept;
 }
 
--- before a place there are no more digits than in the whole
+-- before a place there are no more digits than in the whole text
 before-most : (text : List ℕ) (p : ℕ) → digits_before p text ≤ length (without_dashes text)
 before-most text zero = omega arith
 before-most [] (suc p) = omega arith
@@ -236,7 +236,7 @@ is-there digits number None is = elim (slice_get_cases digits number).1 [
 ]
 is-there digits number (Some d) is = sym (lt-ltb number (length digits) (slice_get_within digits number d (sym is)))
 
--- the digits are fewer where the one before a number is not there
+-- there are fewer digits if the one before a number does not exist
 pub fewer-none : (digits : List ℕ) (number : ℕ) → 0 < number → not (nat_lt (number - 1) (length digits)) ≡ nat_lt (length digits) number
 fewer-none digits number some = by (nat_lt (number - 1) (length digits)) refl
   where

@@ -1,4 +1,4 @@
--- How many nodes of a tree are entered is how many of the nodes of its entries are.
+-- The number of nodes of a tree that are entered is the number for its entries.
 use Rattle.std.proofs.Common.{◌≡◌, ◌≢◌, ℕ, zero, suc, ◌+◌, ◌<◌, ◌≤◌, min, Bool, true, false, cond, List, [], ◌∷◌, ◌++◌, length, map, take, drop, Option, Some, None, arith, refl, sym, ap, subst, ◌∙◌, inl, inr, is_eq, length-append}
 use Rattle.std.specs.Prelude.{◌-◌, slice_get, slice_range, is_some}
 use Rattle.std.specs.List.{find, AllByRecursion}
@@ -30,7 +30,7 @@ use Rattle.dp_trie.proofs.TreeLemmas.{take-all}
 none_before : (n : ℕ) → n ≡ 0 + n
 none_before n = omega arith
 
--- ---- what two patterns share
+-- ---- the classes that two patterns share
 
 pub shared-right : (left right : List (List ℕ)) → shared_count left right ≤ length right
 shared-right [] right = omega arith
@@ -51,7 +51,7 @@ other_class a b other = by (is_eq (class_cmp a b)) refl
     by true e = absurd (other (classes_equal a b ((is_eq-Equal (class_cmp a b)).0 e)))
     by false e = e
 
--- what begins alike up to a place is shared up to there, and on from there
+-- patterns that are alike up to a place share the classes up to there, and on from there
 pub shared-parts : (k : ℕ) (left right : List (List ℕ)) → k ≤ length left → take k left ≡ take k right → shared_count left right ≡ k + shared_count (drop k left) (drop k right)
 shared-parts zero left right few same = none_before (shared_count left right)
 shared-parts (suc k) [] right few same = absurd (omega (arith, few))
@@ -93,7 +93,7 @@ ended_right left (y ∷ right) (suc k) past = ended_right left right k (omega (a
 plus_none : (k n s : ℕ) → s ≡ k + n → n ≡ 0 → k ≡ s
 plus_none k n s e none = omega (arith, e, none)
 
--- up to the first place where two patterns differ
+-- up to the first place at which two patterns differ
 pub shared-differ : (left right : List (List ℕ)) (k : ℕ) (a b : List ℕ) → k ≤ length left → take k left ≡ take k right → slice_get left k ≡ Some a → slice_get right k ≡ Some b → a ≢ b → k ≡ shared_count left right
 shared-differ left right k a b few same here there other =
     plus_none k _ _ (shared-parts k left right few same) (none_shared left right k a b here there other)
@@ -122,7 +122,7 @@ shared-same (a ∷ left) (b ∷ right) = by (shared-same left right) (is_eq (cla
 
 -- ---- names
 
--- the name above what stands after entries, where this one stands above them
+-- the name above the rest of some entries, if this one is above them
 abbrev pub last_name : Meaning → List Known → Meaning
 last_name above [] = above
 last_name above (known ∷ entries) = last_name known.name entries
@@ -148,7 +148,7 @@ added-other above classes tail other = by (is_eq (name_cmp above (Pattern classe
     by true e = absurd (other ((same_names above (Pattern classes tail)).0 e))
     by false e = refl
 
--- below every plain name a name adds the same
+-- below any plain name a name adds the same number
 added-plain : (x y : List ℕ) (name : Meaning) → nodes_added (Plain x) name ≡ nodes_added (Plain y) name
 unfolding name_cmp
 added-plain x y (Plain text) = refl
@@ -221,7 +221,7 @@ module _ (held : List HeldEntry) (more : Bool) (wanted : Wanted) (digits : List 
           step : (t w f l : ℕ) → w ≡ f + l → t + w ≡ t + f + l
           step t w f l e = omega (arith, e)
 
-  -- entries of the name above them add nothing
+  -- entries with the name above them add nothing
   below-same : (entries : List Known) (above name : Meaning) → above ≡ name → AreNamed name entries → entered_below above entries ≡ 0
   below-same [] above name same named = refl
   below-same (known ∷ entries) above name same named =
@@ -232,7 +232,7 @@ module _ (held : List HeldEntry) (more : Bool) (wanted : Wanted) (digits : List 
       by true n e = omega arith
       by false n e = omega (arith, e)
 
-  -- entries of another name add its nodes once
+  -- entries with another name add its nodes once
   below-group : (entries : List Known) (above name : Meaning) → AreNamed name entries → 0 < length entries → entered_below above entries ≡ taken_count more digits (nodes_added above name)
   below-group [] above name named some = absurd (omega (arith, some))
   below-group (known ∷ entries) above name named some =
@@ -276,7 +276,7 @@ are-plain held (plain ∷ names) = all-append (λ (k : Known). IsPlain k.name) (
     each [] = tt
     each (one ∷ own) = (tt, each own)
 
--- ---- the nodes of the first so many entries
+-- ---- the nodes of the first entries
 
 pub record IsCounted (ranked : List Ranked) (nodes : List Node) (above : List (List ℕ)) (from : ℕ) : Type 0 where
   pub shares : pattern_classes (last_name (Plain []) (take from (map known_now ranked))) ≡ above
@@ -372,7 +372,7 @@ module _ (more : Bool) (wanted : Wanted) (digits : List ℕ) (plain held : List 
   parts : entered_count more wanted digits (first ++ rest) ≡ cond (is_some (find (is_asked more wanted digits) first)) 0 (entered_count more wanted digits rest)
   parts = past-plain held more wanted digits first rest [] (are-plain plain names)
 
-  -- a plain name that answers leaves nothing to be entered
+  -- after a plain name that answers nothing is entered
   pub plain-answers : (hit : EntryId) → Some hit ≡ option_map hit_of (find (is_asked more wanted digits) first) → 0 ≡ entered_count more wanted digits (first ++ rest)
   plain-answers hit e = by (find (is_asked more wanted digits) first) e ∙ sym parts
     where
@@ -387,7 +387,7 @@ module _ (more : Bool) (wanted : Wanted) (digits : List ℕ) (plain held : List 
       by None e = refl
       by (Some k) e = absurd cc
 
--- where there are no nodes, none is entered
+-- without nodes none is entered
 pub none-entered_count : (more : Bool) (wanted : Wanted) (digits : List ℕ) (held : List HeldEntry) (nodes : List Node) → length nodes ≡ 0 → 0 ≡ entered_count more wanted digits (known_from held [] nodes)
 none-entered_count more wanted digits held [] none = refl
 none-entered_count more wanted digits held (node ∷ nodes) none = absurd (omega (arith, none))
@@ -421,14 +421,14 @@ module _ (kept : List KeptContext) (more : Bool) (wanted : Wanted) (digits : Lis
       together : (a b c : ℕ) → a + b + c ≡ a + (b + c)
       together a b c = omega arith
 
-  -- the one that answers
+  -- the context that answers
   pub first-last : is_some hit ≡ true → min (count + found) most ≡ all
   first-last some = ap (λ n. min (count + n) most) (with_none found ∙ sym (whole true some)) ∙ sum
     where
       with_none : (n : ℕ) → n ≡ n + 0
       with_none n = omega arith
 
--- where no context is left, all are counted
+-- if no context is left, all are counted
 pub first-end : (kept : List KeptContext) (more : Bool) (wanted : Wanted) (digits order : List ℕ) (place count most all : ℕ) → length order ≤ place → count ≤ most → min (count + entered_first kept more wanted digits (drop place order)) most ≡ all → count ≡ all
 first-end kept more wanted digits order place count most all past few sum =
     plain count most few ∙ (ap (λ numbers. min (count + entered_first kept more wanted digits numbers) most) (sym (none order place past)) ∙ sum)

@@ -1,4 +1,4 @@
--- What is found among the entries that are kept is what a look-up in the dialplan finds.
+-- What is found among the kept entries is what a look-up in the dialplan finds.
 use Rattle.std.proofs.Common.{◌≡◌, ℕ, zero, suc, ◌+◌, ◌<◌, ◌≤◌, Bool, true, false, cond, List, [], ◌∷◌, ◌++◌, length, map, take, drop, Option, Some, None, MatchOption, inl, inr, arith, refl, sym, ap, subst, ◌∙◌, Less, Greater, nat_cmp, ◌⊎◌, add-one, length-append}
 use Rattle.std.specs.Prelude.{slice_get, filter_map, find, sum_by, is_some}
 use Rattle.std.specs.List.{AllByRecursion, range_with_len, cons_option}
@@ -30,7 +30,7 @@ use Rattle.dp_trie.proofs.TreeLemmas.{drop-get}
 abbrev id_at : ℕ → ℕ → EntryId
 id_at number k = record { context = number; entry = k }
 
--- the number is that of an entry
+-- the number of an entry
 record IsThere (plan : PlanOf) (id : EntryId) : Type 0 where
   known : Known
   there : known_at plan id ≡ Some known
@@ -54,7 +54,7 @@ all_there plan number context ids here ranking =
     subst (IsThere plan) (sym (get_or-map-range_with_len (id_at number) 0 (length context.entries) k k d within (omega arith)))
     (there_in plan number context k here within)))
 
--- what is kept of numbers that are all there
+-- what is kept of numbers that all have entries
 record AreKept (plan : PlanOf) (ids : List EntryId) : Type 0 where
   same : map (λ (known : Known). known.id) (filter_map (known_at plan) ids) ≡ ids
   each : AllByRecursion (λ (known : Known). known_at plan known.id ≡ Some known) (filter_map (known_at plan) ids)
@@ -90,7 +90,7 @@ keeps-ranked plan number ids ranking = by (slice_get plan.contexts number) refl 
     by None e none = keep (subst (AreKept plan) (sym none) (kept_all plan [] tt))
     by (Some context) e ranked = keep (kept_all plan ids (all_there plan number context ids e ranked))
 
--- ---- plain names stand first
+-- ---- plain names come first
 
 entry_of_known : (plan : PlanOf) (id : EntryId) (known : Known) → known_at plan id ≡ Some known → (entry : Entry) × (entry_at plan id ≡ Some entry) × (known_of id entry ≡ known)
 entry_of_known plan id known there = by (entry_at plan id) refl there
@@ -109,7 +109,7 @@ map_at f [] i x here = absurd cc
 map_at f (y ∷ xs) zero x here = ap (option_map f) here
 map_at f (y ∷ xs) (suc i) x here = map_at f xs i x here
 
--- a pattern is less than no plain name
+-- a pattern is never less than a plain name
 after_pattern : (m n : Meaning) (i j : ℕ) → ordering_then (name_cmp m n) (nat_cmp i j) ≡ Less → IsPattern m → IsPattern n
 unfolding name_cmp
 after_pattern (Plain x) n i j less pattern = absurd pattern
@@ -158,7 +158,7 @@ plain_first plan number known keeps i j a b before at_i at_j pattern =
 
 -- ---- what is found
 
--- the test of an entry is that of what is kept of it
+-- the test of an entry is the test of what is kept of it
 abbrev pub AreSame : (Entry → Bool) → (Known → Bool) → Type 0
 AreSame test kept = (id : EntryId) (entry : Entry) → test entry ≡ kept (known_of id entry)
 
@@ -188,7 +188,7 @@ past_of [] i e = omega arith
 past_of (x ∷ xs) zero e = absurd cc
 past_of (x ∷ xs) (suc i) e = (let rest = past_of xs i e in omega (arith, rest))
 
--- a context that there is not has no entries
+-- a context that does not exist has no entries
 none_ranked : (plan : PlanOf) (number : ℕ) → slice_get plan.contexts number ≡ None → IsRankedAt plan number []
 none_ranked plan number none = subst P (sym none) nothing
   where
@@ -201,7 +201,7 @@ none_ranked plan number none = subst P (sym none) nothing
     nothing : ids ≡ []
     nothing = refl
 
--- what is kept of a context, or nothing where there is none
+-- what is kept of a context, or nothing if there is none
 keeps_at : (plan : PlanOf) (kept : List KeptContext) → Keeps plan kept → (number : ℕ) → KeepsEntries plan number (kept_at kept number)
 keeps_at plan kept keeps number = by (slice_get kept number) refl
   where
@@ -282,7 +282,7 @@ none-first : {X : Type 0} (f : Known → X) (a b : Option Known) → is_some (op
 none-first f None b e = refl
 none-first f (Some x) b e = absurd cc
 
--- the first context that has a hit has the first of all
+-- the first context with a hit has the first hit of all
 pub first-found : {X : Type 0} (f : Known → X) (kept : List KeptContext) (test : Known → Bool) (order : List ℕ) (k number : ℕ) (r : Option X) → slice_get order k ≡ Some number → r ≡ option_map f (find test (kept_at kept number)) → is_some r ≡ true → found_first kept test (drop k order) ≡ found_first kept test order → find test (kept_at kept number) ≡ found_first kept test order
 first-found f kept test order k number r here is some same =
     sym (some-first f (find test (kept_at kept number)) (found_first kept test (drop (k + 1) order)) (ap is_some (sym is) ∙ some))
@@ -293,7 +293,7 @@ first-past f kept test order k number r here is none same =
     sym (none-first f (find test (kept_at kept number)) (found_first kept test (drop (k + 1) order)) (ap is_some (sym is) ∙ none))
     ∙ (sym (first-step kept test order k number here) ∙ same)
 
--- the sum over the first so many, and one more
+-- the sum over the first contexts, and one more
 pub sum-more : (f : ℕ → ℕ) (xs : List ℕ) (k x : ℕ) → slice_get xs k ≡ Some x → sum_by f (take (k + 1) xs) ≡ sum_by f (take k xs) + f x
 sum-more f xs k x here =
     let whole = ap (sum_by f) (ap (λ n. take n xs) (add-one k) ∙ take-get xs k x here) in
@@ -305,7 +305,7 @@ sum-within f xs k = (let parts = sum_by-take-drop f xs k in omega (arith, parts)
 
 -- ---- the contexts of a dialplan
 
--- what is kept of the first so many contexts
+-- what is kept of the first contexts
 pub record KeepsUpTo (count : ℕ) (plan : PlanOf) (kept : List KeptContext) : Type 0 where
   pub counted : length kept ≡ count
   pub each : (number : ℕ) (context : KeptContext) → slice_get kept number ≡ Some context → KeepsEntries plan number context.entries

@@ -21,7 +21,7 @@ use Rattle.dp_trie.proofs.PlainLemmas.{fits-side, rank-most, sides-rise}
 use Rattle.dp_trie.proofs.PointLemmas.{all-first, at-first, at-last, rising-parted}
 use Rattle.dp_trie.proofs.RisingLemmas.{sorted-at}
 
--- ---- the holders of one label stand in the order of names
+-- ---- the holders of one label are in the order of names
 
 all-holders_named : (one : Known) (label : List ℕ) (entries : List Known) → AllByRecursion (λ other. known_cmp one other ≡ Less) entries → AllByRecursion (λ holder. holder_cmp (holder_of one) holder ≡ Less) (holders_named label entries)
 all-holders_named one label [] each = tt
@@ -43,14 +43,14 @@ entries-rise label (one ∷ entries) order = by (shares_label one.label (Some la
 pub holders_named-rise : (entries : List Known) (labels : Labels) (label : List ℕ) → AreLabels entries labels → AreRising (held_of labels label)
 holders_named-rise entries labels label are = subst AreRising (sym (are.each label)) (entries-rise label entries are.order)
 
--- those after the first rise too
+-- those after the first are in order too
 pub rise_rest : (first : Holder) (more : List Holder) → AreRising (first ∷ more) → AreRising more
 unfolding IsStrictlySortedBy
 rise_rest first more rise = rise.1
 
 -- ---- the names of one label
 
--- a name that is not after another stands no higher
+-- a name that is not after another does not rank above it
 rank-rises : (digits : List ℕ) (m n : Meaning) → (name_cmp m n ≡ Greater → ⊥) → name_rank digits m ≤ name_rank digits n
 unfolding name_cmp
 rank-rises digits (Plain a) (Plain b) low = sides-rise a b digits low
@@ -67,23 +67,23 @@ pub rank-at : (digits : List ℕ) (holders : List Holder) → AreRising holders 
 rank-at digits holders rise i j a b before at_i at_j =
     rank-rises digits a.name b.name (not_greater (name_cmp a.name b.name) (nat_cmp a.priority b.priority) (sorted-at holder_cmp holders rise i j a b before at_i at_j))
 
--- the names below a rank stand first
+-- the names below a rank come first
 pub labels-parted : (digits : List ℕ) (holders : List Holder) (limit : ℕ) → AreRising holders → IsPartitionedBy (λ (holder : Holder). nat_lt (name_rank digits holder.name) limit) holders
 labels-parted digits holders limit rise = rising-parted (λ (holder : Holder). name_rank digits holder.name) holders limit (rank-at digits holders rise)
 
--- a plain name is matched where it is the digits
+-- a plain name matches if it is the digits
 pub plain-matched : (digits : List ℕ) (m : Meaning) → name_rank digits m < 4 → is_matched digits m ≡ (name_rank digits m == 1)
 plain-matched digits (Plain text) few = fits-side false text digits
 plain-matched digits (Pattern classes tail) few = absurd (omega (arith, few))
 
 module _ (digits : List ℕ) (holders : List Holder) (p : ℕ) (below : AllByRecursion (λ (holder : Holder). name_rank digits holder.name < 1) (take p holders)) where
-  -- none of the names before the digits is matched
+  -- no name before the digits matches
   pub none-below : AllByRecursion (λ (holder : Holder). is_matched digits holder.name ≡ false) (take p holders)
   none-below = all-first (λ (holder : Holder). is_matched digits holder.name ≡ false) holders p (λ k holder few here.
       let low = at-first (λ (r : Holder). name_rank digits r.name < 1) holders p k holder below few here in
       plain-matched digits holder.name (omega (arith, low)) ∙ ne_eqb (name_rank digits holder.name) 1 (λ same. omega (arith, low, same)))
 
-  -- where the first after them is not matched, no plain name is
+  -- if the first name after them does not match, no plain name does
   pub none-plain : AreRising holders → AllByRecursion (λ (holder : Holder). 1 ≤ name_rank digits holder.name) (drop p holders) → (q : ℕ) → AllByRecursion (λ (holder : Holder). name_rank digits holder.name < 4) (take q holders) → ((holder : Holder) → slice_get holders p ≡ Some holder → is_matched digits holder.name ≡ false) → AllByRecursion (λ (holder : Holder). is_matched digits holder.name ≡ false) (take q holders)
   none-plain rise above q plain other = all-first (λ (holder : Holder). is_matched digits holder.name ≡ false) holders q (λ k holder few here.
       let low = at-first (λ (r : Holder). name_rank digits r.name < 4) holders q k holder plain few here in
@@ -115,7 +115,7 @@ first_holder digits holders = option_map (λ (holder : Holder). holder.priority)
 abbrev pub first_asked : List ℕ → List ℕ → List Known → Option ℕ
 first_asked digits label entries = option_map (λ (known : Known). known.priority) (find (is_asked false (has_label label) digits) entries)
 
--- the first holder of a label that is matched is that of the first entry that is asked for
+-- the first holder of a label that matches is that of the first requested entry
 pub found-holder : (digits label : List ℕ) (entries : List Known) → first_holder digits (holders_named label entries) ≡ first_asked digits label entries
 found-holder digits label [] = refl
 found-holder digits label (one ∷ entries) = by (shares_label one.label (Some label)) (is_matched digits one.name) refl (found-holder digits label entries)
@@ -133,6 +133,6 @@ found-holder digits label (one ∷ entries) = by (shares_label one.label (Some l
     by false true e same = same
     by false false e same = same
 
--- what the table leads to is what is asked for
+-- the table leads to what is requested
 pub found-labelled : (digits label : List ℕ) (entries : List Known) (labels : Labels) → AreLabels entries labels → first_holder digits (held_of labels label) ≡ first_asked digits label entries
 found-labelled digits label entries labels are = ap (first_holder digits) (are.each label) ∙ found-holder digits label entries

@@ -1,4 +1,4 @@
--- A leap over the roots of a tree passes over nothing that is asked for.
+-- A leap over the roots of a tree skips nothing that is requested.
 use Rattle.std.proofs.Common.{◌≡◌, ◌≢◌, ℕ, zero, suc, ◌+◌, ◌<◌, ◌≤◌, Bool, true, false, cond, ◌||◌, List, [], ◌∷◌, length, get_or, set, Option, Some, arith, refl, sym, ap, subst, ◌∙◌, inl, inr, length-set, get_or-set_same}
 use Rattle.std.specs.Prelude.{slice_get, slice_index}
 use Rattle.std.specs.Option.{option_map_or}
@@ -30,7 +30,7 @@ get-same marks place value within =
     let size = length-set marks place value in
     slice_get-get_or (set marks place value) place false (omega (arith, size, within)) ∙ ap Some (get_or-set_same marks place value false within)
 
--- the bytes below some byte that the class has are marked, and none that was marked before is not
+-- the bytes of the class below some byte are marked, and none that was marked before
 pub record AreMarked (class : List ℕ) (old : List Bool) (byte : ℕ) (now : List Bool) : Type 0 where
   pub size : length now ≡ 256
   pub kept : (b : ℕ) → slice_get now b ≡ Some false → slice_get old b ≡ Some false
@@ -98,7 +98,7 @@ passes-push nodes ends marks zero from until same passed = (subst (IsPassed node
 passes-push nodes ends marks (suc count) from until passes passed =
     (passes.0, passes-push nodes ends marks count (slice_index ends from) until passes.1 passed)
 
--- one root more
+-- one more root
 pub passes-more : (nodes : List Node) (ends : List ℕ) (old now : List Bool) (count from until : ℕ) (class : List ℕ)
     → Passes nodes ends old count from until
     → ((b : ℕ) → slice_get now b ≡ Some false → slice_get old b ≡ Some false)

@@ -1,4 +1,4 @@
--- The ends of nodes: where a jump from end to end of deeper nodes comes to.
+-- The ends of nodes: where a jump from end to end of deeper nodes leads.
 use Rattle.std.proofs.Common.{◌≡◌, ℕ, ◌+◌, ◌-◌, ◌<◌, ◌≤◌, Bool, true, false, cond, List, [], ◌∷◌, length, drop, set, Some, None, inl, inr, arith, refl, sym, ap, subst, ◌∙◌, get_or-set_other, get_or-set_same, length-set}
 use Rattle.std.specs.Prelude.{slice_get, slice_index, nat_lt}
 use Rattle.std.proofs.lemmas.Bool.{ltb-true, lt-ltb, le-ltb, cases_eq}
@@ -7,7 +7,7 @@ use Rattle.dp_trie.specs.Tree.{nodes_past, IsEnd, IsEndOf, AreLinkedFrom, AreLin
 use Rattle.dp_trie.specs.declared.node.Node.{Node}
 use Rattle.dp_trie.proofs.TreeLemmas.{drop-get, drop-end}
 
--- what passes over deeper nodes passes over those that they pass over
+-- what skips deeper nodes skips those that they skip
 skip-nodes_past : (depth deeper : ℕ) (nodes : List Node) → depth ≤ deeper → nodes_past depth (nodes_past deeper nodes) ≡ nodes_past depth nodes
 skip-nodes_past depth deeper [] few = refl
 skip-nodes_past depth deeper (node ∷ nodes) few = by (nat_lt deeper node.depth) refl (skip-nodes_past depth deeper nodes few)
@@ -24,7 +24,7 @@ skip-deeper depth node nodes below = ap (λ b. cond b (nodes_past depth nodes) (
 skip-higher : (depth : ℕ) (node : Node) (nodes : List Node) → node.depth ≤ depth → nodes_past depth (node ∷ nodes) ≡ node ∷ nodes
 skip-higher depth node nodes above = ap (λ b. cond b (nodes_past depth nodes) (node ∷ nodes)) (le-ltb depth node.depth above)
 
--- a jump over a deeper node passes over no more
+-- a jump over a deeper node skips no more
 pub end-jump : (nodes : List Node) (depth place end : ℕ) (node : Node) → slice_get nodes end ≡ Some node → depth < node.depth → IsEnd nodes end node.depth place → nodes_past depth (drop place nodes) ≡ nodes_past depth (drop end nodes)
 end-jump nodes depth place end node here below is_end =
     ap (nodes_past depth) is_end.after
@@ -54,7 +54,7 @@ end_by nodes place end depth node here same is_end other there =
     let one : node ≡ other = (let both : Some node ≡ Some other = sym here ∙ there in cc) in
     subst (λ (n : Node). IsEnd nodes place n.depth end) one (subst (λ d. IsEnd nodes place d end) (sym same) is_end)
 
--- one end more
+-- one more end
 pub linked-set : (nodes : List Node) (ends : List ℕ) (place end : ℕ) → place < length ends → AreLinkedFrom (place + 1) nodes ends → IsEndOf nodes place end → AreLinkedFrom place nodes (set ends place end)
 linked-set nodes ends place end within linked is_end = record {
   count = length-set ends place end ∙ linked.count;
@@ -76,6 +76,6 @@ linked-start nodes ends count = record {
 pub linked-end : (nodes : List Node) (ends : List ℕ) (place : ℕ) → place ≤ 0 → AreLinkedFrom place nodes ends → AreLinked nodes ends
 linked-end nodes ends place none linked = record { count = linked.count; each = λ k. linked.each k (omega (arith, none)) }
 
--- the last of the first so many and those after it
+-- the last of the first nodes, and those after it
 pub linked-before : (nodes : List Node) (ends : List ℕ) (place : ℕ) → 0 < place → AreLinkedFrom place nodes ends → AreLinkedFrom (place - 1 + 1) nodes ends
 linked-before nodes ends place some linked = subst (λ p. AreLinkedFrom p nodes ends) (let e : place ≡ place - 1 + 1 = omega (arith, some) in e) linked

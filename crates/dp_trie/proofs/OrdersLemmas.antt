@@ -22,7 +22,7 @@ visited-none : (plan : PlanOf) (seen : List ℕ) (names : List (List ℕ)) → (
 visited-none plan seen [] none = refl
 visited-none plan seen (name ∷ names) none = (let wrong = eqb-true (length (name ∷ names)) 0 none in absurd (omega (arith, wrong)))
 
--- the order is the context alone
+-- the order is only the context
 pub alone : (plan : PlanOf) (name : List ℕ) (asked : Option ℕ) (number : ℕ) → asked ≡ number_of plan name → asked ≡ Some number → (length (includes_at plan number) == 0) ≡ true
     → option_map_or (λ n. n ∷ []) asked [] ≡ option_map_or (visit plan []) asked []
 alone plan name asked number is_of there none =

@@ -1,4 +1,4 @@
--- What is found among plain names, which stand in order.
+-- What is found among plain names, which are in order.
 use Rattle.std.proofs.Common.{◌≡◌, ℕ, zero, suc, ◌+◌, ◌-◌, ◌<◌, ◌≤◌, Bool, true, false, cond, ◌==◌, ◌&&◌, ◌||◌, List, [], ◌∷◌, ◌++◌, length, map, take, drop, Option, Some, None, MatchOption, inl, inr, arith, refl, sym, ap, subst, ◌∙◌, Ordering, Less, Equal, Greater, nat_cmp, is_eq}
 use Rattle.std.specs.Prelude.{slice_get, slice_range, is_some, find, nat_eq, nat_lt}
 use Rattle.std.specs.List.{AllByRecursion, starts_with}
@@ -31,19 +31,19 @@ use Rattle.dp_trie.proofs.PointLemmas.{rising-parted, all-last}
 use Rattle.dp_trie.proofs.RisingLemmas.{all-left, all-right, sorted-left, sorted-right, sorted-across, held-rise}
 use Rattle.dp_trie.proofs.TreeLemmas.{find_images, drop-get, drop-end}
 
--- ---- where a name stands
+-- ---- the rank of a name
 
 abbrev step_side : Ordering → Side → Side
 step_side o rest = elim o [ Less ↦ Before | Equal ↦ rest | Greater ↦ After ]
 
--- where names stand by what stands from a place on
+-- how names compare, given how they compare from a place on
 pub side-at : (name digits : List ℕ) (n b d : ℕ) (o : Ordering) → slice_get name n ≡ Some b → slice_get digits n ≡ Some d → nat_cmp b d ≡ o → side_of (drop n name) (drop n digits) ≡ step_side o (side_of (drop (n + 1) name) (drop (n + 1) digits))
 side-at name digits n b d o here there order =
     ap (λ l. side_of l (drop n digits)) (drop-get name n b here)
     ∙ (ap (λ l. side_of (b ∷ drop (n + 1) name) l) (drop-get digits n d there)
     ∙ ap (λ o. step_side o (side_of (drop (n + 1) name) (drop (n + 1) digits))) order)
 
--- where the digits have ended
+-- if the digits have ended
 pub side-longer : (name digits : List ℕ) (n b : ℕ) → slice_get name n ≡ Some b → slice_get digits n ≡ None → side_of (drop n name) (drop n digits) ≡ Longer
 side-longer name digits n b here ended =
     ap (λ l. side_of l (drop n digits)) (drop-get name n b here)
@@ -61,14 +61,14 @@ ended [] (suc n) few = refl
 ended (b ∷ name) zero few = absurd (omega (arith, few))
 ended (b ∷ name) (suc n) few = ended name n (omega (arith, few))
 
--- where the name has ended
+-- if the name has ended
 pub side-before : (name digits : List ℕ) (n : ℕ) → length name ≤ n → n < length digits → side_of (drop n name) (drop n digits) ≡ Before
 side-before name digits n few more = ap (λ l. side_of l (drop n digits)) (ended name n few) ∙ (side_short n digits).0 more
 
 pub side-same : (name digits : List ℕ) (n : ℕ) → length name ≤ n → length digits ≤ n → side_of (drop n name) (drop n digits) ≡ Same
 side-same name digits n few many = ap (λ l. side_of l (drop n digits)) (ended name n few) ∙ (side_short n digits).1 many
 
--- the side by the order of bytes, and by whether the name begins with the digits
+-- the side, given the order of bytes and whether the name begins with the digits
 abbrev pub side_by : Ordering → Bool → Side
 side_by Less begins = Before
 side_by Equal begins = Same
@@ -85,7 +85,7 @@ side-compared (b ∷ name) (d ∷ digits) = by (nat_cmp b d) refl (side-compared
     by Equal e rest = let u = ranked b d Equal e in rest ∙ ap (λ t. side_by (slice_cmp nat_cmp name digits) (t && starts_with nat_eq name digits)) (sym (eq-eqb d b (sym u)))
     by Greater e rest = let u = ranked b d Greater e in ap (λ t. side_by Greater (t && starts_with nat_eq name digits)) (sym (ne_eqb d b (λ same. omega (arith, u, same))))
 
--- a name is before the digits exactly where it stands below them
+-- a name comes before the digits exactly if it ranks below them
 pub before-compared : (name digits : List ℕ) → is_lt (slice_cmp nat_cmp name digits) ≡ nat_lt (rank (side_of name digits)) 1
 before-compared name digits = by (slice_cmp nat_cmp name digits) (starts_with nat_eq name digits) ∙ ap (λ s. nat_lt (rank s) 1) (sym (side-compared name digits))
   where
@@ -95,7 +95,7 @@ before-compared name digits = by (slice_cmp nat_cmp name digits) (starts_with na
     by Greater true = refl
     by Greater false = refl
 
--- a name is the digits exactly where it stands where they do
+-- a name is the digits exactly if it ranks where they do
 pub same-compared : (name digits : List ℕ) → pointwise nat_eq name digits ≡ (rank (side_of name digits) == 1)
 same-compared [] [] = refl
 same-compared [] (d ∷ digits) = refl
@@ -113,7 +113,7 @@ rank-most Same = omega arith
 rank-most Longer = omega arith
 rank-most After = omega arith
 
--- a name that is not after another stands no higher
+-- a name that is not after another does not rank above it
 pub sides-rise : (a b digits : List ℕ) → (slice_cmp nat_cmp a b ≡ Greater → ⊥) → rank (side_of a digits) ≤ rank (side_of b digits)
 sides-rise [] [] digits low = omega arith
 sides-rise [] (y ∷ b) [] low = omega arith
@@ -141,7 +141,7 @@ one_of b d Less e = let u = ranked b d Less e in ap (λ t. t || false) (ne_eqb d
 one_of b d Equal e = let u = ranked b d Equal e in ap (λ t. t || false) (eq-eqb d b (sym u))
 one_of b d Greater e = let u = ranked b d Greater e in ap (λ t. t || false) (ne_eqb d b (λ same. omega (arith, u, same)))
 
--- a name fits exactly where it stands on the side that is asked for
+-- a name fits exactly if it ranks on the requested side
 pub fits-side : (more : Bool) (name digits : List ℕ) → fits more End (walk_after (singles name) digits) ≡ (rank (side_of name digits) == rank (fitting more))
 fits-side false [] [] = refl
 fits-side true [] [] = refl
@@ -171,7 +171,7 @@ names-at (n ∷ names) digits rise zero (suc j) p q before at_i at_j =
 names-at (n ∷ names) digits rise (suc i) zero p q before at_i at_j = absurd (omega (arith, before))
 names-at (n ∷ names) digits rise (suc i) (suc j) p q before at_i at_j = names-at names digits rise.1 i j p q (omega (arith, before)) at_i at_j
 
--- the names below a rank stand first
+-- the names below a rank come first
 pub ranks-parted : (names : List PlainName) (digits : List ℕ) (limit : ℕ) → NamesRise names → IsPartitionedBy (λ (p : PlainName). nat_lt (rank_of digits p) limit) names
 ranks-parted names digits limit rise = rising-parted (rank_of digits) names limit (names-at names digits rise)
 
@@ -197,7 +197,7 @@ all-weaker : (P Q : PlainName → Type 0) → ((p : PlainName) → P p → Q p) 
 all-weaker P Q weaker [] each = tt
 all-weaker P Q weaker (p ∷ names) each = (weaker p each.0, all-weaker P Q weaker names each.1)
 
--- ---- the order of the entries is one of the names
+-- ---- the order of the entries is an order of the names
 
 not_after : (a b : List ℕ) (i j : ℕ) → ordering_then (name_cmp (Plain a) (Plain b)) (nat_cmp i j) ≡ Less → slice_cmp nat_cmp a b ≡ Greater → ⊥
 unfolding name_cmp
@@ -215,7 +215,7 @@ module _ (held : List HeldEntry) where
         absurd (omega (arith, few, size, rest, some, within))
   ]
 
-  -- what holds of all entries holds of one of each name
+  -- what holds of all entries holds of one for each name
   each_name : (P : Known → Type 0) (names : List PlainName) → ArePlainRanges (length held) names → AllByRecursion P (known_plain held names) → AllByRecursion (λ (p : PlainName). (h : HeldEntry) × P (known_held (Plain p.name) h)) names
   each_name P [] ranges each = tt
   each_name P (p ∷ names) ranges each =
@@ -257,7 +257,7 @@ module _ (held : List HeldEntry) (test : Known → Bool) where
   none-or None b e = refl
   none-or (Some x) b e = absurd cc
 
-  -- the first name that has a hit has the first of all
+  -- the first name with a hit has the first hit of all
   pub names-found : (names : List PlainName) (k : ℕ) (plain : PlainName) (r : Option EntryId) → slice_get names k ≡ Some plain → r ≡ option_map hit_of (find test (own_plain held plain)) → is_some r ≡ true → found_in (drop k names) ≡ found_in names → r ≡ option_map hit_of (found_in names)
   names-found names k plain r here is some same =
       is
@@ -286,7 +286,7 @@ module _ (held : List HeldEntry) (test : Known → Bool) where
       by None f e rest = rest e
       by (Some k) f e rest = images_plain plain (slice_range held plain.from plain.until) one (f ∙ e)
 
-  -- one name has what it has alone
+  -- what one name has by itself
   pub found-only : (plain : PlainName) → find test (own_plain held plain) ≡ found_in (plain ∷ [])
   found-only plain = or-none (find test (own_plain held plain)) ∙ sym (find-append test (own_plain held plain) [])
     where
@@ -331,7 +331,7 @@ module _ (held : List HeldEntry) (wanted : Wanted) where
         ∙ (ap (λ o. option_or o (find (is_asked more wanted digits) (known_plain held names))) (own-is_asked p false (ne_eqb (rank_of digits p) (rank (fitting more)) each.0))
         ∙ names-other names each.1)
 
-    -- what is asked for is not among the names that stand below those that fit
+    -- what is requested is not among the names that rank below those that fit
     pub found-rest : (names : List PlainName) (n : ℕ) → AllByRecursion (λ (p : PlainName). rank_of digits p < rank (fitting more)) (take n names) → find (is_asked more wanted digits) (known_plain held (drop n names)) ≡ find (is_asked more wanted digits) (known_plain held names)
     found-rest names n lower =
         let before : find (is_asked more wanted digits) (known_plain held (take n names)) ≡ None =
@@ -340,7 +340,7 @@ module _ (held : List HeldEntry) (wanted : Wanted) where
         ∙ (found-both held (is_asked more wanted digits) (take n names) (drop n names)
         ∙ ap (λ o. option_or o (find (is_asked more wanted digits) (known_plain held (drop n names)))) before))
 
-    -- and not from a name on that stands above those that fit
+    -- nor from a name on that ranks above those that fit
     pub found-ended : (names : List PlainName) (k : ℕ) (plain : PlainName) → NamesRise names → AllByRecursion (λ (p : PlainName). rank (fitting more) ≤ rank_of digits p) names → slice_get names k ≡ Some plain → (rank_of digits plain == rank (fitting more)) ≡ false → find (is_asked more wanted digits) (known_plain held (drop k names)) ≡ None
     found-ended names k plain rise least here other =
         let apart = eqb-false (rank_of digits plain) (rank (fitting more)) other in
@@ -371,12 +371,12 @@ module _ (test : Known → Bool) (first rest : List Known) where
       by None e = refl
       by (Some k) e = absurd cc
 
--- where there are no nodes, nothing is found below them
+-- without nodes nothing is found below them
 pub no-nodes : (test : Known → Bool) (held : List HeldEntry) (nodes : List Node) → length nodes ≡ 0 → find test (known_from held [] nodes) ≡ None
 no-nodes test held [] none = refl
 no-nodes test held (node ∷ nodes) none = absurd (omega (arith, none))
 
--- what is found has at most so many classes
+-- what is found has at most this number of classes
 abbrev pub HasAtMost : Option Known → ℕ → Type 0
 HasAtMost found count = MatchOption found (Unit {0}) (λ known. class_count known.name ≤ count)
 

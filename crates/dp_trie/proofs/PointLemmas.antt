@@ -1,4 +1,4 @@
--- Lists along which a number does not fall: what stands before and after the place that a search by halves gives.
+-- Lists along which a number does not decrease: the elements before and after the place that a binary search finds.
 use Rattle.std.proofs.Common.{◌≡◌, ℕ, zero, suc, ◌+◌, ◌<◌, ◌≤◌, Bool, true, false, cond, List, [], ◌∷◌, take, drop, get_or, Some, inl, inr, arith, refl, sym, ap, subst, ◌∙◌}
 use Rattle.std.specs.Prelude.{slice_get, nat_lt}
 use Rattle.std.specs.List.{AllByRecursion, find}
@@ -57,7 +57,7 @@ module _ {X : Type 0} (f : X → ℕ) (xs : List X) (limit : ℕ) where
       let inside = slice_get_within xs k x here in
       ltb-false (f x) limit (ap (λ y. nat_lt (f y) limit) (sym (get_here xs k x here)) ∙ point.1 k x few inside))
 
-  -- what is below the limit stands first
+  -- the elements below the limit come first
   pub rising-parted : ((i j : ℕ) (x y : X) → i < j → slice_get xs i ≡ Some x → slice_get xs j ≡ Some y → f x ≤ f y) → IsPartitionedBy (λ x. nat_lt (f x) limit) xs
   rising-parted rise i j d few within below = elim (cases_order i j) [
     | inl same ↦ ap (λ k. nat_lt (f (get_or xs k d)) limit) same ∙ below
@@ -72,14 +72,14 @@ module _ {X : Type 0} (f : X → ℕ) (xs : List X) (limit : ℕ) where
 
 -- ---- what is found
 
--- what fails the test is passed over
+-- what fails the test is skipped
 pub find-past : {X : Type 0} (test : X → Bool) (xs : List X) (n : ℕ) → AllByRecursion (λ x. test x ≡ false) (take n xs) → find test xs ≡ find test (drop n xs)
 find-past test [] zero each = refl
 find-past test (x ∷ xs) zero each = refl
 find-past test [] (suc n) each = refl
 find-past test (x ∷ xs) (suc n) each = ap (λ b. cond b (Some x) (find test xs)) each.0 ∙ find-past test xs n each.1
 
--- the first that passes after some that fail
+-- the first element that passes, after some that fail
 pub find-here : {X : Type 0} (test : X → Bool) (xs : List X) (n : ℕ) (x : X) → AllByRecursion (λ x. test x ≡ false) (take n xs) → slice_get xs n ≡ Some x → test x ≡ true → find test xs ≡ Some x
 find-here test xs n x each here pass =
     find-past test xs n each ∙ (ap (find test) (drop-get xs n x here) ∙ ap (λ b. cond b (Some x) (find test (drop (n + 1) xs))) pass)

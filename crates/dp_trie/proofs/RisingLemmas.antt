@@ -1,4 +1,4 @@
--- What stands in order: its parts, and what is found in it.
+-- Ordered lists: their parts, and what is found in them.
 use Rattle.std.proofs.Common.{◌≡◌, ℕ, zero, suc, ◌<◌, Bool, true, false, cond, List, [], ◌∷◌, ◌++◌, map, take, get_or, Some, None, inl, inr, arith, refl, sym, ap, subst, ◌∙◌, Ordering, Less, nat_cmp, ◌==◌}
 use Rattle.std.specs.Prelude.{slice_get, slice_range, nat_lt}
 use Rattle.std.specs.List.{AllByRecursion, find}
@@ -64,7 +64,7 @@ sorted-across c (z ∷ xs) ys zero x sorted here =
     all-right (λ y. c x y ≡ Less) xs ys (subst (λ k. AllByRecursion (λ y. c k y ≡ Less) (xs ++ ys)) same sorted.0)
 sorted-across c (z ∷ xs) ys (suc i) x sorted here = sorted-across c xs ys i x sorted.1 here
 
--- what is in order by places is in order
+-- a list that is in order at each place is in order
 pub sorted-places : {K : Type 0} (c : K → K → Ordering) (xs : List K) → ((i j : ℕ) (x y : K) → i < j → slice_get xs i ≡ Some x → slice_get xs j ≡ Some y → c x y ≡ Less) → IsStrictlySortedBy c xs
 unfolding IsStrictlySortedBy
 sorted-places c [] each = tt
@@ -76,7 +76,7 @@ sorted-places c (x ∷ xs) each =
 of_one_name : (m : Meaning) (o : Ordering) → ordering_then (name_cmp m m) o ≡ Less → o ≡ Less
 of_one_name m o less = ap (λ n. ordering_then n o) (sym (tied_itself name_cmp_total m)) ∙ less
 
--- in order they are in the order of their priorities
+-- if they are in order, so are their priorities
 pub held-rise : (m : Meaning) (held : List HeldEntry) → AreInOrder (map (known_held m) held) → Rise held
 unfolding IsStrictlySortedBy
 held-rise m [] sorted = tt
@@ -91,7 +91,7 @@ held-rise m (h ∷ held) sorted = (each held sorted.0, held-rise m held sorted.1
 rise-at : (held : List HeldEntry) → Rise held → (i j : ℕ) (a b : HeldEntry) → i < j → slice_get held i ≡ Some a → slice_get held j ≡ Some b → a.priority < b.priority
 rise-at held rise i j a b before at_i at_j = cmp-less a.priority b.priority (sorted-at (λ (x y : HeldEntry). nat_cmp x.priority y.priority) held rise i j a b before at_i at_j)
 
--- an entry of a priority is the first that has it
+-- an entry with a priority is the first that has it
 pub found-at : (held : List HeldEntry) (i : ℕ) (one : HeldEntry) (t : ℕ) → Rise held → slice_get held i ≡ Some one → one.priority ≡ t → find (λ (h : HeldEntry). h.priority == t) held ≡ Some one
 unfolding IsStrictlySortedBy
 found-at [] i one t rise here is = absurd cc
@@ -108,7 +108,7 @@ find-nothing test [] none = refl
 find-nothing test (h ∷ held) none =
     ap (λ b. cond b (Some h) (find test held)) (none 0 h refl) ∙ find-nothing test held (λ i one here. none (suc i) one here)
 
--- none has the priority where the first that is not below it has another, or is not there
+-- none has the priority if the first that is not below it has another, or does not exist
 pub found-none : (held : List HeldEntry) (i t : ℕ) → Rise held → IsPartitionPoint (λ (h : HeldEntry). nat_lt h.priority t ≡ true) (λ (h : HeldEntry). nat_lt h.priority t ≡ false) held i → ((one : HeldEntry) → slice_get held i ≡ Some one → one.priority ≡ t → ⊥) → find (λ (h : HeldEntry). h.priority == t) held ≡ None
 found-none held i t rise point other = find-nothing (λ (h : HeldEntry). h.priority == t) held (λ k one here. ne_eqb one.priority t (apart k one here))
   where
@@ -130,7 +130,7 @@ found-none held i t rise point other = find-nothing (λ (h : HeldEntry). h.prior
           omega (arith, least, less, is)
     ]
 
--- the priorities below another stand first
+-- the priorities below another come first
 pub priorities-parted : (held : List HeldEntry) (t : ℕ) → Rise held → IsPartitionedBy (λ (h : HeldEntry). nat_lt h.priority t) held
 priorities-parted held t rise i j d few within below = elim (cases_order i j) [
   | inl same ↦ ap (λ k. nat_lt (get_or held k d).priority t) same ∙ below
@@ -145,7 +145,7 @@ priorities-parted held t rise i j d few within below = elim (cases_order i j) [
 
 -- ---- the leaves of a tree
 
--- what the leaves have is in order where all entries are
+-- what the leaves have is in order if all entries are
 pub tree-rise : (held : List HeldEntry) (nodes : List Node) (path : List (List ℕ)) → AreInOrder (known_from held path nodes) → (place : ℕ) (node : Node) → slice_get nodes place ≡ Some node → Rises held node.step
 tree-rise held [] path sorted place node here = absurd cc
 tree-rise held (n ∷ nodes) path sorted zero node here =

@@ -13,7 +13,7 @@ use Rattle.dp_trie.specs.declared.plain.PlainName.{PlainName}
 use Rattle.dp_trie.specs.declared.ranked.Ranked.{Ranked}
 use Rattle.dp_trie.proofs.RisingLemmas.{sorted-left, sorted-right, tree-rise}
 
--- entries in order are in order up to a place and after it
+-- ordered entries are in order up to a place and after it
 pub order-parts : (n : ℕ) (ranked first rest : List Ranked) → first ≡ take n ranked → rest ≡ drop n ranked → AreInOrder (map known_now ranked) → AreInOrder (map known_now first) × AreInOrder (map known_now rest)
 order-parts n ranked first rest front back order =
     let whole : map known_now ranked ≡ map known_now (take n ranked) ++ map known_now (drop n ranked) =
@@ -23,7 +23,7 @@ order-parts n ranked first rest front back order =
       subst (λ l. AreInOrder (map known_now l)) (sym back) (sorted-right known_cmp (map known_now (take n ranked)) (map known_now (drop n ranked)) parts),
     )
 
--- those up to a place and those after it are all
+-- the entries up to a place and those after it are all entries
 pub whole-known : (n : ℕ) (ranked first rest : List Ranked) → first ≡ take n ranked → rest ≡ drop n ranked → map known_now first ++ map known_now rest ≡ map known_now ranked
 whole-known n ranked first rest front back =
     sym (map-append known_now first rest) ∙ ap (map known_now) (ap (λ l. l ++ rest) front ∙ (ap (λ l. take n ranked ++ l) back ∙ take-append-drop n ranked))

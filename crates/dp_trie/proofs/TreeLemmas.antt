@@ -1,4 +1,4 @@
--- A walk through a tree of patterns finds the first of its entries that is asked for.
+-- A walk through a tree of patterns finds the first of its entries that is requested.
 use Rattle.std.proofs.Common.{◌≡◌, ℕ, zero, suc, ◌+◌, ◌<◌, ◌≤◌, Bool, true, false, cond, ◌&&◌, List, [], ◌∷◌, ◌++◌, length, map, take, drop, Option, Some, None, MatchOption, arith, refl, sym, ap, subst, ◌∙◌, add-one, length-append}
 use Rattle.std.specs.Prelude.{slice_get, slice_range, nat_lt, is_some}
 use Rattle.std.specs.List.{find}
@@ -36,7 +36,7 @@ take-all zero (x ∷ xs) few = absurd (omega (arith, few))
 take-all (suc n) [] few = refl
 take-all (suc n) (x ∷ xs) few = ap (λ l. x ∷ l) (take-all n xs (omega (arith, few)))
 
--- what stands before the last element
+-- the elements before the last one
 take-front : {X : Type 0} (xs : List X) (x : X) → take (length xs) (xs ++ x ∷ []) ≡ xs
 take-front [] x = refl
 take-front (y ∷ xs) x = ap (λ l. y ∷ l) (take-front xs x)
@@ -46,7 +46,7 @@ drop_at [] i x e = absurd cc
 drop_at (y ∷ xs) zero x e = let same : y ≡ x = cc in ap (λ z. z ∷ xs) same
 drop_at (y ∷ xs) (suc i) x e = drop_at xs i x e
 
--- the element at a place is the first of what stands from there on
+-- the element at a place is the first of the elements from there on
 pub drop-get : {X : Type 0} (xs : List X) (i : ℕ) (x : X) → slice_get xs i ≡ Some x → drop i xs ≡ x ∷ drop (i + 1) xs
 drop-get xs i x e = drop_at xs i x e ∙ ap (λ j. x ∷ drop j xs) (sym (add-one i))
 
@@ -56,7 +56,7 @@ drop-end [] (suc i) e = refl
 drop-end (x ∷ xs) zero e = absurd cc
 drop-end (x ∷ xs) (suc i) e = drop-end xs i e
 
--- the first in a list of images, where the test comes to another test or to nothing
+-- the first in a list of images, if the test becomes another test or none
 pub find_images : (b : Bool) (f : HeldEntry → Known) (test : Known → Bool) (inner : HeldEntry → Bool) → ((held : HeldEntry) → test (f held) ≡ (b && inner held)) → (xs : List HeldEntry) → find test (map f xs) ≡ cond b (option_map f (find inner xs)) None
 find_images true f test inner each [] = refl
 find_images false f test inner each [] = refl
@@ -76,11 +76,11 @@ module _ (held : List HeldEntry) (more : Bool) (wanted : Wanted) (digits : List 
   abbrev found_step : List (List ℕ) → Step → List Node → Option Known
   found_step path step nodes = find (is_asked more wanted digits) (own held path step ++ known_from held (path_below path step) nodes)
 
-  -- how many nodes are entered from some place on
+  -- the number of nodes that are entered from some place on
   abbrev pub count_from : List (List ℕ) → List Node → ℕ
   count_from path nodes = tree_entered held more wanted digits path nodes
 
-  -- how many are entered at a step below a path and after it
+  -- the number that are entered at a step below a path and after it
   abbrev pub count_step : List (List ℕ) → Step → List Node → ℕ
   count_step path step nodes =
       one_more (alive more (path_below path step) digits) (cond (is_some (find (is_asked more wanted digits) (own held path step))) 0 (count_from (path_below path step) nodes))
@@ -108,7 +108,7 @@ module _ (held : List HeldEntry) (more : Bool) (wanted : Wanted) (digits : List 
   longer-below path (Class class) = let long = length-append path (class ∷ []) in omega (arith, long)
   longer-below path (Leaf l) = omega arith
 
-  -- all that stands deeper below a path that does not take the digits is passed over
+  -- everything deeper below a path that does not take the digits is skipped
   pub skip : (depth : ℕ) (nodes : List Node) (path : List (List ℕ)) → depth < length path → alive more (take (suc depth) path) digits ≡ false → found_from path nodes ≡ found_from (take depth path) (nodes_past depth nodes)
   skip depth [] path deep dead = refl
   skip depth (node ∷ nodes) path deep dead = by (λ p. skip depth nodes p) (nat_lt depth node.depth) refl
@@ -155,7 +155,7 @@ module _ (held : List HeldEntry) (more : Bool) (wanted : Wanted) (digits : List 
 
   -- ---- a step of the walk
 
-  -- a node that is entered without a hit has nothing that is asked for, and the path after it takes the digits
+  -- a node that is entered without a hit has nothing that is requested, and the path after it takes the digits
   pub entered : (step : Step) (path : List (List ℕ)) (depth : ℕ) (nodes : List Node) → length path ≡ depth → alive more path digits ≡ true → step_visit held more wanted digits depth step ≡ Enters → (alive more (path_below path step) digits ≡ true) × (find (is_asked more wanted digits) (own held path step) ≡ None)
   entered (Class class) path depth nodes size on e =
       (alive-push more path class digits on ∙ (ap (takes more digits class) size ∙ taken (takes more digits class depth) e), refl)
@@ -187,7 +187,7 @@ module _ (held : List HeldEntry) (more : Bool) (wanted : Wanted) (digits : List 
       ap (λ b. one_more b (cond (is_some (find (is_asked more wanted digits) (own held path step))) 0 (count_from (path_below path step) nodes))) on
       ∙ ap (λ o. suc (cond (is_some o) 0 (count_from (path_below path step) nodes))) none
 
-  -- a node that fails has nothing that is asked for below it, and none of it is entered
+  -- a node that fails has nothing that is requested below it, and none of it is entered
   pub failed : (step : Step) (path : List (List ℕ)) (depth : ℕ) (nodes : List Node) → length path ≡ depth → alive more path digits ≡ true → step_visit held more wanted digits depth step ≡ Fails → (found_step path step nodes ≡ found_from path (nodes_past depth nodes)) × (count_step path step nodes ≡ count_from path (nodes_past depth nodes))
   failed (Class class) path depth nodes size on e =
       let long = length-append path (class ∷ []) in
@@ -210,7 +210,7 @@ module _ (held : List HeldEntry) (more : Bool) (wanted : Wanted) (digits : List 
       never true (Some h) e = absurd cc
       never false o e = absurd cc
 
-  -- what is found at a leaf that holds it
+  -- what is found at a leaf that has it
   pub record IsHeld (path : List (List ℕ)) (step : Step) (nodes : List Node) (depth : ℕ) (hit : EntryId) : Type 0 where
     pub known : Known
     pub found : found_step path step nodes ≡ Some known
@@ -255,7 +255,7 @@ pub length-below : (path : List (List ℕ)) (step : Step) (depth : ℕ) → leng
 length-below path (Class class) depth size = let long = length-append path (class ∷ []) in omega (arith, long, size)
 length-below path (Leaf l) depth size = size
 
--- what is passed over leaves nodes that are rooted
+-- skipping leaves nodes that are rooted
 rooted-nodes_past : (depth n : ℕ) (nodes : List Node) → IsRooted n nodes → IsRooted depth (nodes_past depth nodes)
 rooted-nodes_past depth n [] rooted = tt
 rooted-nodes_past depth n (node ∷ nodes) rooted = by (rooted-nodes_past depth (depth_below node.depth node.step) nodes rooted.1) (nat_lt depth node.depth) refl
@@ -281,8 +281,8 @@ zero-before n = omega arith
 none-after : (count before all : ℕ) → count + before ≡ all → before ≡ 0 → count ≡ all
 none-after count before all e same = omega (arith, e, same)
 
--- a walk that has come to a place: what is found from there on is what is found in all nodes, and the classes on the way
--- take the digits; and what was entered and what is entered from there on is all that is entered
+-- a walk that has reached a place: what is found from there on is what is found in all nodes, and the classes on the way take the digits;
+-- and what was entered and what is entered from there on is all that is entered
 pub record IsAt (held : List HeldEntry) (more : Bool) (wanted : Wanted) (digits : List ℕ) (nodes : List Node) (place count : ℕ) : Type 0 where
   pub path : List (List ℕ)
   pub on : alive more path digits ≡ true
@@ -358,7 +358,7 @@ module _ (held : List HeldEntry) (more : Bool) (wanted : Wanted) (digits : List 
           within = is_end.within;
         }
 
-    -- what is found in all nodes, where this one holds it
+    -- what is found in all nodes, if this one has it
     pub record IsFoundHere (hit : EntryId) : Type 0 where
       pub found : Some hit ≡ option_map hit_of (found_from held more wanted digits [] nodes)
       pub counted : count + 1 ≡ count_from held more wanted digits [] nodes

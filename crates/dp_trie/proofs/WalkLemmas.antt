@@ -1,4 +1,4 @@
--- How far the classes of a path take the digits: what a node that is entered, and one that is not, says of all below it.
+-- How far the classes of a path take the digits: what a node that is entered, and one that is not, says about everything below it.
 use Rattle.std.proofs.Common.{◌≡◌, ℕ, zero, suc, Bool, true, false, not, cond, true≢false, List, [], ◌∷◌, ◌++◌, length, take, arith, refl, sym, ap, ◌∙◌}
 use Rattle.std.specs.Prelude.{nat_lt}
 use Rattle.std.proofs.lemmas.Bool.{ltb-true, ltb-false, lt-ltb, le-ltb}
@@ -9,7 +9,7 @@ use Rattle.dp_pattern.specs.declared.tail.Tail.TheVariants.{End, Dot, Bang}
 use Rattle.dp_trie.specs.Asked.{fits}
 use Rattle.dp_trie.specs.Tree.{is_alive, alive, takes, allows}
 
--- a class below a path that takes the digits takes one more exactly where the test says so
+-- one more class below a path that takes the digits takes one exactly if the test says so
 pub alive-push : (more : Bool) (path : List (List ℕ)) (class digits : List ℕ) → alive more path digits ≡ true → alive more (path ++ class ∷ []) digits ≡ takes more digits class (length path)
 alive-push more [] class [] on = refl
 alive-push more [] class (d ∷ digits) on = by (is_one_of class d)
@@ -24,7 +24,7 @@ alive-push more (c ∷ path) class (d ∷ digits) on = by (is_one_of c d) on (al
     by true on rest = rest on
     by false on rest = absurd (true≢false (sym on))
 
--- what begins a path that takes the digits takes them too
+-- the beginning of a path that takes the digits takes them too
 pub alive-take : (more : Bool) (n : ℕ) (path : List (List ℕ)) (digits : List ℕ) → alive more path digits ≡ true → alive more (take n path) digits ≡ true
 alive-take more zero path digits on = refl
 alive-take more (suc n) [] digits on = on
@@ -35,7 +35,7 @@ alive-take more (suc n) (c ∷ path) (d ∷ digits) on = by (is_one_of c d) on (
     by true on rest = rest on
     by false on rest = on
 
--- where a walk comes to nothing, no tail fits
+-- if a walk finds nothing, no tail fits
 dead_fits : (more : Bool) (tail : Tail) (w : Walked) → is_alive more w ≡ false → fits more tail w ≡ false
 dead_fits true End Refused dead = refl
 dead_fits true Dot Refused dead = refl
@@ -53,7 +53,7 @@ dead-whole more n path digits dead = whole (alive more path digits) refl
     whole true on = absurd (true≢false (sym (alive-take more n path digits on) ∙ dead))
     whole false off = off
 
--- and it fits under no tail
+-- and it fits no tail
 pub dead-fits : (more : Bool) (tail : Tail) (n : ℕ) (path : List (List ℕ)) (digits : List ℕ) → alive more (take n path) digits ≡ false → fits more tail (walk_after path digits) ≡ false
 dead-fits more tail n path digits dead = dead_fits more tail (walk_after path digits) (dead-whole more n path digits dead)
 
@@ -66,7 +66,7 @@ lt_suc m n = by (nat_lt m n) refl
     by true e = let below = ltb-true m n e in sym (lt-ltb (suc m) (suc n) (omega (arith, below)))
     by false e = let above = ltb-false m n e in sym (le-ltb (suc m) (suc n) (omega (arith, above)))
 
--- after a path that takes the digits a tail fits exactly where the counts say so
+-- after a path that takes the digits a tail fits exactly if the counts say so
 pub fits-allows : (more : Bool) (tail : Tail) (path : List (List ℕ)) (digits : List ℕ) → alive more path digits ≡ true → fits more tail (walk_after path digits) ≡ allows more tail (length path) (length digits)
 fits-allows false End [] [] on = refl
 fits-allows false End [] (d ∷ digits) on = ap not (sym (lt-ltb 0 (suc (length digits)) (omega arith)))

@@ -1,4 +1,4 @@
--- Whether a byte that Asterisk counts stands in a text, mark after mark.
+-- Whether a text has a byte that Asterisk counts, mark after mark.
 use Rattle.std.proofs.Common.{◌≡◌, ℕ, Bool, true, false, not, ◌||◌, List, [], ◌∷◌, length, reverse, refl, ap, sym, ◌∙◌, arith}
 use Rattle.std.specs.List.{list_any}
 use Rattle.std.proofs.lemmas.List.Sorted.{IsPermutation-reverse, list_any-IsPermutation}
@@ -7,22 +7,22 @@ use Rattle.dp_conf.specs.declared.groups.Mark.{Mark}
 use Rattle.dp_conf.specs.GroupsRead.{mark_at}
 use Rattle.dp_wide.specs.Brackets.{bytes_left, counted_from, has_counted, is_counted, open_after, reads}
 
--- a test over a list that is turned round
+-- a test over a reversed list
 pub any-reverse : {X : Type 0} (test : X → Bool) (xs : List X) → list_any test xs ≡ list_any test (reverse xs)
 any-reverse test xs = list_any-IsPermutation test xs (reverse xs) (IsPermutation-reverse xs)
 
--- nothing stands in no text
+-- an empty text has none
 pub has_counted-empty : (text : List ℕ) (kinds : List GroupKind) (skipped : ℕ) → length text ≡ 0 → has_counted text kinds skipped ≡ false
 unfolding has_counted
 has_counted-empty [] kinds skipped e = refl
 has_counted-empty (byte ∷ text) kinds skipped e = absurd (omega arith)
 
--- a byte that is read already counts for nothing
+-- a byte that was already read does not count
 pub has_counted-skip : (text rest : List ℕ) (byte : ℕ) (kinds : List GroupKind) → text ≡ byte ∷ rest → has_counted rest kinds 0 ≡ has_counted text kinds 1
 unfolding has_counted
 has_counted-skip text rest byte kinds e = sym (ap (λ t. has_counted t kinds 1) e)
 
--- a text by its first mark
+-- a text, given its first mark
 has_counted-mark : (text left after : List ℕ) (kinds : List GroupKind) (byte : ℕ) (mark : Mark) → left ≡ byte ∷ after
     → mark ≡ mark_at kinds byte after → has_counted left kinds 0 ≡ has_counted text [] 0
     → counted_from mark (has_counted after) kinds ≡ has_counted text [] 0

@@ -1,4 +1,4 @@
--- Subroutines that are entered by the parts of their targets, and how many locals their arguments are.
+-- Subroutines that are entered with the parts of their targets, and the number of locals for their arguments.
 use Rattle.std.proofs.Common.{◌≡◌, ℕ, ◌+◌, suc, List, [], ◌∷◌, ◌++◌, refl, ap, ◌∙◌, length, map}
 use Rattle.std.specs.Option.{option_and_then}
 use Rattle.std.proofs.lemmas.List.{map-append}
@@ -13,7 +13,7 @@ pub locals_count : (number : ℕ) (arguments : List (List ℕ)) → length (argu
 locals_count number [] = refl
 locals_count number (value ∷ values) = ap suc (locals_count (number + 1) values)
 
--- a subroutine that is entered by the parts before the last one, and by the last one
+-- a subroutine that is entered with the parts before the last one, and with the last one
 pub enter_counted-push : {X : Type 0} (see : X → List ℕ) (parts front : List X) (last : X) (cell : CellOf) → parts ≡ front ++ last ∷ []
     → enter_parts (map see parts) cell ≡ enter_counted cell (map see front) (called_by (see last) (cut_once 40 (see last)))
 enter_counted-push see parts front last cell cut =

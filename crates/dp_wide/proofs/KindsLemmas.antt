@@ -18,7 +18,7 @@ use Rattle.dp_wide.specs.steps.Plain.{is_plain, plain_names}
 use Rattle.dp_wide.proofs.PlacedLemmas.{has_of_words}
 use Rattle.dp_wide.proofs.WordsLemmas.{of_words}
 
--- whether an application looks at its arguments, by the comparisons of its name
+-- whether an application looks at its arguments, given the comparisons of its name
 abbrev looks_by : (List ℕ → Bool) → Bool
 looks_by same =
     if same exec_if_title then true
@@ -41,7 +41,7 @@ pub quiet_looks : (name : List ℕ) → is_word_of quiet_names name ≡ true →
 unfolding inner_looks
 quiet_looks name among = quiet_look name among
 
--- the plain ones do
+-- nor do the plain ones
 pub plain_looks : (name : List ℕ) → is_plain name ≡ true → wide_looks name ≡ true
 unfolding inner_looks
 plain_looks name among = plain_look name among
@@ -56,7 +56,7 @@ plain_has : (name : List ℕ) → is_plain name ≡ true → has_row inner_table
 unfolding inner_table standard_table going_names outside_applications plain_names
 plain_has = has_of_words inner_table.touches inner_table.rows inner_table.blind plain_names (refl, (refl, (refl, (refl, (refl, (refl, (refl, (refl, (refl, (refl, (refl, (refl, (refl, (refl, (refl, (refl, (refl, (refl, tt))))))))))))))))))
 
--- what an application asks, by the comparisons of its name
+-- what an application asks, given the comparisons of its name
 abbrev asked_by : Sight → List ℕ → (List ℕ → Bool) → List ℕ
 asked_by sight arguments same =
     if same (codes "Set") then setting_asked arguments

@@ -1,4 +1,4 @@
--- What is known where fewer calls may stand inside each other is known where more may, by the same value.
+-- What is known with fewer nested calls allowed is known with more, with the same value.
 use Rattle.std.proofs.Common.{◌≡◌, ℕ, zero, suc, ◌≤◌, Bool, true, false, List, [], ◌∷◌, Option, Some, None, refl, ap, sym, ◌∙◌, arith}
 use Rattle.std.specs.Prelude.{is_none, if◌then◌else◌, decimal}
 use Rattle.dp_conf.specs.Cut.{before_last, cut_once}
@@ -21,12 +21,12 @@ call_text-some : (name argument : List ℕ) → call_text name argument ≡ [] �
 call_text-some [] argument e = cc
 call_text-some (b ∷ bs) argument e = cc
 
--- a call of which nothing is unknown is known
+-- a call in which nothing is unknown is known
 known_by : (known : Bool) (name argument : List ℕ) → (if known then [] else call_text name argument) ≡ [] → known ≡ true
 known_by true name argument e = refl
 known_by false name argument e = absurd (call_text-some name argument e)
 
--- where there is no unknown text, it is empty
+-- without an unknown text it is empty
 nothing_unknown : (text : List ℕ) → is_none (any_text text) ≡ true → text ≡ []
 nothing_unknown [] e = refl
 nothing_unknown (b ∷ bs) e = cc
@@ -43,7 +43,7 @@ module _ (less more : FunctionTable) (sight : Sight) (kept : KnowsNoMore less mo
       ap (λ known. if◌then◌else◌ {A = List ℕ} known [] (call_text name argument))
       (kept.knows sight name argument (known_by (less.knows sight name argument) name argument e))
 
-  -- a call by its argument, where that ends
+  -- a call, given its argument, if that ends
   argument_value-kept : (name : List ℕ) (argument : Option (List ℕ))
       → call_argument_with (unknown_calls less sight) (unknown_names less sight) name argument ≡ []
       → call_argument_with more sight name argument ≡ call_argument_with less sight name argument
@@ -77,7 +77,7 @@ module _ (less more : FunctionTable) (sight : Sight) (kept : KnowsNoMore less mo
   unfolding head_value_with
   head-kept head e = head_by-kept head (cut_once 40 head) e
 
-  -- a body that may ask for a part
+  -- a body that may request a part
   body_value-kept : (body : List ℕ) (cut : Option (List ℕ × List ℕ)) → unknown_body less sight body cut ≡ []
       → body_by_with more sight body cut ≡ body_by_with less sight body cut
   body_value-kept body None e = head_value-kept body e
@@ -87,7 +87,7 @@ module _ (less more : FunctionTable) (sight : Sight) (kept : KnowsNoMore less mo
   body-kept body None e = head-kept body e
   body-kept body (Some cut) e = head-kept cut.0 e
 
-  -- a group by its name
+  -- a group, given its name
   named_value-kept : (name : List ℕ) → knows_named less sight name ≡ true → named_value more sight name ≡ named_value less sight name
   unfolding unknown_group group_value_with
   named_value-kept name e = body_value-kept name (cut_outside 58 name) (nothing_unknown (unknown_body less sight name (cut_outside 58 name)) e)
@@ -98,7 +98,7 @@ module _ (less more : FunctionTable) (sight : Sight) (kept : KnowsNoMore less mo
       ap (λ text. is_none (any_text text))
       (body-kept name (cut_outside 58 name) (nothing_unknown (unknown_body less sight name (cut_outside 58 name)) e))
 
-  -- a function by what it is
+  -- a function, given which it is
   wide_value-kept : (function : WideFunction) (argument : List ℕ) → knows_wide less sight function argument ≡ true
       → wide_value more sight function argument ≡ wide_value less sight function argument
   wide_value-kept Cut argument e =
@@ -129,7 +129,7 @@ module _ (less more : FunctionTable) (sight : Sight) (kept : KnowsNoMore less mo
   other-kept None name argument e = e
   other-kept (Some function) name argument e = wide-kept function argument e
 
-  -- the same beside the five
+  -- the same besides the five
   value_by-kept : (function : Option Function) (name argument : List ℕ) → knows_by less sight function name argument ≡ true
       → value_by more sight function name argument ≡ value_by less sight function name argument
   value_by-kept None name argument e = other_value-kept (wide_function_of name) name argument e
@@ -140,7 +140,7 @@ module _ (less more : FunctionTable) (sight : Sight) (kept : KnowsNoMore less mo
   by-kept None name argument e = other-kept (wide_function_of name) name argument e
   by-kept (Some function) name argument e = e
 
--- the functions around two tables, of which one knows no more than the other
+-- the functions around two tables, one of which knows no more than the other
 around-kept : (less more : FunctionTable) → KnowsNoMore less more
     → ((sight : Sight) (name : List ℕ) → more.knows_name sight name ≡ less.knows_name sight name) → KnowsNoMore (around less) (around more)
 unfolding around
@@ -158,7 +158,7 @@ within-names (suc calls) sight name = refl
 false_is_true : false ≡ true → ⊥
 false_is_true e = cc
 
--- what is known where so many calls may stand inside each other is known where more may
+-- what is known with this number of nested calls allowed is known with more
 pub within-kept : (fewer more : ℕ) → fewer ≤ more → KnowsNoMore (within fewer) (within more)
 unfolding within
 within-kept zero more e = record {

@@ -9,21 +9,21 @@ use Rattle.std.proofs.lemmas.Bool.{ltb-true, ltb-false}
 use Rattle.dp_conf.specs.Cut.{cut_once}
 use Rattle.dp_wide.specs.Texts.{parts_of, chosen_from, is_chosen}
 
--- the parts of what is left of a text
+-- the parts of the remaining text
 abbrev pub parts_left : ℕ → Option (Bor (List ℕ)) → List (List ℕ)
 parts_left byte None = []
 parts_left byte (Some text) = parts_of byte text.now
 
--- a number that falls as the text is read
+-- a number that decreases as the text is read
 abbrev pub left_len : Option (Bor (List ℕ)) → ℕ
 left_len None = 0
 left_len (Some text) = length text.now + 1
 
--- where the byte first stands in the text
+-- the place of the first such byte in the text
 abbrev place_of : ℕ → List ℕ → ℕ
 place_of byte xs = position_or_len (λ b. eqb b byte) xs
 
--- what a text is cut into, by the test that the byte stands in it
+-- how a text is cut, given the test whether the byte is in it
 abbrev cut_by : ℕ → List ℕ → Bool → Option (List ℕ × List ℕ)
 cut_by byte xs t = cond {A = Option (List ℕ × List ℕ)} t (Some (before_first (λ b. eqb b byte) xs, after_first (λ b. eqb b byte) xs)) None
 
@@ -41,7 +41,7 @@ parts_of-cut_by byte xs part rest true l e =
     slice_split_first (λ b. eqb b byte) xs 0 (ltb-true _ _ l) ∙ (ap (λ (p : List ℕ). p ∷ parts_of byte (after_first (λ b. eqb b byte) xs)) before ∙ ap (λ (r : List ℕ). part ∷ parts_of byte r) after)
 parts_of-cut_by byte xs part rest false l e = cc
 
--- where the byte cuts the text, what stands before it is the first part
+-- if the byte cuts the text, the part before it is the first part
 pub parts_of-cut : (byte : ℕ) (xs part rest : List ℕ) → cut_once byte xs ≡ Some (part, rest) → parts_of byte xs ≡ part ∷ parts_of byte rest
 parts_of-cut byte xs part rest e = parts_of-cut_by byte xs part rest (ltb (place_of byte xs) (length xs)) refl e
 
@@ -50,7 +50,7 @@ parts_of-whole_by byte xs true l e = cc
 parts_of-whole_by byte xs false l e =
     slice_split_none (λ b. eqb b byte) xs (All-from_get_or (λ b. eqb b byte ≡ false) xs 0 (λ i h. fails_before_first (λ b. eqb b byte) xs i 0 (omega (arith, ltb-false _ _ l))))
 
--- with no such byte the text is its one part
+-- without such a byte the text is its only part
 pub parts_of-whole : (byte : ℕ) (xs : List ℕ) → cut_once byte xs ≡ None → parts_of byte xs ≡ xs ∷ []
 parts_of-whole byte xs e = parts_of-whole_by byte xs (ltb (place_of byte xs) (length xs)) refl e
 
@@ -62,7 +62,7 @@ length-cut_by byte xs part rest true l e =
     rw (← after) (omega (arith, shorter, within))
 length-cut_by byte xs part rest false l e = absurd cc
 
--- what stands after a cut is shorter
+-- the text after a cut is shorter
 pub length-cut_once : (byte : ℕ) (xs part rest : List ℕ) → cut_once byte xs ≡ Some (part, rest) → length rest < length xs
 length-cut_once byte xs part rest e = length-cut_by byte xs part rest (ltb (place_of byte xs) (length xs)) refl e
 

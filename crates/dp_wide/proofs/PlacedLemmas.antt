@@ -1,4 +1,4 @@
--- An application that is found by its number, or in a list of names, is the one that the wide table has of its name.
+-- An application that is found by its number, or in a list of names, is the one that the wide table has for its name.
 use Rattle.std.proofs.Common.{◌≡◌, ℕ, Bool, true, false, ◌||◌, List, [], ◌∷◌, Option, Some, None, if◌then◌else◌, is_some, refl, ap, sym, ◌∙◌}
 use Rattle.std.specs.Prelude.{codes}
 use Rattle.std.proofs.lemmas.Option.{none-some}
@@ -37,18 +37,18 @@ found_there touches rows blind (a ∷ rest) are name row h =
     by true same later e = sym (blind.row name a.title same) ∙ (are.0 ∙ e)
     by false same later e = later e
 
--- where an application is found in a part of a table, the table has a row
+-- if an application is found in a part of a table, the table has a row for it
 has_there : (part whole : Option Row) → ((row : Row) → part ≡ Some row → whole ≡ Some row) → is_some part ≡ true → is_some whole ≡ true
 has_there None whole there h = absurd (false_is_true h)
 has_there (Some row) whole there h = ap (λ o. is_some o) (there row refl)
 
--- what was run out of a part of a table is what the table runs
+-- what was run from a part of a table is what the table runs
 pub ran_part : (part whole : Option Row) → ((row : Row) → part ≡ Some row → whole ≡ Some row) → (arguments : List ℕ) (cell after : CellOf) (going : Move)
     → after_dispatch part arguments cell ≡ (after, Some going) → after_dispatch whole arguments cell ≡ (after, Some going)
 ran_part None whole there arguments cell after going e = absurd (none-some going (ap (λ p. p.1) e))
 ran_part (Some row) whole there arguments cell after going e = ap (λ o. after_dispatch o arguments cell) (there row refl) ∙ e
 
--- the placed applications stand in the table, without `ExecIf` and with it
+-- the placed applications are in the table, without `ExecIf` and with it
 placed_inner : AreOfTable inner_table.rows placed
 unfolding inner_table placed standard_table going_names outside_applications
 placed_inner = (refl, (refl, (refl, (refl, (refl, (refl, (refl, (refl, (refl, (refl, (refl, (refl, (refl, (refl, (refl, (refl, (refl, (refl, (refl, (refl, (refl, (refl, (refl, (refl, (refl, (refl, (refl, (refl, tt))))))))))))))))))))))))))))
@@ -109,7 +109,7 @@ abbrev RunOutside : Rows → List (List ℕ × List (List ℕ)) → Type 0
 RunOutside rows [] = Unit {0}
 RunOutside rows (a ∷ rest) = (rows a.0 ≡ Some (outside_row a.1 (is_read a.0))) × RunOutside rows rest
 
--- the row of a name by its statuses among some applications
+-- the row of a name, given its statuses among some applications
 abbrev row_among : List (List ℕ × List (List ℕ)) → List ℕ → Row
 row_among applications name = outside_row (unwrap_or (statuses_among applications name) []) (is_read name)
 
@@ -146,7 +146,7 @@ pub outside_has : (name : List ℕ) → is_outside name ≡ true → has_row inn
 outside_has name among =
     ap (λ o. is_some o) (runs_among inner_table.touches inner_table.rows inner_table.blind outside_applications outside_inner name among)
 
--- the same by the row that the list alone gives a name
+-- the same for the row that the list alone gives a name
 pub outside_there : (name : List ℕ) (row : Row) → with_outside no_rows name ≡ Some row → wide_rows name ≡ Some row
 outside_there name row h = by (is_outside name) (outside_runs name) h
   where

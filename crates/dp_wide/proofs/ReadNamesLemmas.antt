@@ -1,4 +1,4 @@
--- The names that `Read` was given, by the maps in which their variable is searched.
+-- The variables of `Read`, given the maps in which their list is looked up.
 use Rattle.std.proofs.Common.{◌≡◌, ℕ, Bool, List, [], ◌∷◌, ◌++◌, Option, Some, None, unwrap_or, refl, ap, ◌∙◌}
 use Rattle.std.specs.Prelude.{is_some, if◌then◌else◌}
 use Rattle.dp_vars.specs.Sights.{ChannelView, channel_map}
@@ -6,7 +6,7 @@ use Rattle.dp_vars.specs.Variables.{Named, first_value, value_or_empty}
 use Rattle.dp_vars.proofs.ValuesLemmas.{set-global, set-stored, value-global, value-stored}
 use Rattle.dp_wide.specs.ReadNames.{read_names}
 
--- a text, where there is one
+-- a text, if there is one
 abbrev some_if : Bool → List ℕ → Option (List ℕ)
 some_if b text = if b then Some text else None
 
@@ -24,7 +24,7 @@ module _ (channel : Option ChannelView) (stored : List Named) (globals : Named) 
       ∙ ap (some_if (is_some (first_value (channel_map channel ∷ (stored ++ globals ∷ [])) read_names)))
       (value-stored channel stored globals read_names text refl is)
 
-  -- the store has it not
+  -- the store does not have it
   pub seen-global : (found : Option (List ℕ)) → None ≡ first_value stored read_names → found ≡ first_value (globals ∷ []) read_names
       → found ≡ (if is_some (first_value (channel_map channel ∷ (stored ++ globals ∷ [])) read_names)
       then Some (value_or_empty (channel_map channel ∷ (stored ++ globals ∷ [])) read_names) else None)

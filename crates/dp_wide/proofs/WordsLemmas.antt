@@ -1,4 +1,4 @@
--- What is found of a name by comparing it with words alone, is found so of each name that is one of some words, where it is of these.
+-- A fact about a name that only depends on comparing it with words holds for each name that is one of them.
 use Rattle.std.proofs.Common.{◌≡◌, ℕ, Bool, true, false, ◌||◌, List, [], ◌∷◌, map, refl, sym, ◌∙◌}
 use Rattle.std.specs.Char.{to_ascii_lowercase}
 use Rattle.std.specs.Cmp.Lexicographic.{pointwise}
@@ -10,17 +10,17 @@ use Rattle.dp_wide.specs.laws.NamesLawful.{lowered}
 false_is_true : false ≡ true → ⊥
 false_is_true e = cc
 
--- what is found by the comparisons of a word is found by those of each of its spellings
+-- the comparisons of a word give the same for each of its spellings
 pub of_spelling : {X : Type 0} (find : (List ℕ → Bool) → X) (name word : List ℕ) → same_word name word ≡ true
     → find (same_word name) ≡ find (same_word word)
 of_spelling find name word same = sym (lowered (λ lower. find (λ title. pointwise nat_eq lower (map to_ascii_lowercase title))) name word same)
 
--- of each of some words the same is found
+-- the same holds for each of some words
 abbrev pub AreFound : {X : Type 0} → ((List ℕ → Bool) → X) → X → List (List ℕ) → Type 0
 AreFound find found [] = Unit {0}
 AreFound find found (word ∷ words) = (find (same_word word) ≡ found) × AreFound find found words
 
--- it is found of each name that is one of these words
+-- it holds for each name that is one of these words
 pub of_words : {X : Type 0} (find : (List ℕ → Bool) → X) (found : X) (words : List (List ℕ)) → AreFound find found words
     → (name : List ℕ) → is_word_of words name ≡ true → find (same_word name) ≡ found
 of_words find found [] are name among = absurd (false_is_true among)

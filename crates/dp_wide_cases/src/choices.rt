@@ -58,7 +58,7 @@ fn push_going(out: &mut String, going: &Option<Move>) -> Result<(), NoMemory> {
     }
 }
 
-/// The variable `A`, where it is set.
+/// The variable `A`, if it is set.
 fn push_variable(out: &mut String, store: &Store<Place>) -> Result<(), NoMemory> {
     let Some(value) = store.get(b"A") else {
         return Ok(());
@@ -67,7 +67,7 @@ fn push_variable(out: &mut String, store: &Store<Place>) -> Result<(), NoMemory>
     push_bytes(out, value)
 }
 
-/// Adds where an application sends a channel that has no variable but `CLOCK`, and the variable `A` after it. Nothing is queued.
+/// Adds where an application sends a channel whose only variable is `CLOCK`, and the variable `A` after it. Nothing is queued.
 fn push_run(
     out: &mut String,
     alloc: Global,
@@ -113,7 +113,7 @@ fn check_runs(alloc: Global) -> Result<(), Fail> {
     check_all::<Ran>(alloc, &[RUNS, DEPTHS])
 }
 
-/// `ExecIf` runs what it chooses, and 8 of them may stand inside each other.
+/// `ExecIf` runs what it chooses, and may be nested 8 deep.
 #[test]
 fn exec_if_runs_the_chosen_application(rt: HostRuntime) -> Result<(), Fail> {
     check_runs(rt.alloc())

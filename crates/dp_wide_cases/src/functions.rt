@@ -103,7 +103,7 @@ fn take_step(alloc: Global, world: &mut World, step: &str) -> Result<(), NoMemor
     set(alloc, world, word, name.as_bytes(), value.as_bytes())
 }
 
-/// Takes the steps between ` ; `.
+/// Takes the steps separated by ` ; `.
 fn take_all(alloc: Global, world: &mut World, steps: &str) -> Result<(), NoMemory> {
     for step in steps.split(" ; ") {
         take_step(alloc, world, step)?;
@@ -111,7 +111,7 @@ fn take_all(alloc: Global, world: &mut World, steps: &str) -> Result<(), NoMemor
     Ok(())
 }
 
-/// Adds what a text is expanded to, and what is unknown in it.
+/// Adds the expansion of a text, and what is unknown in it.
 fn push_expansion(
     out: &mut String,
     alloc: Global,
@@ -131,8 +131,7 @@ fn push_expansion(
     }
 }
 
-/// What stands after the last ` ; ` is expanded to, after the steps between those before it; and ` unknown NAME` where
-/// something in it is not known.
+/// The expansion of the text after the last ` ; `, after the steps before it; and ` unknown NAME` if something in it is not known.
 ///
 /// `set NAME=VALUE` sets a variable, `global` a global, and `gone` takes the channel away. The channel is 7 at `main`, `9-100-7`, 2
 /// with the caller `5551234`.
@@ -169,7 +168,7 @@ fn values_of_functions(rt: HostRuntime) -> Result<(), Fail> {
     check_all::<Expansion>(rt.alloc(), TABLES)
 }
 
-/// So many calls of `CUT` inside each other, over `X`.
+/// This number of nested calls of `CUT`, over `X`.
 fn nested_calls(alloc: Global, depth: usize) -> Result<Vec<u8>, NoMemory> {
     let mut text = Vec::from_slice(alloc, b"${")?;
     for _ in 0..depth {
@@ -183,7 +182,7 @@ fn nested_calls(alloc: Global, depth: usize) -> Result<Vec<u8>, NoMemory> {
     Ok(text)
 }
 
-/// The first field of `a-b`, where so many calls stand inside each other.
+/// The first field of `a-b`, with this number of nested calls.
 struct Nested;
 
 impl Question for Nested {
@@ -203,7 +202,7 @@ impl Question for Nested {
     }
 }
 
-/// At most 8 calls stand inside each other.
+/// At most 8 calls are nested.
 const DEPTHS: &str = r"
 0→a-b
 1→a
@@ -214,7 +213,7 @@ const DEPTHS: &str = r"
 40→ unknown
 ";
 
-/// Calls that stand inside each other too deep are empty and unknown.
+/// Calls that are nested too deep are empty and unknown.
 #[test]
 fn function_calls_nest_up_to_a_limit(rt: HostRuntime) -> Result<(), Fail> {
     check::<Nested>(rt.alloc(), DEPTHS)
@@ -235,8 +234,8 @@ impl Question for Computed {
     }
 }
 
-/// Names of functions are told from those of cells.
+/// Names of functions are distinguished from those of cells.
 #[test]
-fn function_and_cell_names_are_told_apart(rt: HostRuntime) -> Result<(), Fail> {
+fn function_and_cell_names_are_distinguished(rt: HostRuntime) -> Result<(), Fail> {
     check::<Computed>(rt.alloc(), names::FUNCTIONS)
 }

@@ -1,4 +1,4 @@
-//! Cases of the wide table, and of the plain functions over texts and moments that it is made of, as tables with their answers.
+//! Cases of the wide table, and of the plain functions over texts and moments on which it is built, as tables with their answers.
 #![tactic(auto)]
 
 #[cfg(test)]

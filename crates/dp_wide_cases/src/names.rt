@@ -23,25 +23,25 @@ fn machine_of<T: AppTable>(alloc: Global, lines: &str) -> Result<Machine<T>, Fai
     Ok(Machine::new(alloc, plan, Queues::none(alloc))?)
 }
 
-/// Each name of the lists does what its list says, in any case, and other names are those of the table behind them.
+/// Each name of the lists does what its list says, in any case, and other names are those of the table after them.
 #[test]
 fn applications_of_the_lists_go_on_or_wait(rt: HostRuntime) -> Result<(), Fail> {
     check::<Kind>(rt.alloc(), KINDS)
 }
 
-/// What is known of an application that runs outside is told anew each time.
+/// What is known of an application that runs outside is reported anew each time.
 #[test]
 fn applications_outside_clear_their_status(rt: HostRuntime) -> Result<(), Fail> {
     check::<Story>(rt.alloc(), STORIES)
 }
 
-/// What the arguments ask does not stop those that do not look at them.
+/// Unknown arguments do not stop applications that do not look at them.
 #[test]
 fn applications_that_look_at_their_arguments(rt: HostRuntime) -> Result<(), Fail> {
     check::<Ahead>(rt.alloc(), AHEAD)
 }
 
-/// Each name that an application or Asterisk gives a value is told apart from all others.
+/// Each name that an application or Asterisk gives a value is distinguished from all others.
 #[test]
 fn variables_that_applications_or_asterisk_set(rt: HostRuntime) -> Result<(), Fail> {
     check::<Variable>(rt.alloc(), VARIABLES)

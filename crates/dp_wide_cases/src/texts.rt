@@ -1,4 +1,4 @@
-//! Texts that are cut, counted, kept in part or written in one case, worked out by hand from the rules.
+//! Texts that are cut, counted, filtered or written in one case, worked out by hand from the rules.
 mod fields;
 mod letters;
 

@@ -12,7 +12,7 @@ fn check_moments(alloc: Global) -> Result<(), Fail> {
     check::<Read>(alloc, MOMENTS)
 }
 
-/// Moments are read as they are written, with two digits for each number but the year.
+/// Moments are read as they are written, with two digits for each number except the year.
 #[test]
 fn moments_are_read(rt: HostRuntime) -> Result<(), Fail> {
     check_moments(rt.alloc())
@@ -22,7 +22,7 @@ fn check_ranges(alloc: Global) -> Result<(), Fail> {
     check_all::<Lies>(alloc, &[TIMES, WEEKDAYS, DAYS, MONTHS, TOGETHER])
 }
 
-/// Moments lie in ranges of times, weekdays, days and months, which go round.
+/// Moments lie in ranges of times, weekdays, days and months, which may wrap around.
 #[test]
 fn moments_lie_in_ranges(rt: HostRuntime) -> Result<(), Fail> {
     check_ranges(rt.alloc())

@@ -10,7 +10,7 @@ const AHEAD: &str = r"
 # An application that the table lacks, in any case and whatever its arguments are.
 1,While(1)¦?→application While
 1,while(${DB(a)})¦?→application while
-# A cell that nothing wrote, with its argument expanded, and the same cell once something wrote it.
+# A cell that nothing set, with its argument expanded, and the same cell once something set it.
 1,Set(A=${DB(fwd/${X})})¦1 X=200;?→DB(fwd/200)
 1,Set(A=${DB(a)})¦- DB(a)=9;?;step;$A→none, A=9
 1,Set(A=${DB(a)})¦1 DB(a)=9;?;step;$A→none, A=9
@@ -35,7 +35,7 @@ const AHEAD: &str = r"
 1,Set(A=${NAME}${EXTEN})¦?;step;$A→none, A=s
 1,VoiceMail(100)\n2,Set(A=${VMSTATUS})¦step;time;?;1 VMSTATUS=SUCCESS;?;step;$A→VMSTATUS, none, A=SUCCESS
 1,Set(VMSTATUS=OLD)\n2,VoiceMail(1)\n3,Set(A=${VMSTATUS})¦step;$VMSTATUS;step;$VMSTATUS;time;?→VMSTATUS=OLD, VMSTATUS=, VMSTATUS
-# What `Read` was given, until something sets it.
+# The variable of `Read`, until something sets it.
 1,Read(X,beep)\n2,Set(A=${X})¦step;time;?;1 X=42;?;step;$A→X, none, A=42
 1,Set(X=1)\n2,Read(X)\n3,Set(A=${X}${Y})¦step;$X;step;$X;time;?→X=1, X=, X
 1,Read(X)\n2,Read(Y)\n3,Set(A=${Y}${X})¦step;time;step;time;?;1 Y=;?;1 X=7;?;step;$A→Y, X, none, A=7
@@ -44,7 +44,7 @@ const AHEAD: &str = r"
 1,Read(X)\n2,Set(A=${x}${XY}${READ})¦step;time;?;step;$A→none, A=
 1,Read(X)\n2,Set(A=${ISNULL(${X})})¦step;time;?→X
 1,Read(X)\n2,NoOp(${X})¦step;time;?→none
-# An expression that Asterisk may read otherwise, one that is `0`, and a text whose brackets it counts.
+# An expression that Asterisk may read differently, one that is `0`, and a text whose brackets it counts.
 1,GotoIf($[${X} / 2]?2)¦1 X=7;?;1 X=8;?→$[7 / 2], none
 1,Set(A=$[${X} + 1])¦?;step;$A→none, A=0
 1,GotoIf($[\x22${X}\x22 : \x22a+\x22]?2)¦1 X=aa;?→$[\x22aa\x22 : \x22a+\x22]
@@ -79,7 +79,7 @@ const AHEAD: &str = r"
 1,Set(ARRAY()=1)¦?→none
 1,MSet(A=1,ARRAY(INC(X))=2)¦?→asks INC(X)
 1,ExecIf(1?Set(ARRAY(EVAL(x))=1))¦?→asks EVAL(x)
-# The called side goes elsewhere: the option `G` outside parentheses, where there are devices.
+# The called side goes elsewhere: the option `G` outside parentheses, if there are devices.
 1,Dial(SIP/1,20,G(a^s^1))¦?→asks G
 1,Dial(SIP/1,20,tTG(a^s^1)r)¦?→asks G
 1,dial(SIP/1,,G(2))¦?→asks G
@@ -91,7 +91,7 @@ const AHEAD: &str = r"
 1,Dial(SIP/1,20,G)¦?→asks G
 1,ExecIf(1?Dial(SIP/1,20,G(a^s^1)))¦?→asks G
 1,ExecIf(0?Dial(SIP/1,20,G(a^s^1)))¦?→none
-# The side that an `ExecIf` takes, also inside of another one, and the one that it does not take.
+# The side that an `ExecIf` takes, also inside another one, and the one that it does not take.
 1,ExecIf(1?While(1):NoOp())¦?→asks While
 1,ExecIf(0?While(1):NoOp())¦?→none
 1,ExecIf(1?ExecIf(1?Foo(1)))¦?→asks Foo
@@ -144,7 +144,7 @@ const STORIES: &str = r"
 1,Queue(q)\n2,Set(A=${QUEUESTATUS})¦step;step;$A→A=UNKNOWN
 ";
 
-/// What a machine with the wide table answers.
+/// The answer of a machine with the wide table.
 struct Wide;
 
 impl Question for Wide {

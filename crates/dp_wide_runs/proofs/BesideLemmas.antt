@@ -1,4 +1,4 @@
--- Runs that keep something beside where they have stopped: without it they come to what a run does that keeps nothing.
+-- Runs that keep further state besides their stops: without that state they are runs that keep no further state.
 use Rattle.std.proofs.Common.{◌≡◌, ℕ, ◌++◌, ◌||◌, Bool, List, [], ◌∷◌, Option, Some, None, Result, Ok, Err, IfOk, take, refl, ap, subst, ◌∙◌, arith}
 use Rattle.std.specs.Io.KnownBytes.{Appends}
 use Rattle.std.proofs.KnownBytes.{Appends-nil}
@@ -25,13 +25,13 @@ use Rattle.dp_wide_runs.specs.declared.wide_turn.WideTurn.TheVariants.{Plain, Fu
 use Rattle.dp_wide_runs.proofs.RunsLemmas.{plain_run}
 
 module _ {P : Type 0} (after : P → World → Turn → P) (above : P → World → Turn → List ℕ) (above_refusal : Refusal → List ℕ) where
-  -- the turns lead where they lead without it
+  -- without the further state, the turns lead to the same
   state_past-beside : (at : (Stops × P) × World) (turns : List WideTurn)
       → without (state_past (turn_beside after above above_refusal) at turns) ≡ state_past wide_turn (without at) turns
   state_past-beside at [] = refl
   state_past-beside at (turn ∷ turns) = state_past-beside (turn_beside after above above_refusal at turn).state turns
 
-  -- and a turn is refused where it is without it
+  -- and a turn is refused if it is refused without it
   refused_in-beside : (at : (Stops × P) × World) (turns : List WideTurn)
       → refused_in (turn_beside after above above_refusal) at turns ≡ refused_in wide_turn (without at) turns
   refused_in-beside at [] = refl
@@ -70,7 +70,7 @@ module _ {P : Type 0} (after : P → World → Turn → P) (above : P → World 
       subst (λ (at : Stops × P). Writes at world lines) first
       (subst (λ (w : World). Writes runner w lines) opens (subst (λ (held : List (ScriptLine WideTurn)). Writes runner machine held) tells written))
 
--- where nothing is written above, the lines are those of a run without it
+-- if nothing is written above, the lines are those of a run without further state
 module _ {P : Type 0} where
   nothing_above : (beside : P) (w : World) (turn : WideTurn) (given : Option Turn) → above_by (λ p v t. []) (λ r. []) beside w turn given ≡ []
   nothing_above beside w (Plain turn) None = refl
@@ -119,7 +119,7 @@ pub plain_by_status : (given : Result WideRun PbxFault) (result : Result ℕ Pbx
 plain_by_status given (Ok status) has = plain_when given status has
 plain_by_status given (Err fault) has = tt
 
--- what comes after what was refused is refused likewise
+-- a refused result stays refused, whatever comes after it
 next_refused : {X Y : Type 0} (fault : PbxFault) (read : Result X PbxFault) (next : X → Result Y PbxFault) → Refuses (reason_of fault) read
     → Refuses (reason_of fault) (read >>= next)
 next_refused (Coded code line) (Ok x) next refused = absurd cc
@@ -141,7 +141,7 @@ module _ {P : Type 0} (after : P → World → Turn → P) (above : P → World 
   refused_beside (Ok run) NoMemory refused = record { count = 0; within = omega arith; written = Appends-nil old }
   refused_beside (Err given) NoMemory refused = Appends-nil old
 
-  -- nothing is written where the dialplan of a run is refused
+  -- nothing is written if the dialplan of a run is refused
   pub plan_refused : (plan : List ℕ) (queues second_plan : Option (List ℕ)) (script : List ℕ) (fault : PbxFault)
       → Refuses (reason_of fault) (plan_fault (plan_and_notes plan)) → WritesBeside after above above_refusal beside old old (run_of plan queues second_plan script) (Err fault)
   plan_refused plan queues second_plan script fault refused =

@@ -1,4 +1,4 @@
--- What a run with facts gives the machine: known steps alone, and a plain script where it ends with status 0.
+-- What a run with facts gives the machine: only steps ahead of which everything is known, and a plain script if it ends with status 0.
 use Rattle.std.proofs.Common.{◌≡◌, ℕ, Bool, true, false, List, [], ◌∷◌, ◌++◌, Option, Some, None, length, map, suc, refl, ap, subst, sym, ◌∙◌, if◌then◌else◌}
 use Rattle.std.specs.List.{All}
 use Rattle.std.specs.Option.{option_map, option_to_list}
@@ -23,7 +23,7 @@ use Rattle.dp_wide_runs.specs.declared.wide_turn.WideTurn.TheVariants.{Plain, Fu
 true_is_false : true ≡ false → ⊥
 true_is_false e = cc
 
--- a step that is given is known
+-- nothing is unknown ahead of a step that is given to the machine
 step_known : (w : World) (channel : ℕ) (unknown : Option Unknown) → unknown_at w channel ≡ unknown → (turn : Turn)
     → step_given channel unknown ≡ Some turn → IsKnown (meeting w turn)
 step_known w channel None known turn given number is =
@@ -59,14 +59,14 @@ one_known : (at : Stops × World) (turn : WideTurn) (given : Option Turn) → gi
 one_known at turn None as_given = All-nil IsKnown
 one_known at turn (Some given) as_given = All-cons IsKnown (meeting at.1 given) [] (given_known at turn given as_given) (All-nil IsKnown)
 
--- and so is each of a run
+-- and so it is for each step of a run
 pub meetings_known : (at : Stops × World) (script : List WideTurn) → All IsKnown (meetings at script)
 meetings_known at [] = All-nil IsKnown
 meetings_known at (turn ∷ turns) =
     All-append IsKnown (option_to_list (option_map (meeting at.1) (given_as at turn))) (meetings (wide_turn at turn).state turns)
     (one_known at turn (given_as at turn) refl) (meetings_known (wide_turn at turn).state turns)
 
--- a run that has stopped stays so
+-- a run that has stopped stays stopped
 step_stays : (stops : Stops) (w : World) (channel : ℕ) (unknown : Option Unknown) → stops.has_stopped ≡ true
     → (step_turn stops w channel unknown).state.0.has_stopped ≡ true
 step_stays stops w channel None has = has
@@ -100,7 +100,7 @@ not_yet : (has : Bool) (later : Bool) → (has ≡ true → later ≡ true) → 
 not_yet false later stays none = refl
 not_yet true later stays none = absurd (true_is_false (sym (stays refl) ∙ none))
 
--- a turn that is given as one of a plain script, and comes to what that does
+-- a turn that is given as one of a plain script, and has the same result
 record IsGiven (w : World) (after : Stops × World) (lines : List ℕ) (given : Option Turn) : Type 0 where
   as_turn : Turn
   is : given ≡ Some as_turn
@@ -148,7 +148,7 @@ world_past : (w : World) (turn : Turn) (turns : List Turn)
 world_past w (Event event) turns = refl
 world_past w (Show number name) turns = refl
 
--- the turns of a run that goes on, is refused nothing and does not stop
+-- the turns of a run that goes on, has no refusal and does not stop
 pub all_given : (at : Stops × World) (turns : List WideTurn) → at.0.line_is_over ≡ false → refused_in wide_turn at turns ≡ false
     → (state_past wide_turn at turns).0.has_stopped ≡ false → AreAllGiven at turns
 all_given at [] on taken none = record { each = refl; trace = refl; world = refl }

@@ -1,4 +1,4 @@
--- The applications by which an audit follows an endless run go on.
+-- The applications after which an audit follows an endless run go on to the next priority.
 use Rattle.std.proofs.Common.{◌≡◌, ℕ, Bool, true, false, ◌||◌, List, Some, refl, subst}
 use Rattle.std.specs.Prelude.{codes}
 use Rattle.dp_conf.specs.Words.{same_word}
@@ -12,7 +12,7 @@ use Rattle.dp_wide.specs.Settings.{mset_row, set_row}
 use Rattle.dp_wide.specs.Wide.{inner_table, wide_blind, wide_rows, wide_table}
 use Rattle.dp_wide_runs.specs.WideFindings.{goes_on_at_once}
 
--- the wide table leads on from the application of a name
+-- the wide table goes on after the application with a name
 abbrev GoesOn : List ℕ → Type 0
 GoesOn name = (arguments : List ℕ) (cell : CellOf) → (after_dispatch (wide_rows name) arguments cell).1 ≡ Some Next
 

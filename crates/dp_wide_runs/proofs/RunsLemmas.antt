@@ -1,4 +1,4 @@
--- Runs that are known by their texts, and their status.
+-- Runs that are given by their texts, and their status.
 use Rattle.std.proofs.Common.{◌≡◌, ℕ, Bool, true, false, List, Option, Result, Ok, Err, IfOk, refl, subst, sym, ◌∙◌, if◌then◌else◌}
 use Rattle.dp_commands.specs.Turns.{refused_in, state_past}
 use Rattle.dp_commands.specs.declared.fault.PbxFault.{PbxFault}
@@ -7,7 +7,7 @@ use Rattle.dp_wide_runs.specs.Runs.{IsPlain, WideRun, WritesWide, at_first}
 use Rattle.dp_wide_runs.specs.Turns.{Stops, wide_status, wide_turn}
 use Rattle.dp_wide_runs.proofs.GivenLemmas.{all_given}
 
--- the status 0 says that nothing was refused, and that no step was not taken
+-- with status 0 no turn was refused, and every step was taken
 zero_refused : (stops : Stops) (refused : Bool) → wide_status stops refused ≡ 0 → refused ≡ false
 zero_refused stops false zero = refl
 zero_refused stops true zero = absurd cc

@@ -1,4 +1,4 @@
--- Worked cases, computed on the definitions themselves.
+-- Worked cases, computed from the definitions themselves.
 mod Audits
 mod Lines
 mod Turns

@@ -24,7 +24,7 @@ abbrev pub beside_after : {P : Type 0} → (P → World → Turn → P) → P �
 beside_after after beside w None = beside
 beside_after after beside w (Some given) = after beside w given
 
--- the text above the lines of a turn that is given as one of a plain script; empty if it is given as none
+-- the text above the lines of a turn that is given as one of a plain script; empty if it is not given as such a turn
 abbrev pub above_given : {P : Type 0} → (P → World → Turn → List ℕ) → P → World → Option Turn → List ℕ
 above_given above beside w None = []
 above_given above beside w (Some given) = above beside w given

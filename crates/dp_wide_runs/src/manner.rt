@@ -19,10 +19,10 @@ pub(crate) trait Manner: Drop {
     // The manner after a turn that a world meets.
     ghost after: { Self → World → turns → Self };
 
-    // What stands above the line of a turn that a world meets.
+    // The text above the line of a turn that a world meets.
     ghost above: { Self → World → turns → List ℕ };
 
-    // What stands above the line of a pass that is refused.
+    // The text above the line of a pass that is refused.
     ghost above_refusal: { refusals → List ℕ };
 
     /// Gives the machine one turn, and adds its line to the waiting lines, with the text above it. It says whether the turn was refused. It

@@ -135,7 +135,7 @@ fn write_audit<W: WriteTold>(
 /// Loads a dialplan and writes the findings of an audit for some kinds, over this program's applications or over the wide table: a line for
 /// each finding, as [`dp_commands::audit`] does, and then `ok N findings`. The status is 0 if nothing is reported, else 1.
 ///
-/// Over the wide table an application that this table has is no finding, and neither is a variable that nothing sets. After the other
+/// Over the wide table an application that this table has is not a finding, and neither is a variable that nothing sets. After the other
 /// findings come the entries after which a channel goes on in another extension, the endless runs, and the names of functions that Asterisk
 /// lacks.
 ///

@@ -1,4 +1,4 @@
--- After which entries of dialplans a call goes on in another extension, computed on the definition itself.
+-- After which entries of dialplans a call goes on in another extension, computed from the definition itself.
 use Rattle.std.proofs.Common.{◌≡◌, ℕ, ◌-◌, ◌^◌, List, [], ◌∷◌, refl}
 use Rattle.std.specs.Prelude.{codes}
 use Rattle.dp_lookup.specs.FoundEntry.{found_entry}
@@ -58,7 +58,7 @@ own_goes_on : fall_throughs_of (one_context (at plain_100 1 ∷ at plain_100 2 �
 unfolding fall_throughs_of visit found_entry name_cmp spelling
 own_goes_on = refl
 
--- the last priority of all, and the greatest that there is
+-- the last priority of all, and the greatest one
 last_of_all : fall_throughs_of (one_context (at plain_100 1 ∷ at start (2 ^ 31 - 1) ∷ [])) ≡ []
 unfolding fall_throughs_of visit found_entry name_cmp spelling
 last_of_all = refl
@@ -83,7 +83,7 @@ pattern_of_one_text : fall_throughs_of (one_context (at plain_100 1 ∷ at patte
 unfolding fall_throughs_of visit found_entry name_cmp spelling
 pattern_of_one_text = refl
 
--- a priority that `100` lacks in the middle
+-- a missing priority in the middle of `100`
 middle : fall_throughs_of (one_context (at plain_100 1 ∷ at plain_100 3 ∷ at all_digits 2 ∷ [])) ≡ fall_through (id_of 0 0) (id_of 0 2) ∷ []
 unfolding fall_throughs_of visit found_entry name_cmp spelling
 middle = refl
@@ -93,7 +93,7 @@ more_specific : fall_throughs_of (one_context (at plain_100 1 ∷ at all_digits 
 unfolding fall_throughs_of visit found_entry name_cmp spelling
 more_specific = refl
 
--- a pattern that goes on in a looser one is not told
+-- a pattern that goes on in a looser one is not reported
 patterns : fall_throughs_of (one_context (at one_hundred 1 ∷ at all_digits 2 ∷ [])) ≡ []
 unfolding fall_throughs_of visit found_entry name_cmp spelling
 patterns = refl
@@ -107,18 +107,18 @@ letters_by_anything : fall_throughs_of (one_context (at start 1 ∷ at anything 
 unfolding fall_throughs_of visit found_entry name_cmp spelling
 letters_by_anything = refl
 
--- what a call does that comes in at an including context is not told of the included one
+-- the run of a call that comes in at an including context is not reported for the included one
 from_outside : fall_throughs_of (with_include (at all_digits 2 ∷ []) (at plain_100 1 ∷ [])) ≡ []
 unfolding fall_throughs_of visit found_entry name_cmp spelling
 from_outside = refl
 
--- they are told in the order of the file, and not of their names
+-- they are reported in the order of the file, and not of their names
 file_order : fall_throughs_of (one_context (at plain_200 1 ∷ at plain_100 1 ∷ at all_digits 2 ∷ []))
     ≡ fall_through (id_of 0 0) (id_of 0 2) ∷ fall_through (id_of 0 1) (id_of 0 2) ∷ []
 unfolding fall_throughs_of visit found_entry name_cmp spelling
 file_order = refl
 
--- contexts that include each other: each is asked from its own
+-- contexts that include each other: each is looked up from its own
 each_other : fall_throughs_of (plan_of (
     context_of (codes "a") (at plain_100 1 ∷ []) (codes "b" ∷ [])
     ∷ context_of (codes "b") (at all_digits 2 ∷ at plain_200 1 ∷ []) (codes "a" ∷ codes "nowhere" ∷ []) ∷ []))

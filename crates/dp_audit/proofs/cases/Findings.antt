@@ -1,4 +1,4 @@
--- What is found in dialplans, computed on the definitions themselves.
+-- The findings in dialplans, computed from the definitions themselves.
 use Rattle.std.proofs.Common.{◌≡◌, ℕ, Bool, List, [], ◌∷◌, None, Some, refl}
 use Rattle.std.specs.Prelude.{codes, nat_eq}
 use Rattle.std.specs.Cmp.Lexicographic.{pointwise}
@@ -93,9 +93,9 @@ found-patterns : findings_of is_no_op patterns ≡ []
 unfolding findings_of visit found_entry name_cmp spelling missing_targets hidden_from unset_names names_read is_unused
 found-patterns = refl
 
--- ---- beginnings
+-- ---- first priorities
 
--- `1` begins at 2, `2` too, to which an included context gives priority 1, and `3` begins at 1
+-- `1` begins at 2, and so does `2`, for which an included context has priority 1, and `3` begins at 1
 abbrev beginnings : PlanOf
 beginnings = plan_of (
     context_of (codes "a") (
@@ -164,7 +164,7 @@ found-hidden_by_way = refl
 abbrev with_arguments : Entry → List ℕ → Entry
 with_arguments entry arguments = record entry { arguments = arguments }
 
--- a jump to a priority that is not there, from an entry with a label, and a variable that nothing sets beside one that a channel gives
+-- a jump to a priority that does not exist, from an entry with a label, and a variable that nothing sets beside one that a channel gives
 abbrev texts : PlanOf
 texts = plan_of (
     context_of (codes "a") (
@@ -195,7 +195,7 @@ found-held_labels : findings_of is_no_op held_labels ≡ Unused (id_of 0 1) ∷ 
 unfolding findings_of visit found_entry name_cmp spelling missing_targets hidden_from unset_names names_read is_unused answers parts_of has_opening
 found-held_labels = refl
 
--- one that the table has names none by the same arguments
+-- one that the table has names none with the same arguments
 abbrev known_labels : PlanOf
 known_labels = plan_of (
     context_of (codes "a") (

@@ -1,4 +1,4 @@
--- Where calls go from entries of dialplans, and where they come to the same entry again, computed on the definitions themselves.
+-- Where calls go from entries of dialplans, and where they reach the same entry again, computed from the definitions themselves.
 use Rattle.std.proofs.Common.{◌≡◌, ℕ, Bool, ◌||◌, List, [], ◌∷◌, None, Some, refl}
 use Rattle.std.specs.Prelude.{codes, nat_eq}
 use Rattle.std.specs.Cmp.Lexicographic.{pointwise}
@@ -40,7 +40,7 @@ again : after (successor is_onward (one_context (runs start 1 (codes "Answer") [
 unfolding visit found_entry name_cmp parts_of has_opening
 again = refl
 
--- by a label
+-- through a label
 by_label : after (successor is_onward (one_context (record (no_op start 1) { label = Some (codes "top") } ∷ goto start 2 (codes "top") ∷ []))) 2 (id_of 0 1) ≡ Some (id_of 0 1)
 unfolding visit found_entry found_label name_cmp parts_of has_opening
 by_label = refl

@@ -1,4 +1,4 @@
--- Extensions that match, and what decides about each, computed on the definitions themselves.
+-- Extensions that match, and what decides about each, computed from the definitions themselves.
 use Rattle.std.proofs.Common.{◌≡◌, ℕ, List, [], ◌∷◌, None, refl}
 use Rattle.std.specs.Prelude.{codes}
 use Rattle.dp_pattern.specs.Name.{Meaning, Plain, Pattern}
@@ -14,11 +14,11 @@ use Rattle.dp_audit.specs.declared.candidate.Candidate.{Candidate}
 use Rattle.dp_audit.specs.declared.candidate.Verdict.{Verdict}
 use Rattle.dp_audit.specs.declared.candidate.Verdict.TheVariants.{Answers, LessSpecific, LaterContext, NoSuchPriority}
 
--- an entry of this name and priority
+-- an entry with this name and priority
 abbrev entry_of : Meaning → ℕ → Entry
 entry_of name priority = record { name = name; priority = priority; label = None; application = codes "NoOp"; arguments = [] }
 
--- the entry of this number in the context of that one
+-- the entry with this number in the context with that one
 abbrev id_of : ℕ → ℕ → EntryId
 id_of context entry = record { context = context; entry = entry }
 
@@ -28,8 +28,8 @@ candidate_of context entry verdict = record { id = id_of context entry; verdict 
 abbrev one_to_three : List ℕ
 one_to_three = codes "123"
 
--- the first context has `_1[1-3][1-3]` and then `111`, whose priorities stand the wrong way round; it includes the second,
--- which has any name of two characters or more
+-- the first context has `_1[1-3][1-3]` and then `111`, whose priorities are in the wrong order; it includes the second, which has any name
+-- of two characters or more
 abbrev office : PlanOf
 office = record {
   globals = [];
@@ -71,13 +71,13 @@ candidates-plain_first : candidates_of office both_contexts (codes "1-11") 1
 unfolding candidates_of found_entry ranked_of name_cmp spelling
 candidates-plain_first = refl
 
--- a pattern that lacks the priority stands between them
+-- a pattern that lacks the priority comes between them
 candidates-lacking : candidates_of office both_contexts (codes "111") 2
     ≡ candidate_of 0 1 Answers ∷ candidate_of 0 0 NoSuchPriority ∷ candidate_of 1 1 LaterContext ∷ []
 unfolding candidates_of found_entry ranked_of name_cmp spelling
 candidates-lacking = refl
 
--- the first context lacks the priority, so that a later one answers
+-- the first context lacks the priority, so a later one answers
 candidates-later_answers : candidates_of office both_contexts (codes "123") 2
     ≡ candidate_of 0 0 NoSuchPriority ∷ candidate_of 1 1 Answers ∷ []
 unfolding candidates_of found_entry ranked_of name_cmp spelling
@@ -89,7 +89,7 @@ candidates-none_has_it : candidates_of office both_contexts (codes "111") 3
 unfolding candidates_of found_entry ranked_of name_cmp spelling
 candidates-none_has_it = refl
 
--- another order; a number that no context has gives none
+-- another order; a number without a context gives none
 candidates-another_order : candidates_of office (9 ∷ 1 ∷ 0 ∷ []) (codes "123") 1
     ≡ candidate_of 1 0 Answers ∷ candidate_of 0 0 LaterContext ∷ []
 unfolding candidates_of found_entry ranked_of name_cmp spelling

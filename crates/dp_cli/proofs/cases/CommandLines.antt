@@ -1,12 +1,13 @@
--- Command lines, computed on the definition.
+-- Command lines, computed from the definition.
 use Rattle.std.proofs.Common.{◌≡◌, false, [], ◌∷◌, Some, None, codes, refl, true}
 use Rattle.clap.proofs.OnLiterals.{clap_on_literals}
 use Rattle.clap.specs.Faults.{fault_of}
 use Rattle.clap.specs.declared.error.kind.ErrorKind.TheVariants as kind
 use Rattle.dp_program.specs.Entries.{found_entry, found_number}
-use Rattle.dp_program.specs.Requests.{joined, check, check_queues, check_both, listing, auditing, matching, explaining, run, run_wide, debug}
-use Rattle.dp_cli.specs.CommandLine.{pbx_app, asked_of, explains_of}
+use Rattle.dp_program.specs.Requests.{joined, check, check_files, check_queues, check_both, listing, auditing, matching, explaining, run, run_wide, debug}
+use Rattle.dp_cli.specs.CommandLine.{pbx_app, asked_of, options_of}
 use Rattle.dp_cli.specs.Refusals.{refusals_of}
+use Rattle.dp_wide.specs.Times.{moment_of, weekday_named}
 
 no_command : asked_of (codes "pbx" ∷ []) ≡ Some joined
 unfolding clap_on_literals asked_of
@@ -128,25 +129,25 @@ debugged_verbose : asked_of (codes "pbx" ∷ codes "debug" ∷ codes "--break" �
 unfolding clap_on_literals asked_of
 debugged_verbose = refl
 
--- whether each fault is to be explained
-no_command_explains : explains_of (codes "pbx" ∷ []) ≡ false
-unfolding clap_on_literals explains_of
+-- whether faults are explained
+no_command_explains : (options_of (codes "pbx" ∷ [])).explains ≡ false
+unfolding clap_on_literals options_of
 no_command_explains = refl
 
-check_explains : explains_of (codes "pbx" ∷ codes "check" ∷ codes "a.conf" ∷ codes "--explain" ∷ []) ≡ true
-unfolding clap_on_literals explains_of
+check_explains : (options_of (codes "pbx" ∷ codes "check" ∷ codes "a.conf" ∷ codes "--explain" ∷ [])).explains ≡ true
+unfolding clap_on_literals options_of
 check_explains = refl
 
-match_explains_not : explains_of (codes "pbx" ∷ codes "match" ∷ codes "--all" ∷ codes "a.conf" ∷ codes "main" ∷ codes "5" ∷ []) ≡ false
-unfolding clap_on_literals explains_of
+match_explains_not : (options_of (codes "pbx" ∷ codes "match" ∷ codes "--all" ∷ codes "a.conf" ∷ codes "main" ∷ codes "5" ∷ [])).explains ≡ false
+unfolding clap_on_literals options_of
 match_explains_not = refl
 
-debug_explains : explains_of (codes "pbx" ∷ codes "debug" ∷ codes "--explain" ∷ codes "--break" ∷ codes "x" ∷ codes "a.conf" ∷ codes "b.script" ∷ []) ≡ true
-unfolding clap_on_literals explains_of
+debug_explains : (options_of (codes "pbx" ∷ codes "debug" ∷ codes "--explain" ∷ codes "--break" ∷ codes "x" ∷ codes "a.conf" ∷ codes "b.script" ∷ [])).explains ≡ true
+unfolding clap_on_literals options_of
 debug_explains = refl
 
-dashes_explain_not : explains_of (codes "pbx" ∷ codes "run" ∷ codes "a.conf" ∷ codes "--" ∷ codes "--explain" ∷ []) ≡ false
-unfolding clap_on_literals explains_of
+dashes_explain_not : (options_of (codes "pbx" ∷ codes "run" ∷ codes "a.conf" ∷ codes "--" ∷ codes "--explain" ∷ [])).explains ≡ false
+unfolding clap_on_literals options_of
 dashes_explain_not = refl
 
 explain_beside_all : asked_of (codes "pbx" ∷ codes "match" ∷ codes "--all" ∷ codes "--explain" ∷ codes "a.conf" ∷ codes "main" ∷ codes "5" ∷ []) ≡ Some (matching (record { file = codes "a.conf"; context = codes "main"; text = codes "5"; priority = 1 }) true)
@@ -190,7 +191,7 @@ nothing_to_check : refusals_of (codes "pbx" ∷ codes "check" ∷ codes "--expla
 unfolding clap_on_literals refusals_of
 nothing_to_check = refl
 
--- words that are refused for their number alone
+-- words that are refused only for their number
 no_priority : refusals_of (codes "pbx" ∷ codes "match" ∷ codes "a.conf" ∷ codes "main" ∷ codes "5" ∷ codes "0" ∷ []) ≡ kind.ValueValidation ∷ []
 unfolding clap_on_literals refusals_of
 no_priority = refl
@@ -218,3 +219,29 @@ all_twice = refl
 all_numbers : refusals_of (codes "pbx" ∷ codes "run" ∷ codes "--threads" ∷ codes "64" ∷ codes "a.conf" ∷ codes "b.script" ∷ []) ≡ []
 unfolding clap_on_literals refusals_of
 all_numbers = refl
+
+-- ---- the moment by which includes with times are read
+
+with_clock : asked_of (codes "pbx" ∷ codes "check" ∷ codes "--asterisk" ∷ codes "--clock" ∷ codes "fri 2026-11-27 09:30" ∷ codes "a.conf" ∷ []) ≡ Some (check_files (codes "a.conf"))
+unfolding clap_on_literals asked_of moment_of weekday_named
+with_clock = refl
+
+clock_is_told : (options_of (codes "pbx" ∷ codes "list" ∷ codes "--asterisk" ∷ codes "--clock" ∷ codes "fri 2026-11-27 09:30" ∷ codes "a.conf" ∷ [])).clock ≡ Some (codes "fri 2026-11-27 09:30")
+unfolding clap_on_literals options_of
+clock_is_told = refl
+
+no_clock_is_told : (options_of (codes "pbx" ∷ codes "list" ∷ codes "--asterisk" ∷ codes "a.conf" ∷ [])).clock ≡ None
+unfolding clap_on_literals options_of
+no_clock_is_told = refl
+
+clock_without_asterisk : asked_of (codes "pbx" ∷ codes "list" ∷ codes "--clock" ∷ codes "fri 2026-11-27 09:30" ∷ codes "a.conf" ∷ []) ≡ None
+unfolding clap_on_literals asked_of moment_of
+clock_without_asterisk = refl
+
+clock_without_asterisk_refused : refusals_of (codes "pbx" ∷ codes "list" ∷ codes "--clock" ∷ codes "fri 2026-11-27 09:30" ∷ codes "a.conf" ∷ []) ≡ kind.MissingRequiredArgument ∷ []
+unfolding clap_on_literals refusals_of moment_of
+clock_without_asterisk_refused = refl
+
+no_moment_refused : refusals_of (codes "pbx" ∷ codes "list" ∷ codes "--asterisk" ∷ codes "--clock" ∷ codes "friday" ∷ codes "a.conf" ∷ []) ≡ kind.ValueValidation ∷ []
+unfolding clap_on_literals refusals_of moment_of
+no_moment_refused = refl

@@ -7,7 +7,7 @@ use Rattle.dp_commands.specs.Run.{Run}
 use Rattle.dp_commands.specs.Threads.{items_of_seat, events_told, is_call_refused, opened_world, shared_in}
 use Rattle.dp_commands.specs.declared.fault.PbxFault.{PbxFault}
 
--- a seat gave the first so many of its events
+-- a seat gave the first of its events, one for each reply that it has
 abbrev pub GaveFront : ℕ → List Event → Sitting → Type 0
 GaveFront count events seat = events_told seat.told ≡ take (length seat.told) (items_of_seat count seat.number events)
 

@@ -11,7 +11,7 @@ use Rattle.dp_commands.specs.declared.fault.PbxFault.{PbxFault}
 use Rattle.dp_commands.specs.declared.fault.PbxFault.TheVariants.{Coded, NoMemory}
 use Rattle.dp_commands.specs.declared.script.Turn.{Turn}
 
--- how a turn changes a world, without a change to anything beside the world
+-- how a turn changes a world, without a change to the other state
 abbrev pub plainly : {P : Type 0} → P × World → Turn → Taken (P × World)
 plainly at turn = record { state = (at.0, (after_turn at.1 turn).world); lines = (after_turn at.1 turn).line; refused = (after_turn at.1 turn).refused }
 
@@ -21,15 +21,15 @@ Flows None waited new waits bytes = ⊤
 Flows (Some xs) waited None waits bytes = ⊥
 Flows (Some xs) waited (Some ys) waits bytes = (ys ++ waits ≡ xs ++ (waited ++ bytes)) × IsFront xs ys
 
--- the lines of the first so many turns flowed, and nothing else
+-- the lines of the first turns, as many as `count`, flowed, and nothing else
 pub record FlowsFirst {S U : Type 0} (step : S → U → Taken S) (s : S) (turns : List U) (old : Option (List ℕ)) (waited : List ℕ) (new : Option (List ℕ)) (waits : List ℕ) : Type 0 where
   pub count : ℕ
   pub within : count ≤ length turns
   pub flowed : Flows old waited new waits (lines_of step s (take count turns))
 
 -- the result of taking turns from a state, given what was written and waiting before and after: the lines flow, with whether a turn was
--- refused; if a write failed, a prefix of the waiting bytes and the lines was written; if memory ran out, the lines of the first so many
--- turns flowed
+-- refused; if a write failed, a prefix of the waiting bytes and the lines was written; if memory ran out, only the lines of the first turns
+-- flowed
 abbrev pub Streams : {S U : Type 0} → (S → U → Taken S) → S → List U → Option (List ℕ) → List ℕ → Option (List ℕ) → List ℕ → S → Result Bool PbxFault → Type 0
 Streams step s turns old waited new waits after (Ok refused) =
     Flows old waited new waits (lines_of step s turns) × (after ≡ state_past step s turns) × (refused ≡ refused_in step s turns)

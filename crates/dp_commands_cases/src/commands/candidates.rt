@@ -6,7 +6,7 @@ use dp_plan::Priority;
 use std::alloc::Global;
 use std::test::Fail;
 
-/// What is written of a dialplan for a context, a dialled text and a priority, and what that ends with.
+/// The output for a dialplan, a context, a dialled text and a priority, followed by the result.
 fn lines_of(alloc: Global, plan: &[u8], asked: &str) -> Result<String, Fail> {
     let (context, rest) = asked.split_once(' ').ok_or("no text")?;
     let (text, priority) = rest.split_once(' ').ok_or("no priority")?;
@@ -62,16 +62,16 @@ const ROWS: &str = r"
 # the first context lacks the priority, and an included one answers
 [main]\nexten => 7,1,A()\ninclude => more\n[more]\nexten => _X,2,B()\n¦main 7 2→more,_X,2 B\nmain,7,2: no such priority\nmore,_X,2 B: answers\nstatus 0
 
-# an extension that lacks the priority stands between others
+# an extension that lacks the priority comes between others
 [main]\nexten => _!,1,C()\nexten => _X,2,B()\nexten => 1,1,A()\n¦main 1 1→main,1,1 A\nmain,1,1 A: answers\nmain,_X,1: no such priority\nmain,_!,1 C: less specific\nstatus 0
 
-# and stands first
+# and comes first
 [main]\nexten => _!,1,C()\nexten => _X,2,B()\n¦main 1 1→main,_!,1 C\nmain,_X,1: no such priority\nmain,_!,1 C: answers\nstatus 0
 
-# one extension, however it is written and wherever it stands
+# one extension, however it is written and wherever it is
 [main]\nexten => _1[0-9],2,B()\nexten => 5,1,C()\nexten => _1X,1,A()\n[other]\nexten => 12,1,D()\n[main]\nexten => _-1x,3,E()\n¦main 12 3→main,_1X,3 E\nmain,_1X,3 E: answers\nstatus 0
 
-# each context once, where it is reached first
+# each context once, where it is first reached
 [a]\ninclude => b\ninclude => c\n[b]\ninclude => d\n[c]\ninclude => d\nexten => 1,1,C()\n[d]\ninclude => a\nexten => 1,1,D()\n¦a 1 1→d,1,1 D\nd,1,1 D: answers\nc,1,1 C: later context\nstatus 0
 
 # a faulty dialplan

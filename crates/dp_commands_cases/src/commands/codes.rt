@@ -47,7 +47,7 @@ const CODES: [Code; 36] = [
     Code::BadBreak,
 ];
 
-/// Each code as it is printed where it has no line. A failed read and a text that is too long have none.
+/// Each code as it is printed without a line. A failed read and a text that is too long have none.
 const PRINTED: &str = "\
 fault 1 BlockComment
 fault 2 NoSection

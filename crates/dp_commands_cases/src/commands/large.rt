@@ -26,12 +26,12 @@ fn many_started(alloc: Global) -> Result<String, NoMemory> {
     Ok(want)
 }
 
-/// The trace of a run in which nothing is refused, with what it ends with.
+/// The trace of a run in which nothing is refused, followed by its result.
 fn with_status(alloc: Global, trace: &str) -> Result<String, NoMemory> {
     format!(in alloc; "{trace}status 0")
 }
 
-/// Adds what is asked after these calls, and what is wanted of it.
+/// Adds the events after these calls, and their expected answers.
 fn push_refused(text: &mut String, want: &mut String) -> Result<(), NoMemory> {
     text.push_str("start main s\nstep 65536\nstep 65535\nstart main s")?;
     want.push_str("refused 50 NumbersSpent\nrefused 40 NoChannel\n")?;
@@ -50,17 +50,17 @@ fn check_spent(alloc: Global, text: &mut String, want: &mut String) -> Result<()
     check_text::<Run>(alloc, text.as_bytes(), want.as_bytes())
 }
 
-/// After 65,535 calls each further one is refused, and the calls that are there go on.
+/// After 65,535 calls each further one is refused, and the existing calls go on.
 fn check_numbers(alloc: Global) -> Result<(), Fail> {
     let mut text = many_starts(alloc)?;
     let mut want = many_started(alloc)?;
     check_spent(alloc, &mut text, &mut want)
 }
 
-/// A text of which the trace has a line for a call, and so many lines of 38 bytes.
+/// A text whose trace has a line for a call, and this number of lines of 38 bytes.
 const LOOP: &[u8] = b"[main]\nexten => s,1,Goto(1)\n;; script\nstart main s\nstep 1 100000\n";
 
-/// The front of its trace with so many steps, and what is wanted after it.
+/// The beginning of its trace with this number of steps, and the expected rest.
 fn loop_trace(alloc: Global, steps: u32, after: &str) -> Result<String, NoMemory> {
     let mut want = String::new(alloc);
     want.push_str("started 1\n")?;
@@ -71,7 +71,7 @@ fn loop_trace(alloc: Global, steps: u32, after: &str) -> Result<String, NoMemory
     Ok(want)
 }
 
-/// Asserts that so many steps are written whole where the write k of a writer that takes all fails.
+/// Asserts that this number of steps are written whole if write k of a writer that takes everything fails.
 fn check_block(alloc: Global, k: usize, steps: u32) -> Result<(), Fail> {
     let want = loop_trace(alloc, steps, "fault 9 WriteFailed, told")?;
     let writer = make_sink(alloc, usize::MAX, Some(k));
@@ -83,8 +83,8 @@ fn check_whole(alloc: Global) -> Result<(), Fail> {
     check_text::<Run>(alloc, LOOP, want.as_bytes())
 }
 
-/// The greatest count is taken as it stands. The lines go out in blocks: the first is full after 1,617 steps, and each
-/// further one after 1,617 more.
+/// The greatest count is accepted. The lines are written in blocks: the first is full after 1,617 steps, and each further one after 1,617
+/// more.
 fn check_steps(alloc: Global) -> Result<(), Fail> {
     check_whole(alloc)?;
     check_block(alloc, 1, 1_617)?;
@@ -113,7 +113,7 @@ fn check_wide(alloc: Global) -> Result<(), Fail> {
     check_name(alloc, str::from_utf8(&name)?)
 }
 
-/// Which entry answers `77` at priority 1, from the context `c0` on.
+/// The entry that answers `77` at priority 1, from the context `c0` on.
 struct Match77;
 
 impl Command for Match77 {
@@ -135,7 +135,7 @@ fn chain(alloc: Global) -> Result<String, NoMemory> {
     Ok(plan)
 }
 
-/// They are followed to the last one, also where that includes the first.
+/// They are followed to the last one, even if that includes the first.
 fn check_chain(alloc: Global) -> Result<(), Fail> {
     let mut plan = chain(alloc)?;
     let want = b"c9999,77,1 NoOp\nstatus 0";
@@ -144,7 +144,7 @@ fn check_chain(alloc: Global) -> Result<(), Fail> {
     check_text::<Match77>(alloc, plan.as_bytes(), want)
 }
 
-/// A call that enters a subroutine so often, hangs up, and is followed by another.
+/// A call that enters a subroutine this often, hangs up, and is followed by another.
 fn deep_calls(alloc: Global, depth: u32) -> Result<String, NoMemory> {
     format!(in alloc;
         "[main]\nexten => s,1,Gosub(1)\n;; script\nstart main s\nstep 1 {depth}\nhangup 1\nstart main s\n"
@@ -162,14 +162,14 @@ fn deep_trace(alloc: Global, depth: u32) -> Result<String, NoMemory> {
     Ok(want)
 }
 
-/// A thousand frames are entered, and go with the call.
+/// A thousand frames are entered, and are dropped with the call.
 fn check_depth(alloc: Global) -> Result<(), Fail> {
     let text = deep_calls(alloc, 1_000)?;
     let want = deep_trace(alloc, 1_000)?;
     check_text::<Run>(alloc, text.as_bytes(), want.as_bytes())
 }
 
-/// What a dialplan loads as, with its notes explained, where the path of its file is `p`.
+/// The report on loading a dialplan with its notes explained, if the path of its file is `p`.
 struct CheckNoted;
 
 impl Command for CheckNoted {
@@ -178,7 +178,7 @@ impl Command for CheckNoted {
     }
 }
 
-/// A dialplan with a note of each of so many lines.
+/// A dialplan with a note on each of this number of lines.
 fn plan_with_notes(alloc: Global, count: u32) -> Result<String, NoMemory> {
     let mut plan = String::new(alloc);
     plan.push_str("[main]\n")?;
@@ -188,7 +188,7 @@ fn plan_with_notes(alloc: Global, count: u32) -> Result<String, NoMemory> {
     Ok(plan)
 }
 
-/// What is reported of it.
+/// The report on it.
 fn noted_report(alloc: Global, count: u32) -> Result<String, NoMemory> {
     let mut want = String::new(alloc);
     for number in 0..count {

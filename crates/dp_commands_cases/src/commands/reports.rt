@@ -1,4 +1,4 @@
-//! Reports on dialplans: what they write, and what they end with.
+//! Reports on dialplans: their output and results.
 use dp_commands::{PbxFault, check_explained};
 use dp_commands_fixture::{Check, Command, Sink, check_table};
 use dp_conf::Told;
@@ -34,7 +34,7 @@ fn faults_of_lines_are_reported(rt: HostRuntime) -> Result<(), Fail> {
     check_table::<Check>(rt.alloc(), FAULT_LINES)
 }
 
-/// What a dialplan loads as, with its notes explained, where the path of its file is `p`.
+/// The report on loading a dialplan with its notes explained, if the path of its file is `p`.
 struct CheckExplained;
 
 impl Command for CheckExplained {
@@ -43,7 +43,7 @@ impl Command for CheckExplained {
     }
 }
 
-/// Notes with their lines. Of a line at most 200 bytes are shown, and bytes that are not printed as `\xNN`. A fault stands alone.
+/// Notes with their lines. At most 200 bytes of a line are shown, and bytes that are not printed are shown as `\xNN`. A fault comes alone.
 const EXPLAINED: &str = r"
 [main]\nexten => s,1,A\n→ok 1 contexts 1 entries\nstatus 0
 [main]\nabc\n→fault 4 NoEquals line 2

@@ -62,7 +62,7 @@ start a b\n\n; x\nstep 1 2\nstart a c d\nstep 2→start{a}{b}{}step{1}{2}start{a
 step 1\nstep 1\nstep 1\n→step{1}{1}step{1}{1}step{1}{1}
 ";
 
-/// Scripts of which a line is faulty, with its number.
+/// Scripts with a faulty line, and its number.
 const FAULTY: &str = r"
 # Words that no line begins with.
 jump 1→fault 70 BadScript line 1
@@ -111,7 +111,7 @@ show 4294967296 M→fault 70 BadScript line 1
 show 1 M 2→fault 70 BadScript line 1
 show 1 M ;→fault 70 BadScript line 1
 Show 1 M→fault 70 BadScript line 1
-# No result of a call to devices: a word of five has its case, and no other is one.
+# Not a result of a call to devices: only five words are, in capitals.
 result→fault 70 BadScript line 1
 result 1→fault 70 BadScript line 1
 result BUSY→fault 70 BadScript line 1
@@ -140,7 +140,7 @@ start a b\njump→fault 70 BadScript line 2
 start a\nb\n→fault 70 BadScript line 1
 ";
 
-/// Scripts beside a second dialplan. A case is the text of that and the script, parted by `¦`.
+/// Scripts with a second dialplan. A case is the text of that and the script, separated by `¦`.
 const BESIDE_SECOND: &str = r"
 # Each line has its text, whatever that is.
 [main]\nexten => s,1,NoOp()\n¦reload→reload{[main]\nexten => s,1,NoOp()\n}
@@ -224,7 +224,7 @@ impl Question for Scripts {
     }
 }
 
-/// The lines of a script beside a second dialplan, or its fault.
+/// The lines of a script with a second dialplan, or its fault.
 struct BesideSecond;
 
 impl Question for BesideSecond {

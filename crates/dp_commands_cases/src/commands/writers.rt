@@ -6,7 +6,7 @@ use dp_plan::Priority;
 use std::alloc::Global;
 use std::test::Fail;
 
-/// Which entry of `main` answers `23` at priority 1.
+/// The entry of `main` that answers `23` at priority 1.
 pub(super) struct Match23;
 
 impl Command for Match23 {
@@ -58,13 +58,13 @@ ran 1 main,100,2 Goto -> ready main,200,1\nran 1 main,200,1 Hangup -> ended\n";
 /// A dialplan with something to report.
 const NOTED: &[u8] = b"[main]\nexten => _NX,1,NoOp()\ninclude => out\n";
 
-/// What `check` writes of it.
+/// The output of `check` for it.
 const CHECKED: &[u8] = b"note 3 UnknownContext\nok 1 contexts 1 entries\n";
 
 /// The entry that answers `23`.
 const MATCHED: &[u8] = b"main,_NX,1 NoOp\n";
 
-/// Some bytes, and others after them.
+/// Some bytes, followed by others.
 fn with_after(alloc: Global, bytes: &[u8], after: &[u8]) -> Result<Vec<u8>, NoMemory> {
     let mut all = Vec::from_slice(alloc, bytes)?;
     all.extend_from_slice(after)?;
@@ -83,8 +83,8 @@ fn check_failing<C: Command>(
     check_into::<C>(alloc, text, make_sink(alloc, step, Some(k)), &want)
 }
 
-/// One byte at a time, a text is as many writes as it has bytes: where write k fails, the bytes before it were written. Where none
-/// fails, the command ends with its status.
+/// One byte at a time, a text is as many writes as it has bytes: if write k fails, the bytes before it were written. If none fails, the
+/// command ends with its status.
 fn check_each<C: Command>(
     alloc: Global,
     text: &[u8],
@@ -108,12 +108,12 @@ fn commands_stop_at_the_first_failed_write(rt: HostRuntime) -> Result<(), Fail> 
     check_failing::<Run>(rt.alloc(), RUN, (4096, 0), b"")
 }
 
-/// Asserts that a command does not ask a writer that always fails.
+/// Asserts that a command does not use a writer that always fails.
 fn check_unasked<C: Command>(alloc: Global, text: &[u8], want: &[u8]) -> Result<(), Fail> {
     check_into::<C>(alloc, text, make_sink(alloc, 1, Some(0)), want)
 }
 
-/// Nothing is written of a faulty text, nor where nothing happens.
+/// Nothing is written for a faulty text, nor if nothing happens.
 #[test]
 fn faulty_texts_and_empty_runs_write_nothing(rt: HostRuntime) -> Result<(), Fail> {
     check_unasked::<Run>(rt.alloc(), b"[main]\nabc\n", b"fault 4 NoEquals line 2")?;

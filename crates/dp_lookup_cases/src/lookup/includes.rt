@@ -2,7 +2,7 @@
 
 /// Contexts with includes.
 pub(super) const INCLUDES: &str = r"
-# A context goes before its includes, also with a less specific name.
+# A context comes before its includes, even with a less specific name.
 [a]\ninclude => b\nexten => _X,1,any\n[b]\nexten => 5,1,five\nexten => 55,1,more\n
 from a
 find 5,1→a any
@@ -13,7 +13,7 @@ find 5,1→b five
 find 55,1→b more
 find 6,1→none
 
-# A priority may lie in an include.
+# A priority may be in an include.
 [a]\nexten => 5,1,own\ninclude => b\n[b]\nexten => 5,1,first\nexten => _X,2,second\n
 from a
 find 5,1→a own
@@ -98,13 +98,13 @@ find s,1→none
 from main
 find 1,1→main all
 
-# So does any context of a dialplan that has none, and its order is empty.
+# So does any context of a dialplan without contexts, and its order is empty.
 from main
 find 1,1→none
 find s,1→none
 order→
 
-# An include of an unknown context is passed over.
+# An include of an unknown context is skipped.
 [a]\ninclude => x\ninclude => b\ninclude => B\n[b]\nexten => 1,1,b\ninclude => y\n
 from a
 find 1,1→b b
@@ -116,7 +116,7 @@ find 1,1→none
 from a
 find 1,1→none
 
-# Sections of one name are one context, and an include may stand before the context.
+# Sections with one name are one context, and an include may come before the context.
 [a]\ninclude => c\nexten => _X,1,any\n[b]\nexten => 1,1,b\n[a]\nexten => 1,1,one\ninclude => b\n[c]\nexten => 1,2,c\nexten => 22,1,c\n
 from a
 find 1,1→a one

@@ -21,7 +21,7 @@ from main
 label 5,out→9
 label 6,out→3
 
-# A label may lie at a less specific name: a more specific one without it does not stand in its way.
+# A label may belong to a less specific name: a more specific name without it does not hide it.
 [main]\nexten => 5,1,five\nexten => _X,2(out),any\nexten => _.,7(last),all\n
 from main
 label 5,out→2
@@ -30,14 +30,14 @@ label s,last→7
 label s,out→none
 find 5,2→main any
 
-# A label may lie in an include.
+# A label may be in an include.
 [a]\nexten => 1,1,own\ninclude => b\n[b]\nexten => _X,4(there),b\n
 from a
 label 1,there→4
 label 12,there→none
 label 1,own→none
 
-# The label of the context goes before that of an include.
+# The label of the context comes before that of an include.
 [a]\ninclude => b\nexten => _X,2(l),a\n[b]\nexten => 5,7(l),b\n
 from a
 label 5,l→2
@@ -47,7 +47,7 @@ label 6,l→none
 from c
 label 5,l→none
 
-# The first line of a label is found: a second one with a label that the extension has is dropped.
+# The first line with a label is found: a second line with a label that the extension has is dropped.
 [main]\nexten => 5,8(l),first\nexten => 5,2(l),second\nexten => 5,n(m),last\n
 from main
 label 5,l→8

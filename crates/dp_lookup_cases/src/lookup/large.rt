@@ -22,7 +22,7 @@ fn chain(alloc: Global, last_line: &str) -> Result<Dialplan, Fail> {
     load_plan(alloc, text.as_bytes())
 }
 
-/// The entry of `77` from a context, and how long the context's order is.
+/// The entry of `77` from a context, and the length of the context's order.
 fn find_77(
     alloc: Global,
     plan: &Dialplan,
@@ -38,7 +38,7 @@ const LAST: EntryId = EntryId {
     entry: 0,
 };
 
-/// The last context's entry is found from each of these contexts, in an order of so many contexts.
+/// The last context's entry is found from each of these contexts, in an order of this number of contexts.
 fn check_contexts(
     rt: &impl Abort,
     alloc: Global,

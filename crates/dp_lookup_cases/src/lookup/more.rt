@@ -61,7 +61,7 @@ more 14→more
 more 144→no more
 more 13→no more
 
-# Priority 1 alone counts.
+# Only priority 1 counts.
 [main]\nexten => 12,2,two\nexten => _3X,3,three\nexten => _3XX,1,one\n
 from main
 more 1→no more

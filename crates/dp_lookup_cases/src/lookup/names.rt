@@ -24,7 +24,7 @@ find 0,1→main x
 find 33,1→none
 find -,1→none
 
-# Patterns of equal classes are one name.
+# Patterns with equal classes are one name.
 [main]\nexten => _NX,1,first\nexten => _[2-9]X,2,second\nexten => _[2-9]X,1,late\n
 from main
 find 45,1→main first
@@ -47,7 +47,7 @@ find 23,1→main early
 find 12,1→main late
 find 13,1→none
 
-# At the place where patterns differ the end comes first, then classes, then `.`, then `!`.
+# At the first difference of two patterns the end comes first, then classes, then `.`, then `!`.
 [main]\nexten => _1!,1,bang\nexten => _1.,1,dot\nexten => _1X,1,class\n
 from main
 find 1,1→main bang
@@ -117,7 +117,7 @@ find X,1→main plain
 find x.,1→main text
 find xx,1→none
 
-# Dashes count neither in a name nor in dialled text.
+# Dashes do not count, in a name or in dialled text.
 [main]\nexten => 5-55,1,plain\nexten => _5-XX,1,pattern\nexten => -_6.,1,dot\n
 from main
 find 555,1→main plain

@@ -8,8 +8,8 @@ use std::alloc::Global;
 use std::process::Abort;
 use std::test::Fail;
 
-/// `a` includes `b` and `c`, which include `d`; `e` and `f` include each other and themselves, and a context that there
-/// is not; `g` includes nothing.
+/// `a` includes `b` and `c`, which include `d`; `e` and `f` include each other and themselves, and a context that does not exist; `g`
+/// includes nothing.
 const PLAN: &[u8] = b"[a]\ninclude => b\ninclude => c\n[b]\ninclude => d\n\
 [c]\ninclude => d\ninclude => b\ninclude => a\n[d]\n\
 [e]\ninclude => e\ninclude => x\ninclude => f\ninclude => f\n\
@@ -41,7 +41,7 @@ fn check_order(
     Ok(())
 }
 
-/// A new order of the context is the one that is wanted.
+/// A new order of the context is the expected one.
 fn check_new(
     rt: &impl Abort,
     alloc: Global,
@@ -53,7 +53,7 @@ fn check_new(
     check_order(rt, alloc, plan, &order, want)
 }
 
-/// An order of the context and a new one are those that are wanted.
+/// An order of the context and a new one are the expected ones.
 fn check_both(
     rt: &impl Abort,
     alloc: Global,
@@ -66,7 +66,7 @@ fn check_both(
     check_new(rt, alloc, plan, context, want)
 }
 
-/// Fills the order again and again, and holds it, and a new one each time, against the one that is wanted.
+/// Fills the order again and again, and compares it, and a new one each time, with the expected one.
 fn refill(
     rt: &impl Abort,
     alloc: Global,
@@ -90,7 +90,7 @@ fn check_orders(rt: &impl Abort, alloc: Global, plan: &Dialplan) -> Result<(), F
     refill(rt, alloc, plan, &mut order)
 }
 
-/// Orders are depth first, and an order that is filled again holds nothing of what stood in it before.
+/// Orders are depth first, and an order that is filled again keeps nothing of its earlier contents.
 #[test]
 fn search_orders_are_depth_first(rt: HostRuntime) -> Result<(), Fail> {
     visit_is_the_visit();

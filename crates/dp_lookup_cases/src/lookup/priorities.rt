@@ -1,8 +1,8 @@
-//! Which entry is found where several names have the priority, worked out by hand from the rules.
+//! Which entry is found if several names have the priority, worked out by hand from the rules.
 
 /// Names that have priorities of their own.
 pub(super) const PRIORITIES: &str = r"
-# The priority is asked before the name.
+# The priority is checked before the name.
 [main]\nexten => _X,3,any\nexten => _N,2,digit\nexten => 5,1,five\n
 from main
 find 5,1→main five
@@ -15,7 +15,7 @@ find 1,3→main any
 find 2,1→none
 find 2,2→main digit
 
-# Lines stand in any order.
+# Lines may be in any order.
 [main]\nexten => _X,2,other\nexten => 5,3,three\nexten => _X,1,any\nexten => 5,1,one\nexten => _X,3,last\n
 from main
 find 5,1→main one
@@ -25,7 +25,7 @@ find 6,1→main any
 find 6,2→main other
 find 6,3→main last
 
-# A gap is no entry.
+# A gap is not an entry.
 [main]\nexten => 1,1,one\nexten => 1,3,three\n
 from main
 find 1,0→none
@@ -42,7 +42,7 @@ find 1,2147483647→main last
 find 1,2147483648→none
 find 1,4294967295→none
 
-# The line that is kept of two for one place, the first, is the one that is found.
+# Of two lines for one place the first is kept, and is found.
 [main]\nexten => 1,1,first\nexten => 1,1,second\nexten => _X,1,any\n
 from main
 find 1,1→main first

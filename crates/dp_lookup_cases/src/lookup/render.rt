@@ -146,7 +146,7 @@ fn check_row(
     check_answer(asked, &got, want, of)
 }
 
-/// Holds each answer in the order of one context against the one that is wanted. `of` says where the rows stand.
+/// Compares each answer in the order of one context with the expected one. `of` says where the rows are.
 fn check_rows(
     alloc: Global,
     plan: &Dialplan,
@@ -171,7 +171,7 @@ pub(crate) fn order_from(
     Ok(order)
 }
 
-/// The rows that stand after the name of a context.
+/// The rows after the name of a context.
 fn check_context(alloc: Global, plan: &Dialplan, of: &str, asked: &str) -> Result<(), Fail> {
     let (name, rows) = asked.split_once('\n').ok_or("no rows")?;
     let order = order_from(alloc, plan, name.as_bytes())?;
@@ -191,7 +191,7 @@ pub(crate) fn load_plan(alloc: Global, text: &[u8]) -> Result<Dialplan, Fail> {
     Ok(plan)
 }
 
-/// The dialplan that stands on the last of these lines, and an empty one where that is a heading.
+/// The dialplan on the last of these lines, or an empty one if that is a heading.
 fn plan_of(alloc: Global, head: &str) -> Result<Dialplan, Fail> {
     let line = match head.rsplit_once('\n') {
         Some((_, line)) => line,
@@ -207,7 +207,7 @@ fn check_block(alloc: Global, block: &str) -> Result<(), Fail> {
     check_contexts(alloc, &plan, head, contexts)
 }
 
-/// Holds the answers to the questions of a table against those that are wanted.
+/// Compares the answers to the questions of a table with the expected ones.
 ///
 /// A table has blocks with an empty line between them. A block is a heading, a line with the dialplan, and for each
 /// context that is asked a line `from CONTEXT` with its rows after it. A row is a question, an arrow and the answer:

@@ -10,7 +10,7 @@ find 124,1→main three
 find 12,1→main any
 find 1,1→none
 
-# Wildcards: `!` may stand for nothing, `.` comes before `!` and alone lets a text go on.
+# Wildcards: `!` may match nothing, `.` comes before `!`, and only `.` lets a text go on.
 [main]\nexten => s,1,WaitExten(5)\nexten => _1!,1,bang\nexten => _1.,1,dot\n
 from main
 find 1,1→main bang
@@ -23,7 +23,7 @@ find 1,1→main bang
 find 12,1→main bang
 more 1→no more
 
-# The priority is asked together with the name.
+# The priority is checked together with the name.
 [main]\nexten => 123,1,one\nexten => _X.,1,other\nexten => _X.,2,two\n
 from main
 find 123,1→main one

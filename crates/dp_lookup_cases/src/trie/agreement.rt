@@ -1,4 +1,4 @@
-//! Generated dialplans, of which the tries and the look-up in the dialplan are asked the same questions.
+//! Generated dialplans, whose tries are asked the same questions as the look-up in the dialplan.
 use crate::lookup::render::load_plan;
 use crate::trie::render::{TrieFrom, trie_from};
 use dp_lookup::{could_be_more, find, find_label};
@@ -52,7 +52,7 @@ fn push_contexts(text: &mut String, seed: &mut u32) -> Result<(), NoMemory> {
     Ok(())
 }
 
-/// A dialplan of two contexts, of which the first includes the second.
+/// A dialplan of two contexts, the first of which includes the second.
 fn plan_text(alloc: Global, seed: &mut u32) -> Result<String, NoMemory> {
     let mut text = String::new(alloc);
     push_contexts(&mut text, seed)?;
@@ -68,7 +68,7 @@ fn push_text(text: &mut Vec<u8>, seed: &mut u32) -> Result<(), NoMemory> {
     Ok(())
 }
 
-/// Whether the tries and the look-up in the dialplan give the same answers of a text.
+/// Whether the tries and the look-up in the dialplan give the same answers for a text.
 fn agree(plan: &Dialplan, from: &TrieFrom, text: &[u8], number: u32) -> bool {
     let TrieFrom { trie, order } = from;
     let label: &[u8] = if number == 1 { b"l1" } else { b"l2" };
@@ -77,7 +77,7 @@ fn agree(plan: &Dialplan, from: &TrieFrom, text: &[u8], number: u32) -> bool {
         && trie.more(order, text) == could_be_more(plan, order, text)
 }
 
-/// Asks a generated dialplan of this text, and holds the count against its bound.
+/// Asks a generated dialplan about this text, and compares the count with its bound.
 fn ask(rt: &impl Abort, text: &str, plan: &Dialplan, from: &TrieFrom, asked: &[u8], number: u32) {
     assert!(rt;
         agree(plan, from, asked, number),
@@ -125,7 +125,7 @@ fn check_generated(rt: &impl Abort, alloc: Global, seed: &mut u32) -> Result<(),
     check_plan(rt, alloc, &text, seed)
 }
 
-/// Thirty dialplans, of each of which 336 questions are asked.
+/// Thirty dialplans, each with 336 questions.
 #[test]
 fn tries_agree_with_the_look_up_in_the_dialplan(rt: HostRuntime) -> Result<(), Fail> {
     let mut seed = 1;

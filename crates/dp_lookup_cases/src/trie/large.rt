@@ -24,7 +24,7 @@ fn long_name(alloc: Global) -> Result<Dialplan, Fail> {
     load_plan(alloc, text.as_bytes())
 }
 
-/// The entry of so many digits, as the trie and as the look-up in the dialplan find it.
+/// The entry for this number of digits, as the trie and the look-up in the dialplan find it.
 fn find_digits(
     alloc: Global,
     plan: &Dialplan,
@@ -66,7 +66,7 @@ fn check_long_name(rt: &impl Abort, alloc: Global) -> Result<(), Fail> {
     check_digits(rt, alloc, &plan)
 }
 
-/// A name of 1,000,000 classes is matched by as many digits, and not by one fewer, in tries and in dialplans alike.
+/// A name of 1,000,000 classes is matched by as many digits, and not by one fewer, both in tries and in dialplans.
 #[test]
 fn a_long_name_is_matched(rt: HostRuntime) -> Result<(), Fail> {
     check_long_name(&rt, rt.alloc())
@@ -114,7 +114,7 @@ fn check_many_labels(rt: &impl Abort, alloc: Global) -> Result<(), Fail> {
     check_labels(rt, alloc, &plan)
 }
 
-/// Each of 10,000 labels of one extension is found, by a text that matches it alone.
+/// Each of 10,000 labels of one extension is found, by a text that only it matches.
 #[test]
 fn many_labels_are_found(rt: HostRuntime) -> Result<(), Fail> {
     check_many_labels(&rt, rt.alloc())

@@ -23,7 +23,7 @@ pub(super) fn trie_from(
     Ok(TrieFrom { trie, order })
 }
 
-/// Adds the entry of a priority, as both calls find it, or the count of nodes entered.
+/// Adds the entry of a priority, as both functions find it, or the count of nodes entered.
 fn push_counted(
     out: &mut String,
     plan: &Dialplan,
@@ -99,7 +99,7 @@ fn check_from(alloc: Global, plan: &Dialplan, context: &[u8], rows: &str) -> Res
     check_all_told(alloc, plan, &from, rows)
 }
 
-/// Loads the dialplan and makes its tries, and holds each answer from the context against the one that is wanted.
+/// Loads the dialplan and makes its tries, and compares each answer from the context with the expected one.
 ///
 /// A row is a question, an arrow and the answer: `find TEXT,PRIORITY` is `CONTEXT APPLICATION` or `none`,
 /// `count TEXT,PRIORITY` the count of nodes entered, `label TEXT,LABEL` the priority or `none`, and `more TEXT` is `more`

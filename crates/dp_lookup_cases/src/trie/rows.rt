@@ -54,7 +54,7 @@ fn check_trie(rt: &impl Abort, alloc: Global, plan: &Dialplan) -> Result<(), Fai
     Ok(())
 }
 
-/// A tree of four nodes, and none where there is no such context.
+/// A tree of four nodes, and none if there is no such context.
 fn check_nodes(rt: &impl Abort, alloc: Global, text: &[u8]) -> Result<(), Fail> {
     let plan = load_plan(alloc, text)?;
     check_trie(rt, alloc, &plan)
@@ -76,8 +76,7 @@ count ,1→0";
     check_nodes(&rt, rt.alloc(), text)
 }
 
-/// The entries of one name have one end, also where one of them has a label: the class and the end are entered, whichever
-/// priority is asked for.
+/// The entries of one name have one end, even if one of them has a label: the class and the end are entered, for whichever priority.
 #[test]
 fn priorities_of_one_name_share_an_end_node(rt: HostRuntime) -> Result<(), Fail> {
     let text = b"[main]\ninclude => far\nexten => _X,1,one\nexten => _X,2(here),two\n\
@@ -102,7 +101,7 @@ count 5,2→3";
     check_tries(rt.alloc(), text, b"far", asked)
 }
 
-/// The nodes that are entered count in each context that is asked, up to the one that answers.
+/// The nodes that are entered count in each context that is searched, up to the one that answers.
 #[test]
 fn look_ups_in_several_contexts(rt: HostRuntime) -> Result<(), Fail> {
     let text = b"[a]\ninclude => b\nexten => 5,1,own\nexten => _X,4(out),any\n[b]\ninclude => a\n\

@@ -1,5 +1,5 @@
--- Events of a channel that waits for what comes of its call to devices, and events from outside: another dialplan, a name that is
--- set, and a redirection. Their answers are computed on the definitions themselves.
+-- Events of a channel that waits for the result of its call to devices, and events from outside: a reload, a name that is set, and a
+-- redirection. Their replies are computed from the definitions themselves.
 use Rattle.std.proofs.Common.{◌≡◌, ℕ, Bool, true, false, List, [], ◌∷◌, None, Some, refl}
 use Rattle.std.specs.FinMap.{empty, insert}
 use Rattle.std.specs.Prelude.{codes}
@@ -39,7 +39,7 @@ plan = record {
   contexts = (record { name = codes "main"; entries = entry (codes "s") 1 ∷ entry (codes "s") 2 ∷ entry (codes "h") 1 ∷ []; includes = [] }) ∷ [];
 }
 
--- a dialplan with nothing in it
+-- an empty dialplan
 abbrev empty_plan : PlanOf
 empty_plan = record { globals = []; contexts = [] }
 
@@ -50,7 +50,7 @@ at exten priority = record { context = codes "main"; exten = exten; priority = p
 abbrev channel : Place → Phase → Channel
 channel place phase = record { place = place; phase = phase; is_closing = false; caller = codes "7"; store = nothing }
 
--- a channel that waits for its call to devices, by whether it goes on and whether it has a timer
+-- a channel that waits for its call to devices, given whether it goes on afterwards and whether it has a timer
 abbrev dials : Bool → Bool → Channel
 dials goes_on has_timer = channel (at (codes "s") 1) (Dialling goes_on has_timer)
 
@@ -58,7 +58,7 @@ dials goes_on has_timer = channel (at (codes "s") 1) (Dialling goes_on has_timer
 abbrev with_dial_status_of : List ℕ → Channel → Channel
 with_dial_status_of status c = record c { store = set nothing (codes "DIALSTATUS") status }
 
--- the channel that goes on, and the one that is hung up and runs `h`
+-- the channel that goes on, and the channel that is hung up and runs `h`
 abbrev goes : Channel
 goes = channel (at (codes "s") 2) Ready
 
@@ -113,20 +113,20 @@ poll-dials : after (dials false true) (Poll 1) ≡ (world (dials false true), Re
 unfolding poll_row
 poll-dials = refl
 
--- another dialplan leaves the channels, and one with a fault leaves all
+-- a reload leaves the channels unchanged, and one with a fault leaves everything unchanged
 reload-taken : reloaded_by standard_functions (world (dials false true)) (Some empty_plan) ≡ (record (world (dials false true)) { plan = empty_plan }, Done)
 reload-taken = refl
 
 reload-refused : reloaded_by standard_functions (world (dials false true)) None ≡ (world (dials false true), Refused BadPlan)
 reload-refused = refl
 
--- a name that is set from outside is the channel's variable, also while the channel waits
+-- a name that is set from outside is the channel's variable, even while the channel waits
 assign-variable : after (dials false true) (Assign (Some 1) (codes "A") (codes "5")) ≡
     (world (record (dials false true) { store = set nothing (codes "A") (codes "5") }), Done)
 unfolding assign_row
 assign-variable = refl
 
--- with no channel it is a global
+-- without a channel it is a global
 assign-global : after goes (Assign None (codes "A") (codes "5")) ≡
     (world_of plan (goes ∷ []) (record { globals = insert empty (codes "A") (codes "5"); queues = record { queues = []; agents = []; finished = 0 } }), Done)
 assign-global = refl
@@ -139,7 +139,7 @@ assign-ended = refl
 assign-no_channel : after goes (Assign (Some 2) (codes "A") (codes "5")) ≡ (world goes, Refused NoChannel)
 assign-no_channel = refl
 
--- a channel that waits for a time goes to the place at once
+-- a channel in a pause goes to the place at once
 redirect-paused : after (channel (at (codes "s") 1) Pause) (Redirect 1 (at (codes "9") 3)) ≡ (world (channel (at (codes "9") 3) Ready), Done)
 unfolding redirect_row
 redirect-paused = refl

@@ -1,4 +1,4 @@
--- Targets, steps and events whose answers are computed on the definitions themselves.
+-- Targets, steps and events, whose replies are computed from the definitions themselves.
 use Rattle.std.proofs.Common.{◌≡◌, ℕ, Bool, true, false, List, [], ◌∷◌, Option, Some, None, refl}
 use Rattle.std.specs.FinMap.{empty, insert}
 use Rattle.std.specs.Prelude.{codes}
@@ -67,7 +67,7 @@ at exten priority = record { context = codes "main"; exten = exten; priority = p
 abbrev bare : List ℕ → ℕ → Place
 bare exten priority = record { context = codes "bare"; exten = exten; priority = priority }
 
--- targets of a channel that stands at priority 1 of `100` in `main`
+-- targets of a channel at priority 1 of `100` in `main`
 
 target-own_parts : target_place plan (at (codes "100") 1) (Parts (codes "2" ∷ [])) ≡ Some (at (codes "100") 2)
 unfolding parts_place
@@ -112,7 +112,7 @@ target-no_part : target_place plan (at (codes "100") 1) (Parts []) ≡ None
 unfolding parts_place
 target-no_part = refl
 
--- a label is searched for in the target's own extension
+-- a label is looked up in the target's own extension
 target-label : target_place plan (at (codes "100") 1) (Parts (codes "end" ∷ [])) ≡ Some (at (codes "100") 3)
 unfolding parts_place label_found found_label visit
 target-label = refl
@@ -125,7 +125,7 @@ target-label_absent : target_place plan (at (codes "100") 1) (Parts (codes "away
 unfolding parts_place label_found found_label visit
 target-label_absent = refl
 
--- a target that has to be there
+-- a target that must exist
 target-existing : target_place plan (at (codes "100") 1) (Existing (codes "200" ∷ codes "4" ∷ [])) ≡ Some (at (codes "200") 4)
 unfolding parts_place is_found found_entry visit
 target-existing = refl
@@ -137,7 +137,7 @@ target-not_existing = refl
 target-place : target_place plan (at (codes "100") 1) (To (bare (codes "9") 5)) ≡ Some (bare (codes "9") 5)
 target-place = refl
 
--- a table of three: `Call` makes its arguments the caller, `Goto` goes where its arguments say, and `Wait` waits
+-- a table of three applications: `Call` makes its arguments the caller's number, `Goto` goes where its arguments say, and `Wait` waits
 abbrev call : Row
 call arguments cell = record { cell = record cell { caller = arguments }; next = Next }
 
@@ -154,21 +154,21 @@ meanings = with_standard_functions (with_row (codes "Call") call (with_row (code
 abbrev blank_shared : SharedState
 blank_shared = record { globals = empty; queues = record { queues = []; agents = []; finished = 0 } }
 
--- a call by `7` with no variables
+-- a call from `7` without variables
 abbrev channel : Place → Phase → Bool → Channel
 channel place phase closing = record { place = place; phase = phase; is_closing = closing; caller = codes "7"; store = nothing }
 
--- a step of the channel of number 1
+-- a step of channel 1
 abbrev step : Channel → Own
 step c = step_row meanings plan blank_shared 1 c
 
--- arguments are expanded for the channel, and the application writes the channel
+-- arguments are expanded for the channel, and the application changes the channel
 step-next : step (channel (at (codes "100") 1) Ready false) ≡
     record { channel = record (channel (at (codes "100") 2) Ready false) { caller = codes "57" }; shared = blank_shared; reply = Ran (record { context = 0; entry = 0 }) }
 unfolding step_row entry_found found_entry visit arguments_seen reading_of levels expansion_of_with group_value_with head_value_with cut_outside
 step-next = refl
 
--- names are compared in any ASCII case
+-- names of applications are compared in any ASCII case
 step-jump : step (channel (at (codes "100") 2) Ready false) ≡
     record { channel = channel (at (codes "100") 3) Ready false; shared = blank_shared; reply = Ran (record { context = 0; entry = 1 }) }
 unfolding step_row entry_found found_entry visit arguments_seen reading_of levels expansion_of_with parts_place label_found found_label
@@ -179,7 +179,7 @@ step-park : step (channel (at (codes "100") 3) Ready false) ≡
 unfolding step_row entry_found found_entry visit arguments_seen reading_of levels expansion_of_with
 step-park = refl
 
--- a target that is not there is a hang-up, which goes on at `h`
+-- a target that does not exist is a hang-up, which continues at `h`
 step-no_target : step (channel (at (codes "200") 2) Ready false) ≡
     record { channel = channel (at (codes "h") 1) Ready true; shared = blank_shared; reply = Ran (record { context = 0; entry = 4 }) }
 unfolding step_row entry_found found_entry visit arguments_seen reading_of levels expansion_of_with parts_place label_found found_label hung_up is_found
@@ -197,13 +197,13 @@ step-closing : step (channel (at (codes "h") 1) Ready true) ≡
 unfolding step_row entry_found found_entry visit arguments_seen reading_of levels expansion_of_with parts_place label_found found_label hung_up is_found
 step-closing = refl
 
--- and so is one in whose context there is no `h`
+-- and so is one whose context has no `h`
 step-no_h : step (channel (bare (codes "100") 1) Ready false) ≡
     record { channel = channel (bare (codes "100") 1) phase_ended false; shared = blank_shared; reply = Ran (record { context = 1; entry = 0 }) }
 unfolding step_row entry_found found_entry visit arguments_seen reading_of levels expansion_of_with parts_place label_found found_label hung_up is_found
 step-no_h = refl
 
--- an extension that is not there leads to `i`, which reads what was dialled
+-- an extension that does not exist leads to `i`, which reads what was dialled
 step-invalid : step (channel (at (codes "9") 1) Ready false) ≡
     record {
       channel = record (channel (at (codes "i") 1) Ready false) { store = record { variables = insert empty (codes "INVALID_EXTEN") (codes "9"); frames = []; names = codes "INVALID_EXTEN" ∷ [] } };
@@ -213,13 +213,13 @@ step-invalid : step (channel (at (codes "9") 1) Ready false) ≡
 unfolding step_row entry_found found_entry visit unfound is_found set
 step-invalid = refl
 
--- a priority that is not there is a hang-up
+-- a priority that does not exist is a hang-up
 step-no_priority : step (channel (at (codes "200") 3) Ready false) ≡
     record { channel = channel (at (codes "h") 1) Ready true; shared = blank_shared; reply = NoEntry }
 unfolding step_row entry_found found_entry visit unfound is_found hung_up
 step-no_priority = refl
 
--- and so is an extension that is not there, in a context with no `i`
+-- and so is an extension that does not exist, in a context without `i`
 step-no_i : step (channel (bare (codes "9") 1) Ready false) ≡
     record { channel = channel (bare (codes "9") 1) phase_ended false; shared = blank_shared; reply = NoEntry }
 unfolding step_row entry_found found_entry visit unfound is_found hung_up
@@ -235,7 +235,7 @@ step-ended : step (channel (at (codes "100") 1) phase_ended false) ≡
 unfolding step_row
 step-ended = refl
 
--- a world with one call, which stands at priority 2 of `100`
+-- a world with one call, at priority 2 of `100`
 abbrev first : Channel
 first = channel (at (codes "100") 2) Ready false
 
@@ -252,7 +252,7 @@ channel-first = refl
 channel-above : channel_at (first ∷ []) 2 ≡ None
 channel-above = refl
 
--- a call that comes in has the next number, and stands at priority 1
+-- a call that comes in gets the next number, and is at priority 1
 event-start : event_row meanings world (Start (codes "main") (codes "2") (codes "7")) ≡
     (world_of plan (first ∷ channel (at (codes "2") 1) Ready false ∷ []) blank_shared, Started 2)
 unfolding start_call
@@ -269,7 +269,7 @@ event-no_channel = refl
 value-no_channel : value_in world 2 (codes "EXTEN") ≡ []
 value-no_channel = refl
 
--- a call from its start until its application sends it nowhere, and one step more
+-- a call from its start until its application sends it nowhere, and one more step
 replies-first_run : replies_to meanings (opening plan blank_shared.queues) (Start (codes "bare") (codes "100") [] ∷ Step 1 ∷ Step 1 ∷ []) ≡
     Started 1 ∷ Ran (record { context = 1; entry = 0 }) ∷ Refused Ended ∷ []
 unfolding start_call step_row entry_found found_entry visit arguments_seen reading_of levels expansion_of_with parts_place label_found found_label hung_up is_found globals_of

@@ -1,4 +1,4 @@
--- Callers that are unseen: worked on the definitions themselves.
+-- Unseen callers, computed from the definitions themselves.
 use Rattle.std.proofs.Common.{◌≡◌, ℕ, Bool, true, false, ◌||◌, List, [], ◌∷◌, Some, None, take, drop, length, slice_get, if◌then◌else◌, refl, sym, arith, ap, subst, ◌∙◌}
 use Rattle.std.specs.FinMap.{empty}
 use Rattle.std.specs.Option.{option_map, unwrap_or}
@@ -30,7 +30,7 @@ use Rattle.dp_machine.specs.declared.reply.Reply.TheVariants.{Started, Done, Ref
 use Rattle.dp_machine.specs.declared.shared_state.SharedState.{SharedState}
 use Rattle.dp_machine.proofs.IsolationLemmas.{none-of, unseen-more, unseen-none}
 
--- what is pressed in a menu is private, in every world
+-- what is dialled in a menu is private, in every world
 pub menu-private : (meanings : Meanings) (w : World) (number : ℕ) (c : Channel) (digits : List ℕ) (is_background : Bool) (digit : ℕ)
     → channel_at w.channels number ≡ Some c → c.phase ≡ Digits digits is_background → IsPrivate meanings w (Digit number digit)
 unfolding digit_row
@@ -46,7 +46,7 @@ menu-private meanings w number c digits is_background digit here waits = record 
     by true = refl
     by false = refl
 
--- the context `menu` with nothing in it
+-- an empty context `menu`
 abbrev plan : PlanOf
 plan = record { globals = []; contexts = (record { name = codes "menu"; entries = []; includes = [] }) ∷ [] }
 
@@ -64,7 +64,7 @@ world channels = world_of plan channels (record { globals = empty; queues = no_q
 abbrev both : World
 both = world (channel (codes "s") (Digits [] false) ∷ channel (codes "s") (Digits [] false) ∷ [])
 
--- the first one dials and hangs up, a third one comes; and the second one dials, and its time is over when it no longer waits
+-- the first one dials and hangs up, and a third one comes in; the second one dials, and times out when it no longer waits
 abbrev events : List Event
 events = Digit 2 (byte "5") ∷ Digit 1 (byte "6") ∷ Timeout 2 ∷ Hangup 1 ∷ Start (codes "menu") (codes "s") (codes "8") ∷ []
 
@@ -85,13 +85,13 @@ replies-others = refl
 replies-without_second : replies_without 2 events (Done ∷ Done ∷ Refused NotWaiting ∷ Done ∷ Started 3 ∷ []) ≡ Done ∷ Done ∷ Started 3 ∷ []
 replies-without_second = refl
 
--- the second one stays in the menu where it is silent
+-- without its events the second one stays in the menu
 world-others : world_after no_meanings both others ≡
     world (channel (codes "6") over ∷ channel (codes "s") (Digits [] false) ∷ new_channel (codes "menu") (codes "s") (codes "8") ∷ [])
 unfolding digit_row timeout_row hang_up_row hung_up start_call could_go_on goes_on_more is_found found_entry visit
 world-others = refl
 
--- the world that the event of a place in the list meets
+-- the world that the event at a place in the list meets
 abbrev world_met : ℕ → World
 world_met number = world_after no_meanings both (take number events)
 
@@ -112,7 +112,7 @@ second-unseen =
     (unseen-more no_meanings 2 (world_met 4) (Start (codes "menu") (codes "s") (codes "8")) [] none-of
     (unseen-none no_meanings 2 (world_met 5))))))
 
--- a queue in which these wait
+-- a queue in which these channels wait
 abbrev one_queue : List ℕ → QueuesOf
 one_queue waiting = record {
   queues = (record {
@@ -126,7 +126,7 @@ one_queue waiting = record {
   finished = 0;
 }
 
--- who hangs up in a queue is seen: nobody waits there any more
+-- a hang-up in a queue is seen: nobody waits there any more
 abbrev queued_world : World
 queued_world = world_of plan (channel (codes "s") (Queued 0 true false) ∷ []) (record { globals = empty; queues = one_queue (1 ∷ []) })
 
@@ -134,7 +134,7 @@ hang_up-frees : (final_world no_meanings queued_world (Hangup 1)).shared ≡ rec
 unfolding hang_up_row hung_up is_found found_entry visit
 hang_up-frees = refl
 
--- how many wait in the first queue
+-- the number of calls that wait in the first queue
 abbrev waiting_first : SharedState → ℕ
 waiting_first shared = unwrap_or (option_map (λ q. length q.waiting) (slice_get shared.queues.queues 0)) 0
 

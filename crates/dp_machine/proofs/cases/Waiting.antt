@@ -1,4 +1,4 @@
--- Events of channels that wait and of agents, whose answers are computed on the definitions themselves.
+-- Events of channels that wait and of agents, whose replies are computed from the definitions themselves.
 use Rattle.std.proofs.Common.{◌≡◌, ℕ, true, false, List, [], ◌∷◌, None, refl}
 use Rattle.std.specs.FinMap.{empty}
 use Rattle.std.specs.Prelude.{codes}
@@ -36,7 +36,7 @@ use Rattle.dp_machine.specs.declared.reply.Reply.TheVariants.{Offered, Done, Ref
 abbrev entry : List ℕ → ℕ → Entry
 entry name priority = record { name = Plain name; priority = priority; label = None; application = codes "NoOp"; arguments = [] }
 
--- three contexts: `main` has the extension `t`, `out` is where a queue's digits lead, and `end` has the extension `h`
+-- three contexts: `main` has the extension `t`, the digits of a queue lead to `out`, and `end` has the extension `h`
 abbrev plan : PlanOf
 plan = record {
   globals = [];
@@ -63,7 +63,7 @@ at context exten priority = record { context = context; exten = exten; priority 
 abbrev main : ℕ → Place
 main priority = at (codes "main") (codes "s") priority
 
--- a channel at a place and in a phase, with no variables
+-- a channel at a place and in a phase, without variables
 abbrev channel : Place → Phase → Channel
 channel place phase = record { place = place; phase = phase; is_closing = false; caller = codes "7"; store = nothing }
 
@@ -71,11 +71,11 @@ channel place phase = record { place = place; phase = phase; is_closing = false;
 abbrev with_queue_status_of : List ℕ → Channel → Channel
 with_queue_status_of status c = record c { store = set nothing (codes "QUEUESTATUS") status }
 
--- a member that is the agent of a number, and has finished so many calls
+-- a member whose agent has a number, and which has finished this number of calls
 abbrev member : ℕ → ℕ → Member
 member agent calls = record { agent = agent; penalty = 0; is_paused = false; is_dynamic = false; calls = calls; last = calls }
 
--- the queue `q`, which leads to `out`, by its rule of leaving, its members and those that wait
+-- the queue `q`, whose digits lead to `out`, given its rule of leaving, its members and the calls that wait
 abbrev queue : EmptyRule → List Member → List ℕ → QueueOf
 queue rule members waiting = record {
   name = codes "q";
@@ -88,7 +88,7 @@ queue rule members waiting = record {
 abbrev agent : List ℕ → AgentState → Agent
 agent name state = record { name = name; state = state }
 
--- the queue `q`, its agents `Line/1` and `Line/2` in these states, and those that wait
+-- the queue `q`, and its agents `Line/1` and `Line/2` in these states, given the calls that wait
 abbrev queues : AgentState → AgentState → List ℕ → QueuesOf
 queues first second waiting = record {
   queues = queue No (member 0 0 ∷ member 1 0 ∷ []) waiting ∷ [];
@@ -96,7 +96,7 @@ queues first second waiting = record {
   finished = 0;
 }
 
--- the queue where nobody waits, and where the channel waits
+-- the queue without a call, and with the channel's call
 abbrev none_waits : QueuesOf
 none_waits = queues Idle Idle []
 
@@ -111,7 +111,7 @@ one_finished = record {
   finished = 1;
 }
 
--- the world of one channel
+-- a world with one channel
 abbrev world : Channel → QueuesOf → World
 world c queues = world_of plan (c ∷ []) (record { globals = empty; queues = queues })
 
@@ -121,7 +121,7 @@ after c queues event = event_row no_meanings (world c queues) event
 
 -- ---- digits
 
--- `12` may follow
+-- another digit may make it `12`
 digit-goes_on : after (channel (main 1) (Digits [] true)) none_waits (Digit 1 (byte "1")) ≡
     (world (channel (main 1) (Digits (codes "1") true)) none_waits, Done)
 unfolding digit_row could_go_on goes_on_more visit
@@ -132,7 +132,7 @@ digit-leads : after (channel (main 1) (Digits (codes "1") false)) none_waits (Di
 unfolding digit_row could_go_on goes_on_more visit
 digit-leads = refl
 
--- what leads nowhere is left to the next step
+-- digits that lead nowhere are left to the next step
 digit-leads_nowhere : after (channel (main 1) (Digits (codes "1") false)) none_waits (Digit 1 (byte "*")) ≡
     (world (channel (at (codes "main") (codes "1*") 1) Ready) none_waits, Done)
 unfolding digit_row could_go_on goes_on_more visit
@@ -142,7 +142,7 @@ digit-pause : after (channel (main 1) Pause) none_waits (Digit 1 (byte "D")) ≡
 unfolding digit_row
 digit-pause = refl
 
--- a way out of the queue leaves the status as it was
+-- a digit that leads out of the queue does not change the status
 digit-way_out : after (channel (main 1) (Queued 0 true false)) (queues (Ringing 0 1) Idle (1 ∷ [])) (Digit 1 (byte "5")) ≡
     (world (channel (at (codes "out") (codes "5") 1) Ready) none_waits, Done)
 unfolding digit_row is_found found_entry visit
@@ -166,7 +166,7 @@ digit-bad : after (channel (main 1) Pause) none_waits (Digit 1 (byte "E")) ≡ (
 unfolding digit_row
 digit-bad = refl
 
--- that the call is over is told first
+-- that the call is over is reported first
 digit-over : after (channel (main 1) over) none_waits (Digit 1 (byte "E")) ≡ (world (channel (main 1) over) none_waits, Refused Ended)
 unfolding digit_row
 digit-over = refl
@@ -174,19 +174,19 @@ digit-over = refl
 digit-no_channel : after (channel (main 1) Pause) none_waits (Digit 2 (byte "E")) ≡ (world (channel (main 1) Pause) none_waits, Refused NoChannel)
 digit-no_channel = refl
 
--- ---- times
+-- ---- time-outs
 
 timeout-digits : after (channel (main 1) (Digits (codes "1") true)) none_waits (Timeout 1) ≡
     (world (channel (at (codes "main") (codes "1") 1) Ready) none_waits, Done)
 unfolding timeout_row
 timeout-digits = refl
 
--- `Background` goes on, whether or not the next priority is found
+-- `Background` goes on whether or not the next priority is found
 timeout-background : after (channel (main 2) (Digits [] true)) none_waits (Timeout 1) ≡ (world (channel (main 3) Ready) none_waits, Done)
 unfolding timeout_row
 timeout-background = refl
 
--- `WaitExten` goes on where the next priority is found
+-- `WaitExten` goes on if the next priority is found
 timeout-next : after (channel (main 1) (Digits [] false)) none_waits (Timeout 1) ≡ (world (channel (main 2) Ready) none_waits, Done)
 unfolding timeout_row is_found found_entry visit
 timeout-next = refl
@@ -223,9 +223,9 @@ timeout-over : after (channel (main 1) over) none_waits (Timeout 1) ≡ (world (
 unfolding timeout_row
 timeout-over = refl
 
--- ---- questions
+-- ---- polls
 
--- the queue with the rule to leave it where no member is without a pause, and with no member
+-- the queue with the rule to leave it if no member is unpaused, and without members
 abbrev too_empty : List ℕ → QueuesOf
 too_empty waiting = record { queues = queue Yes [] waiting ∷ []; agents = []; finished = 0 }
 
@@ -265,13 +265,13 @@ hangup-closing : after (closing Ready) none_waits (Hangup 1) ≡ (world (closing
 unfolding hang_up_row hung_up
 hangup-closing = refl
 
--- the agents that ring for the channel are idle
+-- the agents that ring for the channel become idle
 hangup-queue : after (channel last (Queued 0 true false)) (queues (Ringing 0 1) (Ringing 0 1) (1 ∷ [])) (Hangup 1) ≡
     (world (closing Ready) none_waits, Done)
 unfolding hang_up_row hung_up is_found found_entry visit
 hangup-queue = refl
 
--- the agent has finished one call more
+-- the agent has finished one more call
 hangup-talk : after (channel (main 1) (Talking 0 0 true)) (queues (Talks 0 1) Idle []) (Hangup 1) ≡
     (world (channel (main 1) over) one_finished, Done)
 unfolding hang_up_row hung_up is_found found_entry visit
@@ -283,7 +283,7 @@ hangup-over = refl
 
 -- ---- agents
 
--- a channel that waits in the queue, and goes on when the agent is done
+-- a channel that waits in the queue, and goes on after its talk
 abbrev waiting : Channel
 waiting = channel (main 1) (Queued 0 true false)
 
@@ -305,7 +305,7 @@ offer-no_member : after waiting (too_empty (1 ∷ [])) (Offer (codes "q")) ≡ (
 unfolding serve_offer
 offer-no_member = refl
 
--- the other agent that rings is idle
+-- the other agent that rings becomes idle
 answer-rings : after waiting (queues (Ringing 0 1) (Ringing 0 1) (1 ∷ [])) (Answer (codes "Line/2")) ≡
     (world (channel (main 1) (Talking 0 1 true)) (queues Idle (Talks 0 1) []), Done)
 unfolding serve_answer
@@ -315,7 +315,7 @@ answer-idle : after waiting one_waits (Answer (codes "Line/2")) ≡ (world waiti
 unfolding serve_answer
 answer-idle = refl
 
--- the name of an agent is read with its case
+-- the name of an agent is case sensitive
 answer-unknown : after waiting (queues (Ringing 0 1) Idle (1 ∷ [])) (Answer (codes "line/1")) ≡
     (world waiting (queues (Ringing 0 1) Idle (1 ∷ [])), Refused NotRinging)
 unfolding serve_answer

@@ -4,13 +4,14 @@ use dp_plan::{ConfFault, Dialplan, LoadFault, NoMemory};
 use std::alloc::Global;
 use std::test::Fail;
 
-/// Texts that load, each with how many of its fronts load and how many have a fault of their last line.
+/// Texts that load. Each is cut short at every byte, and the answer says how many of the cut texts load. The others have a fault in
+/// their last line.
 pub(super) const CUT: &str = r"
 [general]\nstatic=yes\nwriteprotect=no\n\n[globals]\nTRUNK=Line/9\n\n[main]\nexten => _NXXXXXX,1,Answer()\n same => n,Playback(hello-world)\n same => n(q),Queue(support,c)\n same => n,Hangup()\ninclude => out\n→69 load, 129 do not
 [m]\nexten => _[1-5]N.,1(a),Set(A=${B}$[1 + 2]) ; x\\;y\nsame => n( b ),NoOp(x\\;y)\n[globals]\nB => ${${C}}\n→34 load, 70 do not
 ";
 
-/// How the fronts of a text load, from the empty one to the whole.
+/// How many of the cut texts load, from the empty text to the whole text.
 pub(super) struct Fronts;
 
 impl Question for Fronts {
@@ -44,7 +45,7 @@ fn last_line(text: &[u8]) -> usize {
     line
 }
 
-/// Whether a text loads; a fault of another line than the last one fails.
+/// Whether a text loads. The test fails if a fault is not in the last line.
 fn loads(alloc: Global, text: &[u8]) -> Result<bool, Fail> {
     match Dialplan::load(alloc, text) {
         Ok(_) => Ok(true),
@@ -57,7 +58,7 @@ fn loads(alloc: Global, text: &[u8]) -> Result<bool, Fail> {
     }
 }
 
-/// How many fronts of a text load, and how many do not.
+/// How many of the cut texts load, and how many do not.
 fn count(alloc: Global, text: &[u8]) -> Result<(usize, usize), Fail> {
     let (mut loaded, mut faulty): (usize, usize) = (0, 0);
     for length in 0..text.len() + 1 {

@@ -39,35 +39,35 @@ fn push_found(out: &mut String, found: &Result<Vec<LoadFault>, LoadFault>) -> Re
 
 /// Texts with all their faults.
 pub(super) const EVERY: &str = r"
-# None: nothing, settings, and lines that are dropped or noted.
+# No fault: an empty text, settings, and lines that are dropped or noted.
 →
 [general]\nexten => s,0,A\n→
 [m]\nexten => s,1,A\nsame => n,B\n→
 [m]\nexten => s,1,A\nexten => s,1,B\ninclude => x\nfoo=1\n[globals]\n=1\n→
-# One, in the first line of a context, between others and in the last line.
+# One fault: in the first line of a context, between other lines, and in the last line.
 [m]\nexten => s,0,A\nexten => s,1,B\n→<fault 20 line 2>
 [m]\nexten => s,1,A\nexten => s,0,B\nexten => s,2,C\n→<fault 20 line 3>
 [m]\nexten => s,1,A\nexten => s,0,B→<fault 20 line 3>
-# Several of each kind, also alike, in the order of the lines.
+# Several faults of each kind, some of them the same, in the order of the lines.
 [m]\nexten => _,1,A\nexten => _[],1,A\nexten => _[9-0],1,A\nexten => _[12,1,A\nexten => _1.2,1,A\nexten => a b,1,A\n→<fault 10 line 2><fault 11 line 3><fault 12 line 4><fault 13 line 5><fault 14 line 6><fault 15 line 7>
 [m]\nexten => s,0,A\nexten => s,n,A\nexten => s,1(),A\nexten => s,1,A(\nexten => s,hint,A\nsame => 1,A\nexten => s,2147483648,A\nexten => s,1\n→<fault 20 line 2><fault 21 line 3><fault 22 line 4><fault 23 line 5><fault 24 Hint line 6><fault 26 line 7><fault 27 line 8><fault 28 line 9>
 [m]\nswitch => x\nLSwitch => x\neswitch => x\nignorepat => 9\ninclude => a,b\nexten => s/1,1,A\nexten => ${X},1,A\nexten => s,1,A,b\nexten => s,next,A\n→<fault 24 Switch line 2><fault 24 Switch line 3><fault 24 Switch line 4><fault 24 IgnorePat line 5><fault 24 IncludeTimes line 6><fault 24 CallerId line 7><fault 24 Variable line 8><fault 24 OldForm line 9><fault 24 PriorityWord line 10>
 [m]\nexten => s,0,A\n\n; x\nexten => s,0,A\nexten => s,1,A\nexten => s,0,A\n→<fault 20 line 2><fault 20 line 5><fault 20 line 7>
-# One for each line, the first that is met in it.
+# One fault for each line: the first that is met in it.
 [m]\nexten => a b,hint,A(\nexten => s,0(),A\n→<fault 15 line 2><fault 20 line 3>
-# A `same` goes on with the extension of the last line that has no fault.
+# `same` continues the extension of the last line without a fault.
 [m]\nexten => s,1,A\nexten => t,0,B\nsame => n,C\n→<fault 20 line 3>
 [m]\nexten => s,2147483647,A\nexten => t,1,B(\nsame => n,C\n→<fault 23 line 3><fault 27 line 4>
 [m]\nexten => t,0,B\nsame => n,C\nsame => 1,D\n→<fault 20 line 2><fault 26 line 3><fault 26 line 4>
 [m]\nexten => s,1,A\nsame => 0,B\nsame => n\nsame => n,C\n→<fault 20 line 3><fault 28 line 4>
 [a]\nexten => s,1,A\n[b]\nexten => t,0,B\nsame => n,C\n→<fault 20 line 4><fault 26 line 5>
-# An `n` counts on from the last line of its extension that has no fault, also from one that is dropped.
+# `n` counts from the last line of its extension without a fault, even if that line is dropped.
 [m]\nexten => s,0,A\nexten => s,n,B\nexten => s,n,C\n→<fault 20 line 2><fault 21 line 3><fault 21 line 4>
 [m]\nexten => s,2147483646,A\nexten => s,2147483647(),B\nexten => s,n,C\nexten => s,n,D\n→<fault 22 line 3><fault 27 line 5>
 [m]\nexten => s,2147483646,A\nexten => s,1,B\nexten => s,1(),C\nexten => s,1,D\nexten => s,n,E\n→<fault 22 line 4>
 # Global variables, and arguments after them.
 [globals]\nA=${${${${${${${${${${${${${${${${${${${${${${${${${${${${${${${${${}}}}}}}}}}}}}}}}}}}}}}}}}}}}}}}}}\nB=1\nC=${${${${${${${${${${${${${${${${${${${${${${${${${${${${${${${${${}}}}}}}}}}}}}}}}}}}}}}}}}}}}}}}}}\n=x\n[m]\nexten => s,1,A(${${${${${${${${${${${${${${${${${${${${${${${${${${${${${${${${${}}}}}}}}}}}}}}}}}}}}}}}}}}}}}}}}})\n→<fault 25 line 2><fault 25 line 4><fault 25 line 7>
-# A fault of the text itself stands alone, wherever it is.
+# A fault of the text itself is the only one, wherever it is.
 [m]\nexten => s,0,A\n;-- x\nexten => s,0,B\n→refused: fault 1 line 3
 a=1\n[m]\nexten => s,0,A\n→refused: fault 2 line 1
 [m]\nexten => s,0,A\n[x\n→refused: fault 3 line 3

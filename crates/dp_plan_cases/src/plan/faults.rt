@@ -1,4 +1,4 @@
-//! Which of several faults is answered: of one line, and of several.
+//! Which of several faults is reported, in one line and in several lines.
 
 /// Lines with several faults.
 pub(crate) const OF_A_LINE: &str = r"
@@ -14,7 +14,7 @@ pub(crate) const OF_A_LINE: &str = r"
 [m]\nexten => s/1,0,A\n→fault 24 CallerId line 2
 [m]\nexten => ${X},0,A\n→fault 24 Variable line 2
 [m]\nexten => _[{$],0,A\n→fault 24 Variable line 2
-# Of the priority, what is left out comes first.
+# In the priority, a form that is left out comes first.
 [m]\nexten => s,hint(a),A\n→fault 24 Hint line 2
 [m]\nexten => s,hint(,A\n→fault 24 Hint line 2
 [m]\nexten => s,next(12),A\n→fault 24 PriorityWord line 2
@@ -23,12 +23,12 @@ pub(crate) const OF_A_LINE: &str = r"
 [m]\nexten => s,n+1(a),A\n→fault 24 PriorityWord line 2
 [m]\nexten => s,n+1(a,A\n→fault 24 PriorityWord line 2
 [m]\nexten => s,0+1(),A\n→fault 24 PriorityWord line 2
-# Then what is no priority.
+# Then comes a text that is not a priority.
 [m]\nexten => s,0(),A\n→fault 20 line 2
 [m]\nexten => s,x(,A\n→fault 20 line 2
 [m]\nexten => s,(12),A\n→fault 20 line 2
 [m]\nexten => s,N(),A\n→fault 20 line 2
-# Then the label, before an `n` after no line, and before the limit.
+# Then comes the label, before an `n` without an earlier line, and before the limit.
 [m]\nexten => s,n(),A\n→fault 22 line 2
 [m]\nexten => s,n(a)+1,A\n→fault 22 line 2
 [m]\nexten => s,2147483648(),A\n→fault 22 line 2
@@ -41,7 +41,7 @@ pub(crate) const OF_A_LINE: &str = r"
 [m]\nexten => s,n,A(\n→fault 21 line 2
 [m]\nexten => s,n,a,b\n→fault 21 line 2
 [m]\nexten => s,2147483647,A\nexten => s,n(a),B(\n→fault 27 line 3
-# Of the application, a comma comes first.
+# In the application, a comma comes first.
 [m]\nexten => s,1,A,(\n→fault 24 OldForm line 2
 [m]\nexten => s,1,,\n→fault 24 OldForm line 2
 [m]\nexten => s,1,A(,\n→fault 23 line 2
@@ -59,7 +59,7 @@ pub(crate) const OF_A_TEXT: &str = r"
 [m]\nexten => s,1,A(${${${${${${${${${${${${${${${${${${${${${${${${${${${${${${${${${}}}}}}}}}}}}}}}}}}}}}}}}}}}}}}}}})\nexten => s,1(),A\n→fault 25 line 2
 [globals]\nA=${${${${${${${${${${${${${${${${${${${${${${${${${${${${${${${${${}}}}}}}}}}}}}}}}}}}}}}}}}}}}}}}}}\n[m]\nexten => _,1,A\n→fault 25 line 2
 [m]\nexten => _,1,A\n[globals]\nA=${${${${${${${${${${${${${${${${${${${${${${${${${${${${${${${${${}}}}}}}}}}}}}}}}}}}}}}}}}}}}}}}}}\n→fault 10 line 2
-# Lines that are dropped or noted come to no fault.
+# Lines that are dropped or noted have no fault.
 [m]\ninclude => x\nfoo=1\nexten => s,1,A\nexten => s,1,B\nexten => s/1,1,C\n→fault 24 CallerId line 6
 # Faults of the text come first.
 [m]\nexten => s,n,A\n[x\n→fault 3 line 3

@@ -2,7 +2,7 @@
 
 /// Includes that load.
 pub(crate) const INCLUDES: &str = r"
-# Contexts that are there, before the line or after it.
+# The context is there, before the line or after it.
 [a]\n[b]\ninclude => a\n→[a][b]{+a}
 [a]\ninclude => b\n[b]\n→[a]{+b}[b]
 [a]\ninclude => b\n[b]\ninclude => a\n→[a]{+b}[b]{+a}
@@ -12,22 +12,22 @@ pub(crate) const INCLUDES: &str = r"
 [a]\ninclude =>\t two words \t\n[two words]\n→[a]{+two words}[two words]
 [a]\ninclude => x\\;y\n[x\\;y]\n→[a]{+x;y}[x;y]
 [a]\ninclude => \xC3\xA9\n[\xC3\xA9]\n→[a]{+é}[é]
-# Those of several sections of a context, after its entries.
+# Includes of several sections of a context, after its entries.
 [a]\ninclude => b\n[b]\n[a]\ninclude => a\n→[a]{+b}{+a}[b]
 [a]\ninclude => b\nexten => s,1,A\n[b]\n[a]\nexten => s,n,B\ninclude => b\n→[a]<s,1,A()><s,2,B()>{+b}{+b}[b]
-# A context that is not there is kept and noted.
+# An include of a context that is not there is kept and noted.
 [a]\ninclude => b\n→[a]{+b} note 2 UnknownContext
 [a]\ninclude => b\ninclude => b\n→[a]{+b}{+b} note 2 UnknownContext note 3 UnknownContext
 [a]\ninclude => b\ninclude => c\n[c]\ninclude => d\n→[a]{+b}{+c}[c]{+d} note 2 UnknownContext note 5 UnknownContext
-# The names of contexts are compared with case, and dashes count.
+# Case and dashes count in the names of contexts.
 [a]\ninclude => A\n→[a]{+A} note 2 UnknownContext
 [a-b]\ninclude => ab\ninclude => a-b\n→[a-b]{+ab}{+a-b} note 2 UnknownContext
 # The empty name.
 [a]\ninclude =>\ninclude =\ninclude => ; a\n→[a]{+}{+}{+} note 2 UnknownContext note 3 UnknownContext note 4 UnknownContext
-# Settings and global variables are no contexts.
+# Settings and global variables are not contexts.
 [general]\n[globals]\n[a]\ninclude => general\ninclude => globals\n→[a]{+general}{+globals} note 4 UnknownContext note 5 UnknownContext
 [globals]\ninclude => b\n[general]\ninclude => a,b\n→{include=b}
-# What stands in the place of a name is one.
+# Any text in the place of a name is a name.
 [a]\ninclude => ${X}\n→[a]{+${X}} note 2 UnknownContext
 [a]\ninclude => [a]\n→[a]{+[a]} note 2 UnknownContext
 [a]\ninclude => a/b\n→[a]{+a/b} note 2 UnknownContext

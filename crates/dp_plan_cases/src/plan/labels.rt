@@ -9,7 +9,7 @@ pub(crate) const LABELS: &str = r"
 [m]\nexten => s,1,A\nexten => s,n\t(\ta\t)\t,B\n→[m]<s,1,A()><s,2(a),B()>
 [m]\nexten => s,1(two words),A\n→[m]<s,1(two words),A()>
 [m]\nexten => s,0009(a),A\n→[m]<s,9(a),A()>
-# A label is any text that has other bytes than digits.
+# A label is any text that is not made of digits alone.
 [m]\nexten => s,1(a+b),A\n→[m]<s,1(a+b),A()>
 [m]\nexten => s,1(+1),A\nexten => s,2(-1),B\n→[m]<s,1(+1),A()><s,2(-1),B()>
 [m]\nexten => s,1(1a),A\nexten => s,2(1.5),B\n→[m]<s,1(1a),A()><s,2(1.5),B()>
@@ -19,13 +19,13 @@ pub(crate) const LABELS: &str = r"
 [m]\nexten => s,1(\xC3\xA9),A\n→[m]<s,1(é),A()>
 [m]\nexten => s,1($[1]),A\n→[m]<s,1($[1]),A()>
 [m]\nexten => s,1([]),A\n→[m]<s,1([]),A()>
-# Words that are refused as priorities.
+# Words that are refused as priorities may be labels.
 [m]\nexten => s,1(n),A\nexten => s,2(hint),B\n→[m]<s,1(n),A()><s,2(hint),B()>
 [m]\nexten => s,1(s),A\nexten => s,2(same),B\n→[m]<s,1(s),A()><s,2(same),B()>
 [m]\nexten => s,2147483647(last),A\n→[m]<s,2147483647(last),A()>
 ";
 
-/// Labels that an extension has already, and those that are free.
+/// Labels that an extension already has, and labels that are free.
 pub(crate) const TAKEN: &str = r"
 [m]\nexten => s,1(a),A\nexten => s,2(a),B\n→[m]<s,1(a),A()> note 3 DoubleLabel
 [m]\nexten => s,1(a),A\nexten => s,2( a ),B\n→[m]<s,1(a),A()> note 3 DoubleLabel
@@ -34,15 +34,15 @@ pub(crate) const TAKEN: &str = r"
 [m]\nexten => s,1(a),A\n[m]\nexten => s,2(a),B\n→[m]<s,1(a),A()> note 4 DoubleLabel
 [m]\nexten => _N,1(a),A\nexten => _[2-9],2(a),B\n→[m]<_N,1(a),A()> note 3 DoubleLabel
 [m]\nexten => 1-2,1(a),A\nexten => 12,2(a),B\n→[m]<12,1(a),A()> note 3 DoubleLabel
-# A line with no label takes none.
+# A line without a label takes no label.
 [m]\nexten => s,1(a),A\nexten => s,2,B\nexten => s,3,C\n→[m]<s,1(a),A()><s,2,B()><s,3,C()>
-# The priority of a line that is dropped is free for a later one.
+# The priority of a dropped line is free for a later line.
 [m]\nexten => s,1(a),A\nexten => s,2(a),B\nexten => s,2,C\n→[m]<s,1(a),A()><s,2,C()> note 3 DoubleLabel
 [m]\nexten => s,1(a),A\nexten => s,2(a),B\nexten => s,2(b),C\n→[m]<s,1(a),A()><s,2(b),C()> note 3 DoubleLabel
-# So is its label.
+# The label of a dropped line is free too.
 [m]\nexten => s,1,A\nexten => s,1(a),B\nexten => s,2(a),C\n→[m]<s,1,A()><s,2(a),C()> note 3 DoublePriority
 [m]\nexten => s,1(a),A\nexten => s,1(b),B\nexten => s,n(b),C\n→[m]<s,1(a),A()><s,2(b),C()> note 3 DoublePriority
-# Where both are taken, the priority is noted alone.
+# If both are taken, only the priority is noted.
 [m]\nexten => s,1(a),A\nexten => s,1(a),B\n→[m]<s,1(a),A()> note 3 DoublePriority
 [m]\nexten => s,1(a),A\nexten => s,2(b),B\nexten => s,1(b),C\n→[m]<s,1(a),A()><s,2(b),B()> note 4 DoublePriority
 [m]\nexten => s,1(a),A\nexten => s,2(a),B\nexten => s,1(a),C\n→[m]<s,1(a),A()> note 3 DoubleLabel note 4 DoublePriority
@@ -63,10 +63,10 @@ pub(crate) const TAKEN: &str = r"
 
 /// Labels that are refused.
 pub(crate) const BAD: &str = r"
-# An empty one.
+# An empty label.
 [m]\nexten => s,1(),A\n→fault 22 line 2
 [m]\nexten => s,1( \t),A\n→fault 22 line 2
-# Digits alone.
+# Only digits.
 [m]\nexten => s,1(12),A\n→fault 22 line 2
 [m]\nexten => s,1( 0 ),A\n→fault 22 line 2
 [m]\nexten => s,1(1),A\n→fault 22 line 2
@@ -77,19 +77,19 @@ pub(crate) const BAD: &str = r"
 [m]\nexten => s,1(a) b,A\n→fault 22 line 2
 [m]\nexten => s,1(a,b),A\n→fault 22 line 2
 [m]\nexten => s,1,A\nexten => s,n(a)+1,B\n→fault 22 line 3
-# Parentheses within.
+# Parentheses inside the label.
 [m]\nexten => s,1(a(b)),A\n→fault 22 line 2
 [m]\nexten => s,1((a),A\n→fault 22 line 2
 [m]\nexten => s,1(a)),A\n→fault 22 line 2
 [m]\nexten => s,1(a)(b),A\n→fault 22 line 2
 [m]\nexten => s,1()),A\n→fault 22 line 2
 [m]\nexten => s,1,A\nsame => n(),B\n→fault 22 line 3
-# A `)` with no `(` before it is no label.
+# A `)` without a `(` before it makes no label.
 [m]\nexten => s,1),A\n→fault 20 line 2
 [m]\nexten => s,1a),A\n→fault 20 line 2
-# A comment ends the line within the label.
+# A comment ends the line inside the label.
 [m]\nexten => s,1(a;b),A\n→fault 28 line 2
-# The priority before a label.
+# The priority before the label is refused.
 [m]\nexten => s,(a),A\n→fault 20 line 2
 [m]\nexten => s, ( a ),A\n→fault 20 line 2
 [m]\nexten => s,0(a),A\n→fault 20 line 2

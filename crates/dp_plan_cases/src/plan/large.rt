@@ -1,4 +1,4 @@
-//! The greatest text.
+//! The longest text.
 use crate::plan::render::plan_text;
 use dp_case_tables::check_same;
 use dp_plan::Dialplan;
@@ -15,8 +15,8 @@ fn check_line_feeds(alloc: Global) -> Result<(), Fail> {
     check_same("a text of 16,777,216 line feeds", &got, "")
 }
 
-/// A text of 16,777,216 line feeds is the empty dialplan, with no note.
+/// A text of 16,777,216 line feeds loads as the empty dialplan, without notes.
 #[test]
-fn the_greatest_text_of_line_feeds_loads(rt: HostRuntime) -> Result<(), Fail> {
+fn the_longest_text_of_line_feeds_loads(rt: HostRuntime) -> Result<(), Fail> {
     check_line_feeds(rt.alloc())
 }

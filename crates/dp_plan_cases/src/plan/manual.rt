@@ -1,4 +1,4 @@
-//! The examples of the manual, with what it says that they load as.
+//! The examples of the manual, and what the manual says that they load as.
 
 /// Dialplans, names, patterns, priorities, labels and includes.
 pub(crate) const EXAMPLES: &str = r"

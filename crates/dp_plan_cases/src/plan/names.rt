@@ -10,7 +10,7 @@ pub(crate) const PLAIN: &str = r#"
 [m]\nexten => [9-0],1,A\n→[m]<[90],1,A()>
 [m]\nexten => 5551234,1,A\nexten => 555-1234,1,B\n→[m]<5551234,1,A()> note 3 DoublePriority
 [m]\nexten => -1,1,A\nexten => 1-,1,B\nexten => 1--,2,C\n→[m]<1,1,A()><1,2,C()> note 3 DoublePriority
-# What stands for something in patterns is itself.
+# Bytes that have a meaning in patterns stand for themselves.
 [m]\nexten => 1.,1,A\nexten => 1!,1,B\n→[m]<1.,1,A()><1!,1,B()>
 [m]\nexten => .,1,A\nexten => !,1,B\n→[m]<.,1,A()><!,1,B()>
 [m]\nexten => .2,1,A\nexten => !.,1,B\n→[m]<.2,1,A()><!.,1,B()>
@@ -23,10 +23,10 @@ pub(crate) const PLAIN: &str = r#"
 [m]\nexten => ~,1,A\nexten => \\;,1,B\n→[m]<~,1,A()><;,1,B()>
 [m]\nexten => \xC3\xA9-\xC3\xA8,1,A\n→[m]<éè,1,A()>
 [m]\nexten =>\t s \t,1,A\n→[m]<s,1,A()>
-# A `$` is no variable without a `{` directly after it.
+# A `$` without a `{` directly after it is not a variable.
 [m]\nexten => $,1,A\nexten => {$,1,B\nexten => $},1,C\n→[m]<$,1,A()><{$,1,B()><$},1,C()>
 [m]\nexten => $[x],1,A\nexten => $[{],1,B\n→[m]<$[x],1,A()><$[{],1,B()>
-# A plain name is never the name of a pattern.
+# A plain name and a pattern are never the same name.
 [m]\nexten => X,1,A\nexten => _X,1,B\n→[m]<X,1,A()><_X,1,B()>
 [m]\nexten => a,1,A\nexten => _a,1,B\n→[m]<a,1,A()><_a,1,B()>
 "#;
@@ -41,7 +41,7 @@ pub(crate) const PATTERNS: &str = r"
 [m]\nexten => _[0-9],1,A\n→[m]<_X,1,A()>
 [m]\nexten => _[9876543210],1,A\n→[m]<_X,1,A()>
 [m]\nexten => _[24-9356],1,A\n→[m]<_N,1,A()>
-# Sets list their members once and in byte order.
+# Sets list each member once, in byte order.
 [m]\nexten => _[a-c1],1,A\n→[m]<_[1abc],1,A()>
 [m]\nexten => _[c0-2A-Ba0],1,A\n→[m]<_[012ABac],1,A()>
 [m]\nexten => _[1-31-2],1,A\n→[m]<_[123],1,A()>
@@ -49,7 +49,7 @@ pub(crate) const PATTERNS: &str = r"
 [m]\nexten => _[*#],1,A\n→[m]<_[#*],1,A()>
 [m]\nexten => _[a\\;c],1,A\n→[m]<_[;ac],1,A()>
 [m]\nexten => _[A-Z],1,A\n→[m]<_[ABCDEFGHIJKLMNOPQRSTUVWXYZ],1,A()>
-# A set of one member.
+# Sets of one member.
 [m]\nexten => _[5],1,A\n→[m]<_5,1,A()>
 [m]\nexten => _[77]8,1,A\n→[m]<_78,1,A()>
 [m]\nexten => _[a-a],1,A\n→[m]<_a,1,A()>
@@ -58,7 +58,7 @@ pub(crate) const PATTERNS: &str = r"
 [m]\nexten => _[!]1,1,A\n→[m]<_[!]1,1,A()>
 [m]\nexten => _[[],1,A\n→[m]<_[[],1,A()>
 [m]\nexten => _[X][n],1,A\n→[m]<_[X][n],1,A()>
-# Bytes that are themselves.
+# Bytes that stand for themselves.
 [m]\nexten => _],1,A\n→[m]<_],1,A()>
 [m]\nexten => __1,1,A\n→[m]<__1,1,A()>
 [m]\nexten => _*98#,1,A\n→[m]<_*98#,1,A()>
@@ -84,9 +84,9 @@ pub(crate) const PATTERNS: &str = r"
 [m]\nexten => _[X],1,A\nexten => _X,1,B\nexten => _[x],1,C\n→[m]<_[X],1,A()><_X,1,B()><_[x],1,C()>
 ";
 
-/// Texts that are no names.
+/// Texts that are not names.
 pub(crate) const NO_NAMES: &str = r"
-# Nothing is left.
+# Nothing is left of the name.
 [m]\nexten => - ,1,A\n→fault 10 line 2
 [m]\nexten => ---,1,A\n→fault 10 line 2
 [m]\nexten => _,1,A\n→fault 10 line 2
@@ -107,13 +107,13 @@ pub(crate) const NO_NAMES: &str = r"
 [m]\nexten => _[1-2-3],1,A\n→fault 12 line 2
 [m]\nexten => _[3-\\],1,A\n→fault 12 line 2
 [m]\nexten => _[$-{],1,A\n→fault 12 line 2
-# Open sets, asked before their members. A comma ends the name.
+# Open sets are checked before their members. A comma ends the name.
 [m]\nexten => _[,1,A\n→fault 13 line 2
 [m]\nexten => _1[2,1,A\n→fault 13 line 2
 [m]\nexten => _[9-0,1,A\n→fault 13 line 2
 [m]\nexten => _[ 1,1,A\n→fault 13 line 2
 [m]\nexten => _[1,2],1,A\n→fault 13 line 2
-# What stands after a wildcard.
+# Bytes after a wildcard.
 [m]\nexten => _1.2,1,A\n→fault 14 line 2
 [m]\nexten => _.X,1,A\n→fault 14 line 2
 [m]\nexten => _!.,1,A\n→fault 14 line 2
@@ -121,7 +121,7 @@ pub(crate) const NO_NAMES: &str = r"
 [m]\nexten => _1.[,1,A\n→fault 14 line 2
 [m]\nexten => _1![],1,A\n→fault 14 line 2
 [m]\nexten => _1. 2,1,A\n→fault 14 line 2
-# Bytes that no name has.
+# Bytes that a name may not have.
 [m]\nexten => a b,1,A\n→fault 15 line 2
 [m]\nexten => a\tb,1,A\n→fault 15 line 2
 [m]\nexten => 1\x7F,1,A\n→fault 15 line 2
@@ -132,7 +132,7 @@ pub(crate) const NO_NAMES: &str = r"
 [m]\nexten => _[1 ],1,A\n→fault 15 line 2
 [m]\nexten => _[\\-],1,A\n→fault 15 line 2
 [m]\nexten => _[ -],1,A\n→fault 15 line 2
-# The first fault from the left.
+# The first fault from the left is reported.
 [m]\nexten => _[][9-0],1,A\n→fault 11 line 2
 [m]\nexten => _[9-0][],1,A\n→fault 12 line 2
 [m]\nexten => _[9-0 ],1,A\n→fault 12 line 2
@@ -143,9 +143,9 @@ pub(crate) const NO_NAMES: &str = r"
 [m]\nexten => _1.2 [,1,A\n→fault 14 line 2
 ";
 
-/// Names that ask for what is left out.
+/// Names with forms that are left out.
 pub(crate) const LEFT_OUT: &str = r"
-# A variable, wherever it stands in the name.
+# A variable anywhere in the name.
 [m]\nexten => a${,1,A\n→fault 24 Variable line 2
 [m]\nexten => _X${Y},1,A\n→fault 24 Variable line 2
 [m]\nexten => _[${],1,A\n→fault 24 Variable line 2
@@ -160,10 +160,10 @@ pub(crate) const LEFT_OUT: &str = r"
 [m]\nexten => a b/,1,A\n→fault 24 CallerId line 2
 [m]\nexten => _1.2/3,1,A\n→fault 24 CallerId line 2
 [m]\nexten => -/-,1,A\n→fault 24 CallerId line 2
-# A variable is asked first, wherever the `/` stands.
+# A variable is checked first, wherever the `/` is.
 [m]\nexten => ${X}/1,1,A\n→fault 24 Variable line 2
 [m]\nexten => 1/${X},1,A\n→fault 24 Variable line 2
-# A name whose one spelling holds a variable.
+# A variable in the one spelling of a name.
 [m]\nexten => $-{x,1,A\n→fault 24 Variable line 2
 [m]\nexten => -$--{-,1,A\n→fault 24 Variable line 2
 [m]\nexten => _$-{,1,A\n→fault 24 Variable line 2
@@ -172,7 +172,7 @@ pub(crate) const LEFT_OUT: &str = r"
 [m]\nexten => _$[{],1,A\n→fault 24 Variable line 2
 [m]\nexten => _[$]{,1,A\n→fault 24 Variable line 2
 [m]\nexten => _X[$]-[{].,1,A\n→fault 24 Variable line 2
-# That is asked last of the name.
+# This is checked last in the name.
 [m]\nexten => $-{/1,1,A\n→fault 24 CallerId line 2
 [m]\nexten => $-{ x,1,A\n→fault 15 line 2
 [m]\nexten => _[{$][],1,A\n→fault 11 line 2
@@ -180,7 +180,7 @@ pub(crate) const LEFT_OUT: &str = r"
 [m]\nexten => _[{$,1,A\n→fault 13 line 2
 [m]\nexten => _[{$]1.2,1,A\n→fault 14 line 2
 [m]\nexten => _$.{,1,A\n→fault 14 line 2
-# And before the priority.
+# But it is checked before the priority.
 [m]\nexten => $-{x,hint,A(\n→fault 24 Variable line 2
 [m]\nexten => s/1,hint,A(\n→fault 24 CallerId line 2
 [m]\nexten => ${x},hint,A(\n→fault 24 Variable line 2

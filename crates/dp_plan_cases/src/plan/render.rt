@@ -7,7 +7,7 @@ use dp_plan::{
 use std::alloc::Global;
 use std::test::Fail;
 
-/// What a text loads as, as `shown` says.
+/// What a text loads as, written as `plan_text` says.
 pub(super) struct Loads;
 
 impl Question for Loads {
@@ -69,7 +69,7 @@ fn push_plan(out: &mut String, alloc: Global, plan: &Dialplan) -> Result<(), NoM
     Ok(())
 }
 
-/// A dialplan as `shown` says, without its notes.
+/// A dialplan written as `plan_text` says, without its notes.
 pub(crate) fn shown_plan(alloc: Global, plan: &Dialplan) -> Result<String, NoMemory> {
     let mut out = String::new(alloc);
     push_plan(&mut out, alloc, plan)?;
@@ -84,7 +84,7 @@ fn push_fault_of_plan(out: &mut String, line: usize, kind: PlanKind) -> Result<(
     }
 }
 
-/// A fault as `plan_text` says.
+/// Adds a fault, written as `plan_text` says.
 pub(super) fn push_fault(out: &mut String, fault: LoadFault) -> Result<(), NoMemory> {
     match fault {
         LoadFault::Conf(ConfFault::At { line, kind }) => {
@@ -97,10 +97,10 @@ pub(super) fn push_fault(out: &mut String, fault: LoadFault) -> Result<(), NoMem
     }
 }
 
-/// A dialplan as its global variables `{NAME=VALUE}`, its contexts `[NAME]`, each with its entries
-/// `<NAME,PRIORITY,APPLICATION(ARGUMENTS)>`, or `<NAME,PRIORITY(LABEL),APPLICATION(ARGUMENTS)>` where there is a label,
-/// and with its includes `{+NAME}`, and its notes ` note LINE KIND`; a fault as `fault CODE line L`, and as
-/// `fault 24 WORD line L` where the line asks for what is left out.
+/// Writes a dialplan or a fault. A dialplan is its global variables `{NAME=VALUE}`, its contexts, and its notes ` note LINE KIND`.
+/// A context is `[NAME]` with its entries and its includes `{+NAME}`. An entry is `<NAME,PRIORITY,APPLICATION(ARGUMENTS)>`, or
+/// `<NAME,PRIORITY(LABEL),APPLICATION(ARGUMENTS)>` if it has a label. A fault is `fault CODE line L`, or `fault 24 WORD line L` if
+/// the line has a form that is left out.
 pub(super) fn plan_text(
     alloc: Global,
     read: &Result<(Dialplan, Vec<Note>), LoadFault>,
@@ -143,7 +143,7 @@ fn push_ranked(out: &mut String, alloc: Global, entry: Option<&Entry>) -> Result
     }
 }
 
-/// The entries of the context of this number in the order in which a look-up asks them, each as `<NAME,PRIORITY>`.
+/// The entries of the context with this number, in the order in which a look-up asks them, each as `<NAME,PRIORITY>`.
 pub(super) fn ranking(alloc: Global, plan: &Dialplan, number: usize) -> Result<String, NoMemory> {
     let mut out = String::new(alloc);
     for id in plan.ranked_at(number) {

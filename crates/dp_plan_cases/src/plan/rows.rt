@@ -1,14 +1,14 @@
 //! Worked cases, with their answers.
 
-/// Texts with what they load as.
+/// Texts, and what each of them loads as.
 pub(crate) const WORKED: &str = r"
 # Classes and doubles: `_[2-9]X` is the name of the first line.
 [main]\nexten => _NX,1,NoOp()\nexten => _[4-8]X,1,NoOp()\nexten => _[0-4]X,1,NoOp()\nexten => _[2-9]X,1,NoOp()\n→[main]<_NX,1,NoOp()><_[45678]X,1,NoOp()><_[01234]X,1,NoOp()> note 5 DoublePriority
-# A usual file of thirteen lines, of which the last one includes a context that is not there.
+# A usual file of thirteen lines. The last line includes a context that is not there.
 [general]\nstatic=yes\nwriteprotect=no\n\n[globals]\nTRUNK=Line/9\n\n[main]\nexten => _NXXXXXX,1,Answer()\n same => n,Playback(hello-world)\n same => n(q),Queue(support,c)\n same => n,Hangup()\ninclude => out\n→{TRUNK=Line/9}[main]<_NXXXXXX,1,Answer()><_NXXXXXX,2,Playback(hello-world)><_NXXXXXX,3(q),Queue(support,c)><_NXXXXXX,4,Hangup()>{+out} note 13 UnknownContext
 ";
 
-/// The same texts with the order in which a look-up asks their entries.
+/// The same texts, and the order in which a look-up asks their entries.
 pub(super) const RANKED: &str = r"
 # The lesser of two classes of five members is asked first.
 [main]\nexten => _NX,1,NoOp()\nexten => _[4-8]X,1,NoOp()\nexten => _[0-4]X,1,NoOp()\nexten => _[2-9]X,1,NoOp()\n→<_[01234]X,1><_[45678]X,1><_NX,1>
@@ -16,7 +16,7 @@ pub(super) const RANKED: &str = r"
 [general]\nstatic=yes\nwriteprotect=no\n\n[globals]\nTRUNK=Line/9\n\n[main]\nexten => _NXXXXXX,1,Answer()\n same => n,Playback(hello-world)\n same => n(q),Queue(support,c)\n same => n,Hangup()\ninclude => out\n→<_NXXXXXX,1><_NXXXXXX,2><_NXXXXXX,3><_NXXXXXX,4>
 ";
 
-/// Each line stands after `[main]`, but for the one that stands before any section.
+/// Lines with their faults. Each line is after `[main]`, except one that is before any section.
 pub(crate) const FAULT_LINES: &str = r#"
 [main]\nexten => _,1,A\n→fault 10 line 2
 [main]\nexten => _[],1,A\n→fault 11 line 2
@@ -40,13 +40,13 @@ a=1\n[main]\n→fault 2 line 1
 a=1\n→fault 2 line 1
 [main]\nexten => s,01,A\n→[main]<s,1,A()>
 [main]\nexten => s,1,A\n→[main]<s,1,A()>
-# Lines that are like them and load.
+# Similar lines that load.
 [main]\nexten => _1.,1,A\n→[main]<_1.,1,A()>
 [main]\nexten => s,1(a),A\n→[main]<s,1(a),A()>
 [main]\nexten => s,2147483647,A\n→[main]<s,2147483647,A()>
 "#;
 
-/// A `\;` is a semicolon, and `;--` is refused where `;---` is a comment.
+/// `\;` is a semicolon. `;--` is refused, but `;---` is a comment.
 pub(crate) const ESCAPED_SEMICOLONS: &str = r"
 [main]\nexten => s,1,NoOp(a\\;b\\\\;c)\n→[main]<s,1,NoOp(a;b\\;c)>
 [main]\n;-- x\n→fault 1 line 2

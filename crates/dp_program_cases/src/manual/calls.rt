@@ -1,6 +1,6 @@
-//! The examples of the manual's pages on applications, events and queues, in their order, as those of `examples`.
+//! The examples of the manual's pages on applications, events and queues, in their order, in the form of `examples`.
 
-/// As the examples of `examples`: what they name stands here.
+/// The examples, like those of `examples`. The files that they name are here.
 pub(super) const CALLS: &str = r##"
 @ pair.conf
 [main]

@@ -65,8 +65,8 @@ const REFUSALS: [Refusal; 14] = [
 /// The name of two faults.
 const TWICE: &str = "LeftOut";
 
-/// Asserts that the entry of a number begins with it and with the name, in a line of their own, and that the name finds it, where it is no
-/// name of another.
+/// Asserts that the entry of a number begins with it and with the name, on a line of their own, and that the name finds it, unless another
+/// fault has the name too.
 fn check_entry<R: Abort + AllocGlobal>(rt: &R, number: u8, name: &str) -> Result<(), Fail> {
     let fault = FaultNumber::new(u32::from(number)).ok_or("no entry")?;
     let head = format!(in rt.alloc(); "{number} {name}\n")?;

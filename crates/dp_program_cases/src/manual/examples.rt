@@ -1,7 +1,6 @@
-//! The examples of the documents, in their order: files, command lines, and what these print.
+//! The examples of the documents, in their order: files, command lines, and their output.
 
-/// A file is a line `@ NAME`, its lines, and a line `@`; a command line is a line `$ WORDS`, all that it prints, and a line
-/// `? STATUS`.
+/// A file is a line `@ NAME`, its lines, and a line `@`; a command line is a line `$ WORDS`, its whole output, and a line `? STATUS`.
 pub(super) const EXAMPLES: &str = r##"
 @ sample/extensions.conf
 ; The telephones of a small house.
@@ -44,7 +43,7 @@ ran 2 phones,_NXXXXXX,2 Hangup -> ended
 exten => s,1,Background(welcome)
  same => n,WaitExten(5)
 exten => 0,1,Dial(Line/9,20)          ; the operator
- same => n,Goto(s,1)                  ; who does not answer: the menu once more
+ same => n,Goto(s,1)                  ; no answer: the menu is played once more
 exten => 1,1,Queue(sales,c)
  same => n,Hangup()
 exten => i,1,Goto(s,1)
@@ -87,7 +86,7 @@ ran 1 main,1,2 Hangup -> ready main,h,1
 ran 1 main,h,1 NoOp -> ready main,h,2
 ? 0
 @ sample/operator.script
-; The operator does not answer in time, and then does, and hangs up.
+; The operator misses the first call, answers the next and hangs up.
 start main s
 step 1
 digit 1 0
@@ -322,8 +321,26 @@ evening.conf:3: fault 20 BadPriority
 office.conf:9: fault 7 ReadFailed holidays.conf
 3 faults
 ? 1
+@ timed.conf
+[phones]
+include => open,9:00-17:00,mon-fri,*,*
+include => closed
+[open]
+exten => 100,1,Dial(PJSIP/reception,20)
+[closed]
+exten => 100,1,Playback(we-are-closed)
+@
+$ pbx match --asterisk --clock "fri 2026-11-27 09:30" timed.conf phones 100
+open,100,1 Dial
+? 0
+$ pbx match --asterisk --clock "sat 2026-11-28 09:30" timed.conf phones 100
+closed,100,1 Playback
+? 0
+$ pbx match --asterisk timed.conf phones 100
+timed.conf:2: fault NoClock
+? 1
 @ sample/office/extensions.conf
-; The dialplan of a small office. The other files stand beside this one.
+; The dialplan of a small office. The other files are next to this file.
 
 [general]
 static=yes
@@ -355,8 +372,8 @@ exten => 101,1,Gosub(ring,s,1(SIP/101,101))
  same => n,Hangup()
 exten => 200,1,Goto(helpdesk,s,1)
 
-;-- The night switch: *28 turns it on, and once more off.
-    The value stands in the database, so that it outlives a restart. --;
+;-- The night switch: *28 turns it on and then off again.
+    The value is kept in the database so that it survives a restart. --;
 exten => *28,1,ExecIf($["${DB(office/night)}" = "1"]?Set(DB(office/night)=0):Set(DB(office/night)=1))
  same => n,Playback(office/night-${DB(office/night)})
  same => n,Hangup()
@@ -460,7 +477,7 @@ ran 1 menu,1,1 Goto -> ready helpdesk,s,1
 ran 1 helpdesk,s,1 Queue -> queued helpdesk
 ? 0
 @ sample/faulty.conf
-; The menu of a shop, with mistakes that no load tells.
+; The menu of a shop with mistakes that a load accepts.
 [globals]
 TRUNK=Line/9
 

@@ -1,6 +1,6 @@
 //! The faults of the manual's examples of lines.
 
-/// A case is a line that stands below `[main]`; then an arrow, and the number and the name of its fault.
+/// A case is a line below `[main]`; then an arrow, and the number and the name of its fault.
 pub(super) const FAULTS: &str = r##"
 a = 1 ;-- x→1 BlockComment
 [main→3 BadHeader

@@ -89,7 +89,7 @@ exten => desk,1,Dial(PJSIP/${RECEPTION},30)
 exten => h,1,NoOp(${CALLERNUMBER} left)
 include => lobby-features
 
-; What callers and visitors may dial besides.
+; Numbers that callers and visitors may dial.
 [lobby-features]
 exten => *60,1,Answer()
  same => n,Playback(opening-hours)

@@ -24,7 +24,7 @@ struct Shelf<'a> {
     text: &'a str,
 }
 
-/// What the file of a name holds.
+/// The contents of the file with a name.
 fn file_in<'a>(alloc: Global, text: &'a str, name: &str) -> Result<Option<&'a str>, NoMemory> {
     let head = format!(in alloc; "\n@ {name}\n")?;
     let Some((_, after)) = text.split_once(head.as_str()) else {
@@ -65,16 +65,35 @@ impl<'a> ReadFiles for Shelf<'a> {
     }
 }
 
-/// The words of a command line.
+/// Adds the words of a part of a command line: one word if it stands between quotes.
+fn push_words(
+    alloc: Global,
+    all: &mut Vec<String>,
+    is_quoted: bool,
+    part: &str,
+) -> Result<(), NoMemory> {
+    if is_quoted {
+        all.push(String::from_str(alloc, part)?)?;
+        return Ok(());
+    }
+    for word in part.split(' ').filter(|word| !word.is_empty()) {
+        all.push(String::from_str(alloc, word)?)?;
+    }
+    Ok(())
+}
+
+/// The words of a command line, in which a word with blanks stands between `"`.
 fn words_of(alloc: Global, line: &str) -> Result<Vec<String>, NoMemory> {
     let mut all = Vec::new(alloc);
-    for word in line.split(' ') {
-        all.push(String::from_str(alloc, word)?)?;
+    let mut is_quoted = false;
+    for part in line.split('"') {
+        push_words(alloc, &mut all, is_quoted, part)?;
+        is_quoted = !is_quoted;
     }
     Ok(all)
 }
 
-/// All that the words print with this input over the files of a text, and the status as a last line `? STATUS`.
+/// The whole output for the words with this input over the files of a text, and the status as a last line `? STATUS`.
 fn output_of<R: Threads + Wait + Sync + AllocGlobal>(
     rt: &R,
     files: &str,
@@ -102,7 +121,7 @@ fn output_of<R: Threads + Wait + Sync + AllocGlobal>(
     Ok(all)
 }
 
-/// All that a command line prints over the files of a text. After ` < ` stands the file that is its input.
+/// The whole output of a command line over the files of a text. The file that is its input comes after ` < `.
 fn answer_of<R: Threads + Wait + Sync + AllocGlobal>(
     rt: &R,
     files: &str,
@@ -114,7 +133,7 @@ fn answer_of<R: Threads + Wait + Sync + AllocGlobal>(
     output_of(rt, files, &words, input)
 }
 
-/// Asserts that what stands after a command line is all that it prints.
+/// Asserts that the text after a command line is its whole output.
 fn check_command<R: Threads + Wait + Sync + Abort + AllocGlobal>(
     rt: &R,
     files: &str,
@@ -126,7 +145,7 @@ fn check_command<R: Threads + Wait + Sync + Abort + AllocGlobal>(
     Ok(())
 }
 
-/// Asserts that each command line of a text prints what stands after it.
+/// Asserts that each command line of a text prints the text after it.
 fn check_commands<R: Threads + Wait + Sync + Abort + AllocGlobal>(
     rt: &R,
     files: &str,
@@ -147,7 +166,7 @@ fn examples_print_what_the_documents_say(rt: HostRuntime) -> Result<(), Fail> {
     check_commands(&rt, WIDE)
 }
 
-/// Asserts all that the program prints with no words and this input. The text `of` names the case.
+/// Asserts the whole output of the program without words and with this input. The text `of` names the case.
 fn check_input<R: Threads + Wait + Sync + Abort + AllocGlobal>(
     rt: &R,
     of: &str,
@@ -160,7 +179,7 @@ fn check_input<R: Threads + Wait + Sync + Abort + AllocGlobal>(
     Ok(())
 }
 
-/// Asserts the value of a text, at `main`, 100, 1 in channel 1, where the lines of `[globals]` are parted by `; `.
+/// Asserts the value of a text, at `main`, 100, 1 in channel 1, with lines of `[globals]` separated by `; `.
 fn check_value<R: Threads + Wait + Sync + Abort + AllocGlobal>(
     rt: &R,
     asked: &str,

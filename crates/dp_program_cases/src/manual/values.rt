@@ -1,6 +1,6 @@
 //! The values of the manual's tables of texts.
 
-/// A case is lines of `[globals]`, parted by `; `, a `¦` and a text; then an arrow, and its value.
+/// A case is lines of `[globals]`, separated by `; `, a `¦` and a text; then an arrow, and its value.
 pub(super) const VALUES: &str = r##"
 ¦plain {x} [y] $ $$ }→plain {x} [y] $ $$ }
 ¦${CONTEXT}-${EXTEN}-${PRIORITY}-${CHANNEL}-${CALLERID(num)}→main-100-1-Channel/1-5551234

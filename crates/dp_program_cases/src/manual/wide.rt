@@ -1,6 +1,6 @@
-//! The examples of the manual's pages on applications and functions with `--asterisk`, as those of `examples`.
+//! The examples of the manual's pages on applications and functions with `--asterisk`, in the form of `examples`.
 
-/// As the examples of `examples`: what they name stands here.
+/// The examples, like those of `examples`. The files that they name are here.
 pub(super) const WIDE: &str = r##"
 @ cells.conf
 [main]
@@ -106,7 +106,6 @@ exten => 200,1,Macro(ring,PJSIP/200,20)
  same => n,NoOp(${DIALSTATUS})
 [macro-ring]
 exten => s,1,Dial(${ARG1},${ARG2})
- same => n,MacroExit()
 @
 @ macro.script
 start main 200

@@ -1,4 +1,4 @@
-//! The commands, over files: all that they print, and their statuses.
+//! The commands, over files: their whole output, and their statuses.
 use crate::program::mistakes::{check_helps, check_mistakes};
 use dp_program_fixture::{check_table, make_folder};
 use std::rt::Files;
@@ -12,7 +12,7 @@ const CHECKS: &str = "\
 check @usual→0→note 13 UnknownContext¶ok 1 contexts 4 entries¶→
 check @classes→0→note 5 DoublePriority¶ok 1 contexts 3 entries¶→
 check @notes→0→note 2 UnknownKey¶note 5 DoublePriority¶note 7 DoubleLabel¶note 8 UnknownContext¶note 9 UnknownKey¶ok 1 contexts 2 entries¶→
-# Contexts are counted once, also where only a header stands; includes are no entries.
+# Contexts are counted once, even if only a header is there; includes are not entries.
 check @sections→0→ok 3 contexts 2 entries¶→
 check @cycle→0→ok 2 contexts 0 entries¶→
 check @empty→0→ok 0 contexts 0 entries¶→
@@ -21,19 +21,20 @@ check -- @empty→0→ok 0 contexts 0 entries¶→
 check @faulty→1→→fault 4 NoEquals line 2¶
 check @missing→1→→fault 7 ReadFailed¶
 check @folder→1→→fault 7 ReadFailed¶
-# A file stands where a folder would, and a name has more than 255 bytes.
+# A file where a folder would be, and a name of more than 255 bytes.
 check @sample/extensions.conf→1→→fault 7 ReadFailed¶
 check @xxxxxxxxxxxxxxxxxxxxxxxxxxxxxxxxxxxxxxxxxxxxxxxxxxxxxxxxxxxxxxxxxxxxxxxxxxxxxxxxxxxxxxxxxxxxxxxxxxxxxxxxxxxxxxxxxxxxxxxxxxxxxxxxxxxxxxxxxxxxxxxxxxxxxxxxxxxxxxxxxxxxxxxxxxxxxxxxxxxxxxxxxxxxxxxxxxxxxxxxxxxxxxxxxxxxxxxxxxxxxxxxxxxxxxxxxxxxxxxxxxxxxxxxxxxxxxxx→1→→fault 7 ReadFailed¶
 check ''→1→→fault 7 ReadFailed¶
 check @long→1→→fault 8 TooLong¶
-# With the files that it includes: each note and each fault at its line, and the counts where there is no fault.
+# With the files that it includes: each note and each fault at its line, and the counts if there is no fault.
 check --asterisk @calls→0→ok 1 contexts 4 entries¶→
+check --asterisk @macros→0→ok 2 contexts 4 entries¶→
 check --asterisk @parted→1→@inner:1: note Hint¶@inner:2: fault 23 BadApplication¶@parted:4: fault 20 BadPriority¶@parted:5: fault 7 ReadFailed nowhere.conf¶3 faults¶→
 check --asterisk @folded→1→@first.part:1: fault 20 BadPriority¶@second.part:1: fault 20 BadPriority¶@folded:3: fault 7 ReadFailed *.none¶3 faults¶→
 check --asterisk --explain @missing→1→→fault 7 ReadFailed¶  @missing¶  a file could not be opened or read¶
 check --asterisk @folder→1→→fault 7 ReadFailed¶
 check --asterisk @long→1→→fault 8 TooLong¶
-# Queues alone: no section `[general]` is one.
+# Queues alone: a section `[general]` is not a queue.
 check --queues @help→0→ok 1 queues¶→
 check --queues @queues→0→ok 2 queues¶→
 check --queues @empty→0→ok 0 queues¶→
@@ -41,10 +42,10 @@ check --queues @strategy→1→→fault 30 BadStrategy line 2¶
 check --queues @faulty→1→→fault 4 NoEquals line 2¶
 check --queues @missing→1→→fault 7 ReadFailed¶
 check --queues @long→1→→fault 8 TooLong¶
-# A dialplan and queues: the queues are told last.
+# A dialplan and queues: the queues come last.
 check --queues @help @usual→0→note 13 UnknownContext¶ok 1 contexts 4 entries¶ok 1 queues¶→
 check @empty --queues @queues→0→ok 0 contexts 0 entries¶ok 2 queues¶→
-# Both files are read before their texts, the dialplan first, and so come the faults of their texts. Nothing else is printed.
+# Both files are read before their texts, the dialplan first, and the faults of their texts come in the same order. Nothing else is printed.
 check --queues @strategy @usual→1→→fault 30 BadStrategy line 2¶
 check --queues @help @priority→1→→fault 20 BadPriority line 2¶
 check --queues @strategy @priority→1→→fault 20 BadPriority line 2¶
@@ -56,11 +57,14 @@ check --queues @strategy @missing→1→→fault 7 ReadFailed¶
 
 /// `list`.
 const LISTS: &str = "\
-# With the files that it includes: nothing is listed where a line has a fault.
+# With the files that it includes: nothing is listed if a line has a fault.
 list --asterisk @pieces→0→[main]¶exten => 100,1,NoOp(hello)¶exten => 100,2,Hangup()¶exten => s,1,Goto(100,1)¶→
 list @pieces→1→→fault 5 Directive line 2¶
 list --asterisk @parted→1→→@inner:2: fault 23 BadApplication¶@parted:4: fault 20 BadPriority¶@parted:5: fault 7 ReadFailed nowhere.conf¶
 list --asterisk @switched→0→[main]¶→
+# A macro ends where its priorities end.
+list --asterisk @macros→0→[main]¶exten => s,1,Macro(x)¶exten => s,2,Hangup()¶[macro-x]¶exten => s,1,NoOp(in)¶exten => s,2,MacroExit()¶→
+list @macros→0→[main]¶exten => s,1,Macro(x)¶exten => s,2,Hangup()¶[macro-x]¶exten => s,1,NoOp(in)¶→
 list --asterisk @missing→1→→fault 7 ReadFailed¶
 list --asterisk @long→1→→fault 8 TooLong¶
 list --explain --asterisk @missing→1→→fault 7 ReadFailed¶  @missing¶  a file could not be opened or read¶
@@ -84,18 +88,18 @@ reach @doors safe --to safe→1→assumed: extensions of {0-9A-Za-z*#+_.}*, call
 reach @doors outside --to safe --start hall --exten 0-9 --caller 7→0→assumed: extensions of {0-9}*, callers' numbers of {7}*, calls come in at outside hall¶unreachable: safe¶→
 reach @doors hall --to safe --exten 0-8a-cx→0→assumed: extensions of {0-8a-cx}*, callers' numbers of {0-9+}*, calls come in at every context¶unreachable: safe¶→
 reach @doors outside --to hall --exten=s-→1→assumed: extensions of {s-}*, callers' numbers of {0-9+}*, calls come in at every context¶may reach: hall,s,1 Hangup()  e.g. extension s¶  outside,{s-}*  a call comes in¶  outside,s,1 Goto(hall,${EXTEN},1) -> hall,{s-}*¶every jump that lets a call in there:¶  outside,s,1 Goto(hall,${EXTEN},1)¶→
-# A jump to a context that is computed, and an application that is not there.
+# A jump to a computed context, and an application that does not exist.
 reach @jumps in --exten 0-9→0→assumed: extensions of {0-9}*, callers' numbers of {0-9+}*, calls come in at every context¶in,_X.,1 Set(where=${EXTEN})¶in,_X.,2 Goto(${where},s,1)¶  in,{0-9}*  a call comes in¶7,s,1 Hangup()¶  in,{0-9}*  a call comes in¶  in,_X.,2 Goto(${where},s,1) -> 7,s¶may lead to any context: in,_X.,2 Goto(${where},s,1)¶ok 3 of 4 entries in 2 of 3 contexts¶→
 reach @jumps in --to desk→1→assumed: extensions of {0-9A-Za-z*#+_.}*, callers' numbers of {0-9+}*, calls come in at every context¶may reach: desk,s,1 Macro(ring)  e.g. extension s¶  in,{0-9A-Za-z*#+_.}*  a call comes in¶  in,_X.,2 Goto(${where},s,1) -> desk,s¶every jump that lets a call in there:¶  in,_X.,2 Goto(${where},s,1)¶may lead to any context: in,_X.,2 Goto(${where},s,1)¶no such application: desk,s,1 Macro(ring)¶of what an exchange does that has this application, nothing is claimed¶→
-# A way out of a queue, where it has one.
+# A way out of a queue, if it has one.
 reach @ways main --to out→0→assumed: extensions of {0-9A-Za-z*#+_.}*, callers' numbers of {0-9+}*, calls come in at every context¶unreachable: out¶→
 reach --queues @wayout @ways main --to out→1→assumed: extensions of {0-9A-Za-z*#+_.}*, callers' numbers of {0-9+}*, calls come in at every context¶may reach: out,1,1 Hangup()  e.g. extension 1¶  main,{0-9A-Za-z*#+_.}*  a call comes in¶  main,s,1 Queue(help) -> out,{0-9A-D*#}¶every jump that lets a call in there:¶  main,s,1 Queue(help)¶→
 # A call ends at the extension `h`, and digits that match nothing lead to `i`.
 reach @ends in --to late→1→assumed: extensions of {0-9A-Za-z*#+_.}*, callers' numbers of {0-9+}*, calls come in at every context¶may reach: late,s,1 NoOp()  e.g. extension s¶  in,{0-9A-Za-z*#+_.}*  a call comes in¶  in,s,1 Goto(main,s,1) -> main,s¶  the call ends -> main,h¶  main,h,1 Goto(late,s,1) -> late,s¶every jump that lets a call in there:¶  main,h,1 Goto(late,s,1)¶→
 reach @ends in --to lost→1→assumed: extensions of {0-9A-Za-z*#+_.}*, callers' numbers of {0-9+}*, calls come in at every context¶may reach: lost,s,1 NoOp()  e.g. extension s¶  in,{0-9A-Za-z*#+_.}*  a call comes in¶  in,s,1 Goto(main,s,1) -> main,s¶  no extension matches -> main,i¶  main,i,1 Goto(lost,s,1) -> lost,s¶every jump that lets a call in there:¶  main,i,1 Goto(lost,s,1)¶→
-# A line more in the sample of routes opens a way of four places.
+# One more line in the sample of routes opens a way of four places.
 reach @opened from-carrier --to international→1→assumed: extensions of {0-9A-Za-z*#+_.}*, callers' numbers of {0-9+}*, calls come in at every context¶may reach: international,_00ZX.,1 Set(CALLERID(num)=+4989123450)  e.g. extension 00111¶  from-carrier,{0-9A-Za-z*#+_.}*  a call comes in¶  from-carrier,_X.,2 Goto(reception,s,1) -> reception,s¶  reception,s,3 Background(welcome) -> reception,{0-9A-D*#}*¶  lobby-features,_**X.,1 Goto(from-staff,${EXTEN:2},1) -> from-staff,{0-9}{0-9A-D*#}*¶every jump that lets a call in there:¶  lobby-features,_**X.,1 Goto(from-staff,${EXTEN:2},1)¶→
-# Names of contexts that are not there, and files with a fault.
+# Names of contexts that do not exist, and files with a fault.
 reach @doors kitchen→1→→pbx: @doors has no context `kitchen`¶
 reach @doors outside --to kitchen --start a,hall→1→→pbx: @doors has no context `kitchen`¶pbx: @doors has no context `a`¶
 reach @doors hal --explain→1→→pbx: @doors has no context `hal`¶  nearest: hall¶  nearest: safe¶  nearest: outside¶
@@ -113,7 +117,7 @@ match @usual main 555-1234 3→0→main,_NXXXXXX,3 Queue¶→
 match @usual main 5551234 4→0→main,_NXXXXXX,4 Hangup¶→
 match @usual main 5551234 5→0→none¶→
 match @usual main 1551234→0→none¶→
-# The context that is included is none, and names have their case.
+# An included context is not the entry's own, and names are case sensitive.
 match @usual out 5551234→0→none¶→pbx: @usual has no context `out`¶
 match @usual Main 5551234→0→none¶→pbx: @usual has no context `Main`¶
 match @usual '' ''→0→none¶→pbx: @usual has no context ``¶
@@ -123,11 +127,11 @@ match @specific main 123→0→main,123,1 NoOp¶→
 match @specific main 124→0→main,_1XX,1 NoOp¶→
 match @specific main 12→0→main,_X.,1 NoOp¶→
 match @specific main 1→0→none¶→
-# The priority is asked before the name is chosen.
+# The priority is checked before the name is chosen.
 match @priorities main 123 1→0→main,123,1 NoOp¶→
 match @priorities main 123 2→0→main,_X.,2 NoOp¶→
 match @priorities main 123 3→0→none¶→
-# The context answers before what it includes, and each entry has the context of its own.
+# The context answers before what it includes, and each entry is printed with its own context.
 match @cycle a 77→0→none¶→
 match @chain main 123→0→main,_1XX,1 NoOp¶→
 match @chain main 123 2→0→late,123,2 Hangup¶→
@@ -145,13 +149,13 @@ match @missing main s→1→→fault 7 ReadFailed¶
 match @folder main s→1→→fault 7 ReadFailed¶
 match @long main s→1→→fault 8 TooLong¶
 match @empty main s→0→none¶→pbx: @empty has no context: is it a dialplan?¶
-# Nor where no context has an entry or an include, as in a file of queues. An include alone is enough.
+# Nor if no context has an entry or an include, as in a file of queues. An include alone is enough.
 match @help main s→0→none¶→pbx: @help has no entry: is it a dialplan?¶
 match @help help s→0→none¶→pbx: @help has no entry: is it a dialplan?¶
 match --all @queues main s→0→none¶→pbx: @queues has no entry: is it a dialplan?¶
 match @cycle c 77→0→none¶→pbx: @cycle has no context `c`¶
 match --all @specific mian 123→0→none¶→pbx: @specific has no context `mian`¶
-# With the files that it includes: nothing is looked up where a line has a fault, or what this program cannot follow.
+# With the files that it includes: nothing is looked up if a line has a fault, or something that this program cannot follow.
 match --asterisk @pieces main 100 2→0→main,100,2 Hangup¶→
 match --all --asterisk @pieces main s→0→main,s,1 Goto¶main,s,1 Goto: answers¶→
 match --asterisk @pieces out 100→0→none¶→pbx: @pieces has no context `out`¶
@@ -159,8 +163,9 @@ match --asterisk @faulty main s→1→→@faulty:2: fault 4 NoEquals¶
 match --asterisk @switched main s→1→→@switched:2: note Switch¶
 match --asterisk @slash main s→1→→@slash:2: note CallerId¶
 match --asterisk @through main s→1→→@through:2: note AutoFallThrough¶
+match --asterisk @filled main s→1→→@filled:2: note Exec¶
 match --asterisk @missing main s→1→→fault 7 ReadFailed¶
-# All that match.
+# All extensions that match.
 match --all @specific main 123→0→main,123,1 NoOp¶main,123,1 NoOp: answers¶main,_1XX,1 NoOp: less specific¶main,_X.,1 NoOp: less specific¶→
 match @priorities main 123 2 --all→0→main,_X.,2 NoOp¶main,123,2: no such priority¶main,_X.,2 NoOp: answers¶→
 match --all @chain main 123→0→main,_1XX,1 NoOp¶main,_1XX,1 NoOp: answers¶late,123,1 Hangup: later context¶→
@@ -180,7 +185,7 @@ audit @missing→1→→fault 7 ReadFailed¶
 audit @long→1→→fault 8 TooLong¶
 # It reads no input.
 audit @empty←[main]¶abc¶→0→ok 0 findings¶→pbx: @empty has no context: is it a dialplan?¶
-# Some kinds alone, and all but some.
+# Only some kinds, and all except some.
 audit --only cycle @cycle→1→Cycle a¶Cycle b¶ok 2 findings¶→
 audit @cycle --only=Gap,Hidden→0→ok 0 findings¶→
 audit --ignore CYCLE,Gap @cycle→0→ok 0 findings¶→
@@ -192,7 +197,7 @@ audit --asterisk @jumps→0→ok 0 findings¶→
 audit --asterisk @circling→1→NoApplication main,100,2 While¶FallsThrough main,100,2 main,_X.,3¶Loop main,s,1¶NoFunction main,_X.,3 CUTT¶ok 4 findings¶→
 audit --asterisk --only loop,FallsThrough @circling→1→FallsThrough main,100,2 main,_X.,3¶Loop main,s,1¶ok 2 findings¶→
 audit @circling --ignore loop,noapplication,nofunction,fallsthrough --asterisk→0→ok 0 findings¶→
-# What is told beside it, and faults, are as without them.
+# The hints, and faults, are the same as without them.
 audit --asterisk @empty→0→ok 0 findings¶→pbx: @empty has no context: is it a dialplan?¶
 audit --only Gap @help→0→ok 0 findings¶→pbx: @help has no entry: is it a dialplan?¶
 audit --asterisk @faulty→1→→@faulty:2: fault 4 NoEquals¶
@@ -213,7 +218,7 @@ explain 71→0→71 BadBreak¶a break of `debug` that has not three parts, or of
 # The refusals of events are known too.
 explain 40→0→40 NoChannel¶no channel has the number¶example: `step 1` as the first line¶→
 explain 53→0→53 NotDialling¶a `result` of a channel that waits for no call to devices¶example: `result 1 BUSY` just after the `start` of channel 1¶→
-# A name stands for its number.
+# A name is used like its number.
 explain NoEquals→0→4 NoEquals¶a line of a section with no `=`¶example: `abc`¶→
 explain NoTimer→0→43 NoTimer¶a `timeout` of a channel that waits in a queue, or for a call to devices, for as long as it takes¶example: `timeout 1` while channel 1 is in `Queue(support)`¶→
 explain --explain DoubleQueue→0→33 DoubleQueue¶a second section of one queue¶example: `[sales]` twice¶→
@@ -221,7 +226,7 @@ explain --explain DoubleQueue→0→33 DoubleQueue¶a second section of one queu
 explain 33←[main]¶abc¶→0→33 DoubleQueue¶a second section of one queue¶example: `[sales]` twice¶→
 ";
 
-/// `--explain`: below a fault, and below a note of `check`, stand its place, the line and a sentence.
+/// `--explain`: below a fault, and below a note of `check`, come its place, the line and a sentence.
 const EXPLAINED: &str = "\
 # In a dialplan.
 check --explain @faulty→1→→fault 4 NoEquals line 2¶  @faulty:2¶  abc¶  a line of a section with no `=`¶
@@ -234,7 +239,7 @@ run --threads 2 --explain @faulty @faulty.script→1→→fault 4 NoEquals line 
 debug --break main,s,1 --explain @faulty @faulty.script→1→→fault 4 NoEquals line 2¶  @faulty:2¶  abc¶  a line of a section with no `=`¶
 check --explain @priority→1→→fault 20 BadPriority line 2¶  @priority:2¶  exten => s,0,NoOp()¶  a priority that is neither `n` nor a number from 1 on¶
 check --explain @name→1→→fault 11 EmptySet line 3¶  @name:3¶  exten => _[],1,NoOp()¶  a set with no member¶
-# Of what is left out stands its kind.
+# For what is left out, its kind.
 check --explain @switched→1→→fault 24 LeftOut line 2¶  @switched:2¶  lswitch => Loopback/x¶  what this program leaves out: the keys `switch`, `lswitch`, `eswitch`¶
 check --explain @ignoring→1→→fault 24 LeftOut line 2¶  @ignoring:2¶  ignorepat => 9¶  what this program leaves out: the key `ignorepat`¶
 check --explain @hinted→1→→fault 24 LeftOut line 2¶  @hinted:2¶  exten => 100,hint,Line/1¶  what this program leaves out: the priority `hint`¶
@@ -243,7 +248,7 @@ check --explain @slash→1→→fault 24 LeftOut line 2¶  @slash:2¶  exten => 
 check --explain @braced→1→→fault 24 LeftOut line 2¶  @braced:2¶  exten => ${X},1,NoOp()¶  what this program leaves out: a `${` in a name, or in its one spelling: variables¶
 check --explain @timed→1→→fault 24 LeftOut line 2¶  @timed:2¶  include => late,9:00-17:00,*,*,*¶  what this program leaves out: an include with a comma: times¶
 check --explain @commas→1→→fault 24 LeftOut line 2¶  @commas:2¶  exten => s,1,Wait,5¶  what this program leaves out: an application with a comma in place of parentheses¶
-# In the queues, also where the line is none of any text.
+# In the queues, even if the line is not one of any text.
 run --explain --queues @strategy @first @first.script→1→→fault 30 BadStrategy line 2¶  @strategy:2¶  strategy = best¶  a strategy that is none¶
 run --explain --queues @faulty @first @first.script→1→→fault 4 NoEquals line 2¶  @faulty:2¶  abc¶  a line of a section with no `=`¶
 run --explain --threads 2 --queues @odd @first @faulty.script→1→→fault 4 NoEquals line 2¶  @odd:2¶  a\\x09b\\x7f\\xc3\\xa9 c\\x0d¶  a line of a section with no `=`¶
@@ -260,7 +265,7 @@ debug --explain --break main,s,1 @first @faulty.script→1→→fault 70 BadScri
 check --explain @odd→1→→fault 4 NoEquals line 2¶  @odd:2¶  a\\x09b\\x7f\\xc3\\xa9 c\\x0d¶  a line of a section with no `=`¶
 check --explain @wide→1→→fault 4 NoEquals line 2¶  @wide:2¶  xxxxxxxxxxxxxxxxxxxxxxxxxxxxxxxxxxxxxxxxxxxxxxxxxxxxxxxxxxxxxxxxxxxxxxxxxxxxxxxxxxxxxxxxxxxxxxxxxxxxxxxxxxxxxxxxxxxxxxxxxxxxxxxxxxxxxxxxxxxxxxxxxxxxxxxxxxxxxxxxxxxxxxxxxxxxxxxxxxxxxxxxxxxxxxxxxxxxxxxx¶  a line of a section with no `=`¶
 check --explain @marked→1→→fault 3 BadHeader line 1¶  @marked:1¶  \\xef\\xbb\\xbf[main¶  a header with no `]`, with an empty name, or with text after the `]`¶
-# Of a file that could not be read stands its path: of the first of all.
+# For a file that could not be read, its path: that of the first of all.
 check --explain @missing→1→→fault 7 ReadFailed¶  @missing¶  a file could not be opened or read¶
 check --explain @long→1→→fault 8 TooLong¶  @long¶  a file has more than 16,777,216 bytes¶
 check --explain --queues @long→1→→fault 8 TooLong¶  @long¶  a file has more than 16,777,216 bytes¶
@@ -278,20 +283,20 @@ run --explain --queues @help --reload @missing @faulty @folder→1→→fault 7 
 run --explain --queues @help --reload @changed @faulty @folder→1→→fault 7 ReadFailed¶  @folder¶  a file could not be opened or read¶
 run --explain --threads 2 @first @missing→1→→fault 7 ReadFailed¶  @missing¶  a file could not be opened or read¶
 debug --explain --break main,s --reload @missing @first @first.script→1→→fault 7 ReadFailed¶  @missing¶  a file could not be opened or read¶
-# Faults that stand in no file.
+# Faults that are not in a file.
 debug --explain --break main,s @faulty @faulty.script→1→→fault 71 BadBreak¶  a break of `debug` that has not three parts, or of which the priority is no number from 1 to 2,147,483,647¶
 # Notes.
 check --explain @usual→0→note 13 UnknownContext¶  @usual:13¶  include => out¶  there is no context of this name; the include is kept, and finds nothing¶ok 1 contexts 4 entries¶→
 check --explain --queues @help @usual→0→note 13 UnknownContext¶  @usual:13¶  include => out¶  there is no context of this name; the include is kept, and finds nothing¶ok 1 contexts 4 entries¶ok 1 queues¶→
 check @notes --explain→0→note 2 UnknownKey¶  @notes:2¶  =x¶  a context has no such key, or a key in `[globals]` is empty, whatever its value is; this line is dropped¶note 5 DoublePriority¶  @notes:5¶  exten => s,1,Hangup()¶  an earlier line of the context that is kept has the extension and the priority; this line is dropped¶note 7 DoubleLabel¶  @notes:7¶  exten => s,3(x),NoOp()¶  an earlier line of the context and the extension that is kept has the label; this line is dropped¶note 8 UnknownContext¶  @notes:8¶  include => nowhere¶  there is no context of this name; the include is kept, and finds nothing¶note 9 UnknownKey¶  @notes:9¶  colour = red¶  a context has no such key, or a key in `[globals]` is empty, whatever its value is; this line is dropped¶ok 1 contexts 2 entries¶→
-# Where there is neither a fault nor a note, and of a refused event, there is nothing more.
+# Without a fault or a note, and for a refused event, there is nothing more.
 check --explain @sections→0→ok 3 contexts 2 entries¶→
 list --explain @cycle→0→[a]¶include => b¶[b]¶include => a¶→
 audit --explain @cycle→1→Cycle a¶Cycle b¶ok 2 findings¶→
 run --explain @notes @empty→0→→
 run --explain @first @refused.script→1→refused 40 NoChannel¶started 1¶ran 1 main,100,1 NoOp -> ready main,100,2¶→
-# The nearest names of contexts: at most three, the nearest first, and of those that are as near the first of the file. One that has
-# more than 80 bytes is compared with none.
+# The nearest names of contexts: at most three, the nearest first, and of those that are equally near the first of the file. A name of
+# more than 80 bytes is not compared.
 match --explain @near main s→0→none¶→pbx: @near has no context `main`¶  nearest: min¶  nearest: mainn¶  nearest: mien¶
 match --explain @near X s→0→none¶→pbx: @near has no context `X`¶  nearest: ax¶  nearest: min¶  nearest: mien¶
 match --all --explain @sections d 1→0→none¶→pbx: @sections has no context `d`¶  nearest: a¶  nearest: b¶  nearest: c¶
@@ -309,11 +314,11 @@ run @first @first.script→0→started 1¶ran 1 main,100,1 NoOp -> ready main,10
 run @labels @labels.script→0→started 1¶ran 1 main,s,1 Goto -> ready main,s,2¶ran 1 main,s,2 Hangup -> ended¶→
 run @first @empty→0→→
 run @empty @empty→0→→
-# Notes are no business of a run.
+# A run does not report notes.
 run @notes @empty→0→→
 # A refused event.
 run @first @refused.script→1→refused 40 NoChannel¶started 1¶ran 1 main,100,1 NoOp -> ready main,100,2¶→
-# A faulty script, which stands after a faulty dialplan.
+# A faulty script, which comes after a faulty dialplan.
 run @first @faulty.script→1→→fault 70 BadScript line 2¶
 run @faulty @faulty.script→1→→fault 4 NoEquals line 2¶
 # Both files are read before their texts.
@@ -329,16 +334,16 @@ run @dialling @dialling.script→1→started 1¶ran 1 main,s,1 Dial -> dialling�
 # reload
 run --reload @changed @changing @changing.script→0→started 1¶ran 1 main,100,1 NoOp -> ready main,100,2¶ok¶X=12¶Y=5¶ran 1 main,_1XX,2 Hangup -> ended¶→
 run --reload @unclosed @changing @changing.script→1→started 1¶ran 1 main,100,1 NoOp -> ready main,100,2¶refused 52 BadPlan¶X=1¶Y=5¶ran 1 main,100,2 NoOp -> ready main,100,3¶→
-# With an empty second dialplan, and with none.
+# With an empty second dialplan, and without one.
 run @changing @changing.script --reload @empty→0→started 1¶ran 1 main,100,1 NoOp -> ready main,100,2¶ok¶X=1¶Y=5¶no entry 1 -> ended¶→
 run @changing @changing.script→1→→fault 70 BadScript line 3¶
 run --queues @help @changing @changing.script→1→→fault 70 BadScript line 3¶
 # A second dialplan that no event gives is not looked into.
 run --reload @faulty @labels @labels.script→0→started 1¶ran 1 main,s,1 Goto -> ready main,s,2¶ran 1 main,s,2 Hangup -> ended¶→
-# The lines that part a joined text are comments of files.
+# The lines that separate the parts of a joined text are comments in files.
 run @joined @joined.script→0→started 1¶ran 1 main,s,1 NoOp -> ready main,s,2¶ran 1 main,s,2 NoOp -> ready main,s,3¶→
-# The dialplan is read first, then the queues, then the second dialplan, then the script, and so come the faults of their texts, of
-# which the second dialplan has none.
+# The dialplan is read first, then the queues, then the second dialplan, then the script. The faults of their texts come in the same order,
+# and the second dialplan has none.
 run --reload @missing @first @first.script→1→→fault 7 ReadFailed¶
 run --reload @folder @first @first.script→1→→fault 7 ReadFailed¶
 run --reload @long @first @first.script→1→→fault 8 TooLong¶
@@ -361,18 +366,21 @@ run --queues @help @first @faulty.script→1→→fault 70 BadScript line 2¶
 
 /// `run --asterisk`.
 const ASTERISK_RUNS: &str = "\
-# A run stops before what is unknown, and a fact or a pass lets it go on. Without the option a value that nothing wrote is empty, an
-# unknown application ends the call, and no line tells facts.
+# A run stops before anything unknown, and a fact or a pass lets it go on. Without the option a value that nothing set is empty, an
+# unknown application ends the call, and no line states facts.
 run --asterisk @asking @asking.script→4→started 1¶unknown 1 DB(x) -> ready main,s,1¶→
 run --asterisk @asking @telling.script→0→started 1¶ok 1 -> ready main,s,1¶ran 1 main,s,1 Set -> ready main,s,2¶A=5¶ok 1 -> ready main,s,3¶ran 1 main,s,3 Hangup -> ended¶→
 run @asking @asking.script→0→started 1¶ran 1 main,s,1 Set -> ready main,s,2¶ran 1 main,s,2 While -> ended¶→
 run @asking @telling.script→1→→fault 70 BadScript line 2¶
-# Where all is known a run goes as ever.
+# If everything is known, a run goes as without the option.
 run @first @first.script --asterisk→0→started 1¶ran 1 main,100,1 NoOp -> ready main,100,2¶ran 1 main,100,2 Goto -> ready main,200,1¶ran 1 main,200,1 Hangup -> ended¶→
 run --asterisk @first @refused.script→1→refused 40 NoChannel¶started 1¶ran 1 main,100,1 NoOp -> ready main,100,2¶→
 run --asterisk --queues @help @callers @callers.script→0→started 1¶ran 1 main,s,1 Queue -> queued help¶ok 1 -> ready main,s,2¶ran 1 main,s,2 Hangup -> ended¶→
 run --reload @changed --asterisk @changing @changing.script→0→started 1¶ran 1 main,100,1 NoOp -> ready main,100,2¶ok¶X=12¶Y=5¶ran 1 main,_1XX,2 Hangup -> ended¶→
-# A verbose run writes more above the same lines, and ends likewise.
+# A macro ends where its priorities end.
+run --asterisk @macros @macros.script→0→started 1¶ran 1 main,s,1 Macro -> ready macro-x,s,1¶ran 1 macro-x,s,1 NoOp -> ready macro-x,s,2¶ran 1 macro-x,s,2 MacroExit -> ready main,s,2¶ran 1 main,s,2 Hangup -> ended¶→
+run --asterisk --verbose @macros @macros.script→0→started 1¶  @macros:2 Macro(x)¶ran 1 main,s,1 Macro -> ready macro-x,s,1¶  @macros:5 NoOp(in)¶ran 1 macro-x,s,1 NoOp -> ready macro-x,s,2¶  @macros:5 MacroExit()¶ran 1 macro-x,s,2 MacroExit -> ready main,s,2¶  @macros:3 Hangup()¶ran 1 main,s,2 Hangup -> ended¶→
+# A verbose run writes more above the same lines, and ends in the same way.
 run --asterisk --verbose @asking @asking.script→4→started 1¶unknown 1 DB(x) -> ready main,s,1¶→
 run --asterisk @asking @telling.script --verbose→0→started 1¶ok 1 -> ready main,s,1¶  @asking:2 Set(A=5)¶ran 1 main,s,1 Set -> ready main,s,2¶A=5¶ok 1 -> ready main,s,3¶  @asking:4 Hangup()¶ran 1 main,s,3 Hangup -> ended¶→
 run --verbose --asterisk @first @refused.script→1→  40 NoChannel¶  no channel has the number¶  example: `step 1` as the first line¶refused 40 NoChannel¶started 1¶  @first:2 NoOp(hello)¶ran 1 main,100,1 NoOp -> ready main,100,2¶→
@@ -380,8 +388,8 @@ run --asterisk --verbose --queues @help @callers @callers.script→0→started 1
 run --asterisk --verbose --reload @changed @changing @changing.script→0→started 1¶  @changing:5 NoOp(a)¶ran 1 main,100,1 NoOp -> ready main,100,2¶ok¶X=12¶Y=5¶  @changed:4 Hangup()¶ran 1 main,_1XX,2 Hangup -> ended¶→
 run --asterisk --verbose @faulty @untold.script→1→→@faulty:2: fault 4 NoEquals¶
 run --asterisk --verbose @first @missing→1→→fault 7 ReadFailed¶
-# Each dialplan is read with the files that it includes, and the lines of its entries are those of these files. Where it has a fault, or what
-# this program cannot follow, nothing runs.
+# Each dialplan is read with the files that it includes, and the lines of its entries are those of these files. If it has a fault, or something
+# that this program cannot follow, nothing runs.
 run --asterisk @pieces @pieces.script→0→started 1¶ran 1 main,s,1 Goto -> ready main,100,1¶ran 1 main,100,1 NoOp -> ready main,100,2¶ran 1 main,100,2 Hangup -> ended¶→
 run --asterisk --verbose @pieces @pieces.script→0→started 1¶  @pieces:3 Goto(100,1)¶ran 1 main,s,1 Goto -> ready main,100,1¶  @inner.piece:3 NoOp(hello)¶ran 1 main,100,1 NoOp -> ready main,100,2¶  @inner.piece:4 Hangup()¶ran 1 main,100,2 Hangup -> ended¶→
 run --asterisk --verbose --reload @pieces @changing @changing.script→0→started 1¶  @changing:5 NoOp(a)¶ran 1 main,100,1 NoOp -> ready main,100,2¶ok¶X=1¶Y=5¶  @inner.piece:4 Hangup()¶ran 1 main,100,2 Hangup -> ended¶→
@@ -411,7 +419,7 @@ run --verbose --reload @unclosed @changing @changing.script→1→started 1¶  @
 debug --verbose --reload @changed --break main,100,2 @changing @changing.script→0→started 1¶  @changing:5 NoOp(a)¶ran 1 main,100,1 NoOp -> ready main,100,2¶ok¶break 3¶  @changed:4 Hangup()¶ran 1 main,_1XX,2 Hangup -> ended¶end 4¶→
 # In threads nothing more is printed.
 run --verbose --threads 2 @pair @pair.script→0→settled 2 seats 2 calls¶→
-# Nor is it where there is a fault.
+# Nor is it if there is a fault.
 run --verbose @faulty @faulty.script→1→→fault 4 NoEquals line 2¶
 run --verbose --explain @faulty @faulty.script→1→→fault 4 NoEquals line 2¶  @faulty:2¶  abc¶  a line of a section with no `=`¶
 run --verbose @first @missing→1→→fault 7 ReadFailed¶
@@ -467,7 +475,7 @@ debug --break main,100,2 @changing @changing.script→1→→fault 70 BadScript 
 debug --reload @unclosed --break main,s @changing @changing.script→1→→fault 71 BadBreak¶
 debug --reload @missing --break main,s @first @first.script→1→→fault 7 ReadFailed¶
 debug --reload @long --break main,s @first @missing→1→→fault 8 TooLong¶
-# A break that is none, after the reading of all files and before their texts.
+# Not a break: reported after all files are read and before their texts.
 debug --break main,s @first @first.script→1→→fault 71 BadBreak¶
 debug --break main,s @faulty @faulty.script→1→→fault 71 BadBreak¶
 debug --queues @faulty --break main,s,+1 @faulty @faulty.script→1→→fault 71 BadBreak¶
@@ -503,7 +511,7 @@ match @calls calls 12→0→calls,_X.,1 NoOp¶→
 match @calls calls 1→0→none¶→
 ";
 
-/// With no command the standard input is run.
+/// Without a command the standard input is run.
 const INPUTS: &str = "\
 ←[main]¶exten => 100,1,NoOp(hello)¶exten => 100,2,Goto(200,1)¶exten => 200,1,Hangup()¶;; script¶start main 100¶step 1 3¶→0→started 1¶ran 1 main,100,1 NoOp -> ready main,100,2¶ran 1 main,100,2 Goto -> ready main,200,1¶ran 1 main,200,1 Hangup -> ended¶→
 --←[main]¶exten => 100,1,NoOp(hello)¶exten => 100,2,Goto(200,1)¶exten => 200,1,Hangup()¶;; script¶start main 100¶step 1 3¶→0→started 1¶ran 1 main,100,1 NoOp -> ready main,100,2¶ran 1 main,100,2 Goto -> ready main,200,1¶ran 1 main,200,1 Hangup -> ended¶→
@@ -513,7 +521,7 @@ const INPUTS: &str = "\
 # reload
 ←[globals]¶X=1¶Y=5¶[main]¶exten => 100,1,NoOp(a)¶exten => 100,2,NoOp(b)¶;; reload¶[globals]¶X=${X}2¶[main]¶exten => _1XX,2,Hangup()¶;; script¶start main 100¶step 1¶reload¶show 1 X¶show 1 Y¶step 1¶→0→started 1¶ran 1 main,100,1 NoOp -> ready main,100,2¶ok¶X=12¶Y=5¶ran 1 main,_1XX,2 Hangup -> ended¶→
 ←[main]¶;; script¶reload¶→1→→fault 70 BadScript line 1¶
-# A command reads none of it.
+# A command does not read it.
 check @empty←[main]¶exten => 100,1,NoOp(hello)¶exten => 100,2,Goto(200,1)¶exten => 200,1,Hangup()¶;; script¶start main 100¶step 1 3¶→0→ok 0 contexts 0 entries¶→
 ";
 

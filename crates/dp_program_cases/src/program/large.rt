@@ -1,4 +1,4 @@
-//! Texts that are larger than sixteen bits count, and words that are larger than eight do.
+//! Texts that are larger than sixteen bits can count, and words that are longer than eight bits can count.
 use dp_plan::NoMemory;
 use dp_program_fixture::{check_line, check_table, make_folder, write_file};
 use std::alloc::Global;
@@ -8,7 +8,7 @@ use std::test::Fail;
 use std::thread::Threads;
 use std::{fs, process};
 
-/// A text so many times.
+/// A text repeated this number of times.
 fn repeat_piece(alloc: Global, piece: &str, count: u32) -> Result<String, NoMemory> {
     let mut all = String::new(alloc);
     for _turn in 0..count {
@@ -17,7 +17,7 @@ fn repeat_piece(alloc: Global, piece: &str, count: u32) -> Result<String, NoMemo
     Ok(all)
 }
 
-/// So many contexts, each with one entry.
+/// This number of contexts, each with one entry.
 fn contexts(alloc: Global, count: u32) -> Result<String, NoMemory> {
     let mut all = String::new(alloc);
     for number in 0..count {
@@ -26,7 +26,7 @@ fn contexts(alloc: Global, count: u32) -> Result<String, NoMemory> {
     Ok(all)
 }
 
-/// A fault in the line 70,002.
+/// A fault in line 70,002.
 const TALL: &str = "\
 check @tall→1→→fault 4 NoEquals line 70002¶
 match @tall main s→1→→fault 4 NoEquals line 70002¶
@@ -63,7 +63,7 @@ fn check_many<R: Files + Threads + Wait + Sync + AllocGlobal + Clone + Drop>(
     )
 }
 
-/// A dialplan with an extension of this name, and with arguments that are as long.
+/// A dialplan with an extension of this name, and with arguments of the same length.
 fn wide_plan(alloc: Global, name: &str) -> Result<String, NoMemory> {
     format!(in alloc;
         "[main]\nexten => s,1,NoOp({name})\nexten => s,2,Goto({name},1)\nexten => {name},1,Hangup()\n"
@@ -75,7 +75,7 @@ fn wide_script(alloc: Global, name: &str) -> Result<String, NoMemory> {
     format!(in alloc; "start main s\nstep 1 3\nstart main {name}0\nstep 2\n")
 }
 
-/// What the script prints.
+/// The output of the script.
 fn wide_trace(alloc: Global, name: &str) -> Result<String, NoMemory> {
     format!(in alloc;
         "0→started 1¶ran 1 main,s,1 NoOp -> ready main,s,2¶ran 1 main,s,2 Goto -> ready main,{name},1¶\
@@ -83,7 +83,7 @@ ran 1 main,{name},1 Hangup -> ended¶started 2¶no entry 2 -> ended¶→"
     )
 }
 
-/// Arguments of 300 bytes, an extension of as many, and one of 301 that is missing.
+/// Arguments of 300 bytes, an extension of the same length, and one of 301 bytes that is missing.
 fn check_wide<R: Files + Threads + Wait + Sync + AllocGlobal + Clone + Drop>(
     rt: &R,
     folder: &str,

@@ -1,4 +1,4 @@
-//! Command lines that are refused or that ask for help: all that they print, and their statuses.
+//! Command lines that are refused or that ask for help: their whole output, and their statuses.
 use dp_program_fixture::{check_line, in_a_line};
 use std::rt::Files;
 use std::sync::Wait;
@@ -20,6 +20,8 @@ check --asterisk --queues @help @usual→the argument '--asterisk' cannot be use
 check @usual more→unexpected argument 'more' found→pbx check [OPTIONS] [FILE]
 check --loud x→unexpected argument '--loud' found¶¶  tip: to pass '--loud' as a value, use '-- --loud'→pbx check [OPTIONS] [FILE]
 check --reload @usual @usual→unexpected argument '--reload' found¶¶  tip: to pass '--reload' as a value, use '-- --reload'→pbx check [OPTIONS] [FILE]
+list --clock friday @missing→the following required arguments were not provided:¶  --asterisk→pbx list [OPTIONS] <FILE>
+list --asterisk --clock friday @missing→invalid value 'friday' for '--clock <MOMENT>': a moment is written like 'fri 2026-11-27 09:30'→pbx list [OPTIONS] <FILE>
 list --asterisk→the following required arguments were not provided:¶  <FILE>→pbx list --asterisk <FILE>
 match @usual→the following required arguments were not provided:¶  <CONTEXT>¶  <TEXT>→pbx match <FILE> <CONTEXT> <TEXT> [PRIORITY]
 match @usual main 1 2 3→unexpected argument '3' found→pbx match [OPTIONS] <FILE> <CONTEXT> <TEXT> [PRIORITY]
@@ -85,7 +87,7 @@ fn check_mistake<R: Files + Threads + Wait + Sync + AllocGlobal + Clone + Drop>(
     check_line(rt, folder, words, &want)
 }
 
-/// Asserts all that the command lines that are refused print, and their statuses.
+/// Asserts the whole output of the refused command lines, and their statuses.
 pub(super) fn check_mistakes<R: Files + Threads + Wait + Sync + AllocGlobal + Clone + Drop>(
     rt: &R,
     folder: &str,
@@ -99,7 +101,7 @@ pub(super) fn check_mistakes<R: Files + Threads + Wait + Sync + AllocGlobal + Cl
     Ok(())
 }
 
-/// What is printed where help is asked for.
+/// The help.
 const PBX_HELP: &str = "\
 Say which priority of an Asterisk dialplan answers a call, and run calls through it
 
@@ -138,7 +140,7 @@ Status: 0; 1 if a fault was printed, an event was refused, an audit found someth
 line was refused; 4 if a run with --asterisk stopped because something is unknown.
 ";
 
-/// What is printed where help with `check` is asked for.
+/// The help for `check`.
 const CHECK_HELP: &str = "\
 Load a dialplan, queues or both, and print notes and counts
 
@@ -148,9 +150,10 @@ Arguments:
   [FILE]  The dialplan, such as extensions.conf
 
 Options:
-      --asterisk         Read the files that the dialplan includes, templates and block comments, and print every fault
+      --asterisk         Read included files, templates and block comments, and print every fault
+      --clock <MOMENT>   With --asterisk: the moment by which includes with times are read, like 'fri 2026-11-27 09:30'
       --queues <QUEUES>  The queues, such as queues.conf
-      --explain          Print below each fault, and below each note of `check`, where it is and what the manual says of it
+      --explain          Print below each fault, and below each note of `check`, where it is and what the manual says about it
   -h, --help             Print help
 
 Prints `note LINE KIND` for each line that is dropped and for each include that finds nothing, and then the counts. With
@@ -169,7 +172,7 @@ Example:
   ok 2 queues
 ";
 
-/// What is printed where help with `list` is asked for.
+/// The help for `list`.
 const LIST_HELP: &str = "\
 Print a dialplan as canonical text
 
@@ -179,15 +182,16 @@ Arguments:
   <FILE>  The dialplan, such as extensions.conf
 
 Options:
-      --asterisk  Read the files that the dialplan includes, templates and block comments
-      --explain   Print below each fault, and below each note of `check`, where it is and what the manual says of it
-  -h, --help      Print help
+      --asterisk        Read included files, templates and block comments
+      --clock <MOMENT>  With --asterisk: the moment by which includes with times are read, like 'fri 2026-11-27 09:30'
+      --explain         Print below each fault, and below each note of `check`, where it is and what the manual says about it
+  -h, --help            Print help
 
 Prints the dialplan as canonical text: its global variables, and each context with its entries and its includes. Each priority
 is a number, and each name has its canonical spelling. The notes on the dialplan are not printed.
 
-With --asterisk the files that the dialplan includes are read, templates and block comments. If lines have faults, each fault is printed
-on standard error with its file and line, and the status is 1.
+With --asterisk included files, templates and block comments are read too. If lines have faults, each fault is printed on standard
+error with its file and line, and the status is 1.
 
 Example:
   $ pbx list extensions.conf
@@ -197,7 +201,7 @@ Example:
   include => out
 ";
 
-/// What is printed where help with `match` is asked for.
+/// The help for `match`.
 const MATCH_HELP: &str = "\
 Print which entry of a dialplan answers a call
 
@@ -210,10 +214,11 @@ Arguments:
   [PRIORITY]  The requested priority, from 1 to 2147483647 [default: 1]
 
 Options:
-      --asterisk  Read the files that the dialplan includes, templates and block comments
-      --all       Also print what becomes of each extension that matches
-      --explain   Print below each fault, and below each note of `check`, where it is and what the manual says of it
-  -h, --help      Print help
+      --asterisk        Read included files, templates and block comments
+      --clock <MOMENT>  With --asterisk: the moment by which includes with times are read, like 'fri 2026-11-27 09:30'
+      --all             Also print what becomes of each extension that matches
+      --explain         Print below each fault, and below each note of `check`, where it is and what the manual says about it
+  -h, --help            Print help
 
 Prints `CONTEXT,NAME,PRIORITY APPLICATION` for the entry that answers, or `none`. The context is searched first, and then the
 contexts that it includes. Write `--` before a word that begins with `-`.
@@ -222,14 +227,14 @@ With --all a line follows for each extension that matches, in the order in which
 `less specific`, `later context` or `no such priority`.
 
 With --asterisk the files that the dialplan includes are read. If a line has a fault, or something that this program cannot follow
-(`switch`, an extension for one caller, `autofallthrough=no`), each such line is printed on standard error, and the status is 1.
+(`switch`, an extension for one caller, `autofallthrough=no`, `#exec`), each such line is printed on standard error, with status 1.
 
 Example:
   $ pbx match extensions.conf main 555-1234 3
   main,_NXXXXXX,3 Queue
 ";
 
-/// What is printed where help with `audit` is asked for.
+/// The help for `audit`.
 const AUDIT_HELP: &str = "\
 Print what the writer of a dialplan may not have meant
 
@@ -240,9 +245,10 @@ Arguments:
 
 Options:
       --asterisk           Know the applications and functions that people use, and look for endless runs and calls that go on elsewhere
+      --clock <MOMENT>     With --asterisk: the moment by which includes with times are read, like 'fri 2026-11-27 09:30'
       --only <KINDS>       Print only the findings of these kinds, separated by commas
       --ignore <UNWANTED>  Leave out the findings of these kinds, separated by commas
-      --explain            Print below each fault, and below each note of `check`, where it is and what the manual says of it
+      --explain            Print below each fault, and below each note of `check`, where it is and what the manual says about it
   -h, --help               Print help
 
 Prints `KIND CONTEXT,NAME,PRIORITY` for each finding, followed by its details, and then the number of findings:
@@ -272,7 +278,7 @@ Example:
   ok 2 findings
 ";
 
-/// What is printed where help with `reach` is asked for.
+/// The help for `reach`.
 const REACH_HELP: &str = "\
 Prove which entries a call from a context can never run
 
@@ -288,7 +294,7 @@ Options:
       --exten <BYTES>     The bytes that may be dialled, such as 0-9*#; by default 0-9A-Za-z*#+_.
       --caller <NUMBERS>  The bytes of a caller's number; by default 0-9+
       --to <TARGET>       Report only whether the call may reach this context
-      --explain           Print below each fault, and below each note of `check`, where it is and what the manual says of it
+      --explain           Print below each fault, and below each note of `check`, where it is and what the manual says about it
   -h, --help              Print help
 
 Prints each entry that a call from CONTEXT may run, whatever is dialled, pressed, answered, waited for or done by other calls, and below
@@ -304,7 +310,7 @@ Example:
   unreachable: international
 ";
 
-/// What is printed where help with `explain` is asked for.
+/// The help for `explain`.
 const EXPLAIN_HELP: &str = "\
 Print what the manual says about a fault
 
@@ -314,7 +320,7 @@ Arguments:
   <CODE>  The number of the fault, from 1 to 71, or its name
 
 Options:
-      --explain  Print below each fault, and below each note of `check`, where it is and what the manual says of it
+      --explain  Print below each fault, and below each note of `check`, where it is and what the manual says about it
   -h, --help     Print help
 
 Prints the number and the name of a fault or of the refusal of an event, when it comes, and an example of it, as in the manual.
@@ -327,7 +333,7 @@ Example:
   example: `exten => s,0,NoOp()`
 ";
 
-/// What is printed where help with `run` is asked for.
+/// The help for `run`.
 const RUN_HELP: &str = "\
 Run a script of events on a dialplan, and print the trace
 
@@ -339,11 +345,12 @@ Arguments:
 
 Options:
       --asterisk           Use the applications and functions that people use, take facts from the script, and stop at anything unknown
+      --clock <MOMENT>     With --asterisk: the moment by which includes with times are read, like 'fri 2026-11-27 09:30'
       --queues <QUEUES>    The queues, such as queues.conf; by default there are none
       --reload <DIALPLAN>  The second dialplan, which replaces the first at a line `reload` of the script
       --threads <N>        Give the events from this many threads at once, from 1 to 64
       --verbose            Print the line of its entry above each step, and what the manual says above each refusal
-      --explain            Print below each fault, and below each note of `check`, where it is and what the manual says of it
+      --explain            Print below each fault, and below each note of `check`, where it is and what the manual says about it
   -h, --help               Print help
 
 A script has one event per line. Channels are numbered from 1 as they start; queues and agents have names:
@@ -364,14 +371,14 @@ Prints a line for each.
 With --threads N the calls at the beginning of the script come in first. The other events are dealt to N threads in turn, and
 each thread gives its own in order; `show` is skipped. One line is printed: `settled N seats M calls`.
 
-With --verbose the line `  FILE:LINE APP(ARGS)` is printed above that of each step that runs an entry, and the text of `pbx explain`
-above that of each refusal. It has no effect with --threads.
+With --verbose the line `  FILE:LINE APP(ARGS)` is printed above the line of each step that runs an entry, and the text of
+`pbx explain` above the line of each refusal. It has no effect with --threads.
 
 With --asterisk the files that the dialplans include are read, and a run has the applications and functions that people use. It never
-guesses: at a step before which something is unknown it prints `unknown CHANNEL WHAT -> STATE`, leaves out the further steps of that line,
-and ends with status 4 unless an event was refused. If a line of a dialplan has a fault, or something that this program cannot follow
-(`switch`, an extension for one caller, `autofallthrough=no`), nothing runs: each such line is printed on standard error, and the status
-is 1. These lines of a script say what would be unknown otherwise:
+guesses: if a step depends on something unknown, it prints `unknown CHANNEL WHAT -> STATE` and skips the remaining steps of that line.
+The status is then 4, unless an event was refused. If a line of a dialplan has a fault, or something that this program cannot follow
+(`switch`, an extension for one caller, `autofallthrough=no`, `#exec`), nothing runs: each such line is printed on standard error, with
+status 1. These lines of a script say what would otherwise be unknown:
   let CHANNEL NAME=VALUE         a variable of the channel, or what `Set` would set
   global NAME=VALUE              a global variable
   assume NAME ..                 values that nothing has set in these functions, such as DB, are empty
@@ -391,7 +398,7 @@ Example:
   ran 1 main,100,2 Hangup -> ended
 ";
 
-/// What is printed where help with `debug` is asked for.
+/// The help for `debug`.
 const DEBUG_HELP: &str = "\
 Run a script of events on a dialplan, and halt before the steps at a place
 
@@ -406,7 +413,7 @@ Options:
       --reload <DIALPLAN>               The second dialplan, which replaces the first at a line `reload` of the script
       --break <CONTEXT,EXTEN,PRIORITY>  The place where the run halts
       --verbose                         Print the line of its entry above each step, and what the manual says above each refusal
-      --explain                         Print below each fault, and below each note of `check`, where it is and what the manual says of it
+      --explain                         Print below each fault, and below each note of `check`, where it is and what the manual says about it
   -h, --help                            Print help
 
 Runs the script as `run` does, but skips `show`. Before a step of a channel that is ready at the place of the break it prints
@@ -426,10 +433,10 @@ Example:
   end 3
 ";
 
-/// What is printed where the version is asked for.
+/// The version.
 const VERSION: &str = "pbx 0.1.0 logic dac8208d650f15bf\n";
 
-/// Command lines that ask for help or for the version, and what is printed.
+/// Command lines that ask for help or for the version, and their output.
 const HELPS: [(&str, &str); 15] = [
     ("help", PBX_HELP),
     ("-h", PBX_HELP),
@@ -459,7 +466,7 @@ fn check_help<R: Files + Threads + Wait + Sync + AllocGlobal + Clone + Drop>(
     check_line(rt, folder, words, &want)
 }
 
-/// Asserts all that the command lines that ask for help print, and their statuses.
+/// Asserts the whole output of the command lines that ask for help, and their statuses.
 pub(super) fn check_helps<R: Files + Threads + Wait + Sync + AllocGlobal + Clone + Drop>(
     rt: &R,
     folder: &str,

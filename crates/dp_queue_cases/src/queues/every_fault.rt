@@ -42,7 +42,7 @@ fn push_found(
 
 /// Files with all their faults.
 pub(super) const EVERY: &str = r"
-# None: nothing, what is ignored, and members that are passed over.
+# None: nothing, what is ignored, and members that are skipped.
 →
 [general]\nstrategy=x\nmaxlen=x\n→
 [q]\nstrategy=linear\nmember => A,2\nmember => A\nmember =>\nweight=x\n→
@@ -55,10 +55,10 @@ pub(super) const EVERY: &str = r"
 [q]\nstrategy=x\nstrategy=random\nmaxlen=-1\nmaxlen=2147483648\nmember => A,x\njoinempty=x\nleavewhenempty=x\n[q]\n→<fault 30 BadStrategy line 2><fault 32 LeftOut line 3><fault 31 BadNumber line 4><fault 31 BadNumber line 5><fault 31 BadNumber line 6><fault 32 LeftOut line 7><fault 32 LeftOut line 8><fault 33 DoubleQueue line 9>
 [q]\nmaxlen=x\n\n; x\nmaxlen=x\nmaxlen=1\nmaxlen=x\n→<fault 31 BadNumber line 2><fault 31 BadNumber line 5><fault 31 BadNumber line 7>
 [a]\nmaxlen=x\n[b]\nmaxlen=x\n→<fault 31 BadNumber line 2><fault 31 BadNumber line 4>
-# The pairs behind a second header of one name are those of the section before it.
+# The pairs after a second header of one name belong to the section before it.
 [q]\n[q]\nmaxlen=x\n[q]\n→<fault 33 DoubleQueue line 2><fault 31 BadNumber line 3><fault 33 DoubleQueue line 4>
 [q]\n[general]\n[q]\nmaxlen=x\n→<fault 33 DoubleQueue line 3>
-# A fault of the text itself stands alone, wherever it is.
+# A fault of the text itself is reported alone, wherever it is.
 [q]\nmaxlen=x\nabc\nmaxlen=x\n→refused: fault 4 NoEquals line 3
 maxlen=x\n[q]\nmaxlen=x\n→refused: fault 2 NoSection line 1
 ";

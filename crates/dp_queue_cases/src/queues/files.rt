@@ -1,4 +1,4 @@
-//! Files of queues, with what they load as or their fault.
+//! Files of queues, with the result of loading them.
 use crate::queues::{manual, rows};
 
 /// The tables of files.
@@ -45,7 +45,7 @@ const KEYS: &str = r"
 [q]\nstrategy=linear\nmaxlen=3\njoinempty=strict\nleavewhenempty=yes\ncontext=out\nmember => A→<q linear 3 strict yes (out) A/0>{A}
 ";
 
-/// Members, in the order in which they stand.
+/// Members, in their order.
 const MEMBERS: &str = r"
 [q]\nmember => A→<q ringall 0 yes no () A/0>{A}
 [q]\nMEMBER=A→<q ringall 0 yes no () A/0>{A}
@@ -57,9 +57,9 @@ const MEMBERS: &str = r"
 [q]\nmember => A,→<q ringall 0 yes no () A/0>{A}
 [q]\nmember => A , 3 , Alice,x→<q ringall 0 yes no () A/3>{A}
 [q]\nmember => A,,9→<q ringall 0 yes no () A/0>{A}
-# Commas inside parentheses part nothing.
+# Commas inside parentheses do not separate.
 [q]\nmember => L(1,2),4→<q ringall 0 yes no () L(1,2)/4>{L(1,2)}
-# One that is a member already is passed over, and so is an empty interface.
+# A member that is one already is skipped, and so is an empty interface.
 [q]\nmember => A,1\nmember => B\nmember => A,2→<q ringall 0 yes no () A/1 B/0>{A}{B}
 [q]\nmember =>→<q ringall 0 yes no ()>
 [q]\nmember => ,5→<q ringall 0 yes no ()>
@@ -86,7 +86,7 @@ const SECTIONS: &str = r"
 [q]\nmaxlen=1\n[r]\nstrategy=linear\n[s]→<q ringall 1 yes no ()><r linear 0 yes no ()><s ringall 0 yes no ()>
 [ Help Desk ]→<Help Desk ringall 0 yes no ()>
 [globals]\nmember => A→<globals ringall 0 yes no () A/0>{A}
-# What stands in `[general]` is ignored, and it may stand often.
+# `[general]` is ignored, and may occur often.
 [general]→
 [general]\nstrategy=best\nmember => A,x→
 [general]\n[general]\n[q]→<q ringall 0 yes no ()>
@@ -114,7 +114,7 @@ const FAULTS: &str = r#"
 [q]\nmember => A,-1→fault 31 BadNumber line 2
 [q]\nmember => A,1.5→fault 31 BadNumber line 2
 [q]\nmember => A,2147483648→fault 31 BadNumber line 2
-# A penalty is asked for first, also where the member is passed over.
+# The penalty is checked first, even if the member is skipped.
 [q]\nmember => ,x→fault 31 BadNumber line 2
 [q]\nmember => A\nmember => A,x→fault 31 BadNumber line 3
 [q]\nstrategy=random→fault 32 LeftOut line 2
@@ -138,7 +138,7 @@ const FIRST_FAULTS: &str = r#"
 [q]\nstrategy=best\nstrategy=linear→fault 30 BadStrategy line 2
 [q]\n[q]\nstrategy=best→fault 33 DoubleQueue line 2
 [q]\nstrategy=best\n[q]→fault 30 BadStrategy line 2
-# Faults of the text stand before those of queues, wherever they are.
+# Faults of the text come before those of queues, wherever they are.
 [q]\nstrategy=best\nabc→fault 4 NoEquals line 3
 [q]\n[q]\n[x→fault 3 BadHeader line 3
 [q]\n[q]\na=1 ;-- x→fault 1 BlockComment line 3

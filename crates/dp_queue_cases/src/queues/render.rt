@@ -96,8 +96,8 @@ fn push_agent(out: &mut String, agent: &Agent) -> Result<(), NoMemory> {
     out.push_str("}")
 }
 
-/// Adds all queues, each as `<NAME`, its settings where they are wanted, its calls ` #CHANNEL` and its members
-/// ` NAME/PENALTY`; then all agents as `{NAME}`, each with what it does, and the count of finished calls.
+/// Adds all queues, each as `<NAME`, its settings if they are wanted, its calls ` #CHANNEL` and its members ` NAME/PENALTY`; then all
+/// agents as `{NAME}`, each with its state, and the count of finished calls.
 pub(super) fn push_queues(
     out: &mut String,
     queues: &Queues,
@@ -128,7 +128,7 @@ pub(super) fn push_fault(out: &mut String, fault: QueueFault) -> Result<(), NoMe
     }
 }
 
-/// What a file of queues loads as.
+/// The result of loading a file of queues.
 pub(super) fn queues_text(
     alloc: Global,
     read: &Result<Queues, QueueFault>,

@@ -1,4 +1,4 @@
-//! Steps of queues, each with what it answers.
+//! Steps of queues, each with its answer.
 ghost use Rattle.std.specs.Prelude.{◌≡◌};
 ghost use Rattle.dp_queue.specs.Agents as spec;
 
@@ -105,7 +105,7 @@ fn push_removed(out: &mut String, removed: Removed) -> Result<(), NoMemory> {
     })
 }
 
-/// Adds so many agents to a queue, `Line/0` and those that follow it: how many of them were none of its members.
+/// Adds this number of agents to a queue, `Line/0` and those that follow it: how many of them were not yet members.
 fn fill(
     alloc: Global,
     out: &mut String,
@@ -166,9 +166,9 @@ fn act(out: &mut String, queues: &mut Queues, words: Words<'_>) -> Result<(), No
     }
 }
 
-/// A step's answer: `join QUEUE CHANNEL`, `leave CHANNEL`, `offer QUEUE`, `answer AGENT`, `decline AGENT`, `done AGENT`,
-/// `end CHANNEL`, `add QUEUE AGENT PENALTY`, `remove QUEUE AGENT`, `pause QUEUE AGENT` and `unpause QUEUE AGENT` (`*` is
-/// all queues), `fill QUEUE COUNT`, `empty NUMBER` (whether its calls are to leave), `count QUEUE`, and `show`.
+/// The answer to a step: `join QUEUE CHANNEL`, `leave CHANNEL`, `offer QUEUE`, `answer AGENT`, `decline AGENT`, `done AGENT`, `end
+/// CHANNEL`, `add QUEUE AGENT PENALTY`, `remove QUEUE AGENT`, `pause QUEUE AGENT` and `unpause QUEUE AGENT` (`*` is all queues), `fill
+/// QUEUE COUNT`, `empty NUMBER` (whether its calls are to leave), `count QUEUE`, and `show`.
 pub(super) fn take(
     alloc: Global,
     out: &mut String,

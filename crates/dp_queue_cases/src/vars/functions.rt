@@ -1,6 +1,6 @@
 //! Functions and their arguments.
 
-/// Functions, with what stands between their parentheses.
+/// Functions, with the text between their parentheses.
 pub(super) const FUNCTIONS: &str = r"
 ${LEN()}→0
 ${LEN(abc)}→3
@@ -14,7 +14,7 @@ ${CALLERID()}→
 ${QUEUE_WAITING_COUNT(sales)}→3
 ${QUEUE_WAITING_COUNT(Sales)}→0
 ${QUEUE_WAITING_COUNT()}→0
-# Names keep their case and their blanks.
+# Names are case sensitive, and keep their blanks.
 ${len(x)}→
 ${ LEN(x)}→
 ${LEN (x)}→
@@ -24,13 +24,13 @@ ${CALLERID(NUM)}→
 ${F(x)}→
 ${(x)}→
 ${(x):1}→
-# With no `)` after the first `(` the value is empty, whatever stands after the cut.
+# Without a `)` after the first `(` the value is empty, whatever comes after the cut.
 ${F(}→
 ${LEN(abc}→
 ${LEN(abc:1}→
 ${)LEN(abc}→
 ${)LEN(abc)}→
-# The argument ends at the last `)`, and what stands between that and the cut has no effect.
+# The argument ends at the last `)`, and what is between that and the cut has no effect.
 ${LEN(a)b}→1
 ${LEN(a)b:0}→1
 ${LEN(a)b:1}→
@@ -52,13 +52,13 @@ push A=1 ; ${LOCAL(A)}→1
 push A=1 ; push B=2 ; ${LOCAL(A)}${LOCAL(B)}→2
 set A=1 ; ${LOCAL(A)}→
 set A=1 ; push B=2 ; ${LOCAL(A)}→
-# A global of the name of a function is seen by its whole name alone.
+# A global with the name of a function is seen only by its whole name.
 global LEN(x)=seven ; ${LEN(x)}→1
 global LEN(x)=seven ; ${GLOBAL(LEN(x))}→seven
 # A value brings its own function.
 set A=LEN(ab) ; ${${A}}→2
 set A=LEN ; ${${A}(abc)}→3
-# With no channel there is no caller.
+# Without a channel there is no caller.
 gone ; ${CALLERID(num)}→
 gone ; ${LEN(ab)}→2
 gone ; ${LOCAL(A)}→

@@ -1,11 +1,11 @@
-//! Groups, and openings without their ends.
+//! Groups, and openings without ends.
 use crate::vars::{World, expansion};
 use dp_case_tables::{Question, bytes_of, check};
 use dp_conf::{NoMemory, nesting};
 use std::alloc::Global;
 use std::test::Fail;
 
-/// Groups inside one another, and openings without their ends.
+/// Nested groups, and openings without ends.
 pub(super) const GROUPS: &str = r#"
 →
 plain, {x} [y] $ $$ }→plain, {x} [y] $ $$ }
@@ -23,7 +23,7 @@ set A=${B} ; set B=v ; $[${A}]→${B}
 set A=$[1 + 1] ; ${A}→$[1 + 1]
 set A=$ ; set B=v ; ${A}{B}→${B}
 set A=} ; ${${A}→${}
-# An opening without its end is plain, and reading goes on after it.
+# An opening without an end is plain, and reading goes on after it.
 ${→${
 $[→$[
 $[1→$[1
@@ -58,7 +58,7 @@ set A$=1 ; ${A$}→1
 set A$=1 ; ${A$→${A$
 "#;
 
-/// How deep the groups of a text stand inside each other.
+/// How deep the groups of a text are nested.
 struct Nesting;
 
 impl Question for Nesting {
@@ -98,7 +98,7 @@ fn repeat_piece(alloc: Global, openings: usize, ends: usize) -> Result<Vec<u8>, 
     Ok(text)
 }
 
-/// The nesting of so many openings and ends, and the size of the expansion, as `OPENINGS ENDS`.
+/// The nesting of this number of openings and ends, and the size of the expansion, as `OPENINGS ENDS`.
 struct Deep;
 
 impl Question for Deep {
@@ -111,7 +111,7 @@ impl Question for Deep {
     }
 }
 
-/// The expansion of a text in a world of nothing.
+/// The expansion of a text in an empty world.
 fn expand_alone(alloc: Global, text: &[u8]) -> Result<String, Fail> {
     let world = World::new(alloc);
     Ok(expansion(alloc, &world, text)?)
@@ -141,7 +141,7 @@ const LIMIT: &str = r"
 100000 1→1 199998
 ";
 
-/// How deep groups stand inside each other, and the limit of that.
+/// How deep groups are nested, and the limit of that.
 #[test]
 fn groups_nest_up_to_a_limit(rt: HostRuntime) -> Result<(), Fail> {
     check::<Nesting>(rt.alloc(), NESTING)?;

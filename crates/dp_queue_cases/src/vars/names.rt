@@ -16,7 +16,7 @@ global A=g ; set A=v ; push A=l ; push B=m ; ${A}→l
 global A=g ; set A=v ; push A=l ; push A=m ; ${A}→m
 global A=g ; set A=v ; push A=l ; pop ; ${A}→v
 global A=g ; set A= ; ${A}→
-# A variable that has the name of what a channel gives is never seen.
+# A variable with the name of something that a channel gives is never seen.
 set EXTEN=x ; ${EXTEN}→100
 push EXTEN=x ; ${EXTEN}→100
 push EXTEN=x ; ${LOCAL(EXTEN)}→x
@@ -32,7 +32,7 @@ ${}→
 local =v ; ${}→
 push =v ; ${}→v
 global =v ; ${}→v
-# Globals are expanded one after another, and one that stands twice may read itself.
+# Globals are expanded one after another, and one that occurs twice may read itself.
 expanded N=200 ; expanded M=${N}1 ; ${M}→2001
 expanded M=${N}1 ; expanded N=200 ; ${M}→1
 expanded N=1 ; expanded N=${N}2 ; ${N}→12

@@ -14,14 +14,14 @@ push A=1 ; pop ; set A=2 ; push A=3 ; A→0
 # A name that is given twice has one number.
 set A=1 ; set A=2 ; set B=3 ; A B→0 1
 set A=1 ; push A=2 ; local A=3 ; set B=4 ; A B→0 1
-# A local of the innermost frame is given where there is a frame.
+# A local of the innermost frame is given if there is a frame.
 local A=1 ; set B=2 ; A B→- 0
 frame B ; local A=1 ; set C=2 ; A B C→1 0 2
 # The locals of one frame are given in their order.
 frame C A B ; A B C→1 2 0
 set B=1 ; frame C B A ; set D=2 ; A B C D→2 0 1 3
 frame A B A C ; A B C→0 1 2
-# Frames that go, one or all, change no number.
+# Removing one frame or all changes no number.
 frame A B ; frame C ; pop ; set D=1 ; pop ; set E=2 ; A B C D E→0 1 2 3 4
 frame A B ; frame C ; drop ; set D=1 ; set A=2 ; A B C D→0 1 2 3
 drop ; set A=1 ; A→0
@@ -32,11 +32,11 @@ return A=1 ; set B=2 ; A B→- 0
 undone A=1 ; set B=2 ; A B→- 0
 set A=1 ; undone A=2 ; set B=3 ; A B→0 1
 set A=1 ; frame B ; undone C=2 ; undone B=3 ; set D=4 ; A B C D→0 1 - 2
-# Names are told apart by their bytes.
+# Names are compared by their bytes.
 set a=1 ; set A=2 ; set  =3 ; a A→0 1
 ";
 
-/// Adds the number of a name, or a dash, after a blank where something stands before it.
+/// Adds the number of a name, or a dash, after a blank if it is not the first.
 fn push_number(out: &mut String, number: Option<usize>) -> Result<(), NoMemory> {
     if !out.is_empty() {
         out.push(' ')?;
@@ -54,14 +54,14 @@ fn push_numbers(out: &mut String, world: &World, names: &str) -> Result<(), NoMe
     Ok(())
 }
 
-/// The numbers of names between blanks, with a dash where there is none.
+/// The numbers of names separated by blanks, with a dash for none.
 fn numbers_of(alloc: Global, world: &World, names: &str) -> Result<String, NoMemory> {
     let mut out = String::new(alloc);
     push_numbers(&mut out, world, names)?;
     Ok(out)
 }
 
-/// The numbers in a world of the names after the last ` ; `, after the steps between those before it.
+/// The numbers in a world of the names after the last ` ; `, after the steps before it.
 fn numbers_in(alloc: Global, world: &mut World, asked: &str) -> Result<String, Fail> {
     let (steps, names) = asked.rsplit_once(" ; ").unwrap_or(("", asked));
     take_all(alloc, world, steps)?;

@@ -9,7 +9,7 @@ set X=abcdef ; ${X:2:0}→
 set X=abcdef ; ${LEN(${X})}→6
 set X=abcdef ; ${LEN(abcdefghijkl):-1}→2
 set X=abcdef ; ${X→${X
-# An empty offset is 0, and an empty length is none.
+# An empty offset is 0, and an empty length means no limit.
 set X=abcdef ; ${X:}→abcdef
 set X=abcdef ; ${X::}→abcdef
 set X=abcdef ; ${X::2}→ab
@@ -37,7 +37,7 @@ set X=abcdef ; ${X:--1}→
 set X=abcdef ; ${X:a}→
 set X=abcdef ; ${X:1:a}→
 set X=abcdef ; ${X:1:-}→
-# Numbers of any length are taken exactly.
+# Numbers of any length are read exactly.
 set X=abcdef ; ${X:9999999999999999999999999999999999999999}→
 set X=abcdef ; ${X:-9999999999999999999999999999999999999999}→abcdef
 set X=abcdef ; ${X:1:9999999999999999999999999999999999999999}→bcdef
@@ -46,7 +46,7 @@ set X=abcdef ; ${X:0000000000000000000000000000000000000002}→cdef
 set X=abcdef ; ${X:18446744073709551617}→
 set X=abcdef ; ${X:-18446744073709551617:1}→a
 set X=abcdef ; ${X:1:18446744073709551615}→bcdef
-# Of no value there is no part.
+# A missing value has no parts.
 ${NONE:1}→
 ${:1}→
 # Parts of what a channel gives.

@@ -10,7 +10,7 @@ use std::test::Fail;
 pub(super) const STORES: &str = r"
 set A=1 ; set A=2 ; ${A}→2
 set A=1 ; set B=2 ; ${A}${B}→12
-# A name is set where the innermost frame has it as a local, else as the channel's variable.
+# A name is set in the innermost frame that has it as a local, else as the channel's variable.
 set A=1 ; push A=2 ; set A=3 ; ${A}→3
 set A=1 ; push A=2 ; set A=3 ; pop ; ${A}→1
 set A=1 ; push B=2 ; set A=3 ; pop ; ${A}→3
@@ -19,7 +19,7 @@ push A=1 ; push B=2 ; set A=3 ; pop ; ${LOCAL(A)}→3
 push A=1 ; push B=2 ; set A=3 ; pop ; pop ; ${A}→
 push A=1 ; push A=2 ; set A=3 ; pop ; ${A}→1
 push B=1 ; set A=2 ; pop ; ${A}→2
-# A local is set in the innermost frame alone.
+# A local is set only in the innermost frame.
 set A=1 ; push =x ; local A=2 ; set A=3 ; ${A}→3
 set A=1 ; push =x ; local A=2 ; set A=3 ; pop ; ${A}→1
 push A=1 ; push =x ; local A=2 ; pop ; ${A}→1
@@ -32,19 +32,19 @@ push A=1 ; pop ; pop ; ${A}→
 push A=1 ; pop ; push B=2 ; ${A}→
 set A=1 ; push A=2 ; push A=3 ; drop ; ${A}→1
 push A=1 ; push B=2 ; drop ; ${A}${B}→
-# A name that is set where a frame ends is set below that frame.
+# A name that is set when a frame ends is set below that frame.
 set A=1 ; push A=2 ; return A=3 ; ${A}→3
 set A=1 ; push A=2 ; push A=3 ; return A=4 ; pop ; ${A}→1
 push A=1 ; push A=2 ; return A=3 ; ${LOCAL(A)}→3
 push A=1 ; return A=2 ; push B=3 ; ${A}→2
 return A=1 ; ${A}→
-# A name is set after a change where it is set without one.
+# A name is set after a change in the same place as without one.
 after A=1 ; ${A}${TOLD}→1yes
 set A=1 ; push B=2 ; after A=3 ; ${A}${TOLD}→3yes
 set A=1 ; push A=2 ; after A=3 ; ${A}${TOLD}→3yes
 set A=1 ; push A=2 ; after A=3 ; pop ; ${A}${TOLD}→1yes
 push A=1 ; pop ; after A=2 ; ${A}${TOLD}→2yes
-# Where the change is refused, nothing is set.
+# If the change fails, nothing is set.
 refused A=1 ; ${A}${TOLD}→
 set A=1 ; push B=2 ; refused A=3 ; ${A}${TOLD}→1
 set A=1 ; push A=2 ; refused A=3 ; ${A}${TOLD}→2
@@ -62,7 +62,7 @@ fn check_frames(rt: &impl Abort, alloc: Global, store: &mut Store<u32>) -> Resul
     Ok(())
 }
 
-/// Frames go back where they were pushed.
+/// Frames return to where they were pushed.
 fn frames(rt: &impl Abort, alloc: Global) -> Result<(), Fail> {
     let mut store: Store<u32> = Store::new(alloc);
     check_frames(rt, alloc, &mut store)
@@ -80,7 +80,7 @@ fn check_doubled(rt: &impl Abort, store: &Store<u32>) {
     assert!(rt; store.get(b"B").is_none(), "another name");
 }
 
-/// The later of two locals of one name stands.
+/// Of two locals with one name the later counts.
 fn check_doubled_local(rt: &impl Abort, alloc: Global) -> Result<(), Fail> {
     let mut store: Store<u32> = Store::new(alloc);
     push_doubled(alloc, &mut store)?;
@@ -111,7 +111,7 @@ fn check_refused(rt: &impl Abort, alloc: Global, world: &mut World) {
     assert!(rt; world.store.slot(b"A").is_none(), "the name has no number");
 }
 
-/// A name whose change is refused gets no number.
+/// A name whose change fails gets no number.
 fn check_refused_change(rt: &impl Abort, alloc: Global) {
     let mut world = World::new(alloc);
     check_refused(rt, alloc, &mut world);
@@ -125,7 +125,7 @@ fn check_globals(rt: &impl Abort, alloc: Global, globals: &mut Globals) -> Resul
     Ok(())
 }
 
-/// Globals are read as they were put.
+/// Globals are read as they were set.
 fn globals(rt: &impl Abort, alloc: Global) -> Result<(), Fail> {
     let mut globals = Globals::new(alloc);
     check_globals(rt, alloc, &mut globals)
@@ -139,8 +139,8 @@ fn check_stores(rt: &impl Abort, alloc: Global) -> Result<(), Fail> {
     globals(rt, alloc)
 }
 
-/// Frames go back where they were pushed, the later of two locals of one name stands, a local needs a frame, a name
-/// whose change is refused gets no number, and globals are read as they were put.
+/// Frames return to where they were pushed, of two locals with one name the later counts, a local needs a frame, a name whose change fails
+/// gets no number, and globals are read as they were set.
 #[test]
 fn stores_keep_variables_frames_and_globals(rt: HostRuntime) -> Result<(), Fail> {
     check_stores(&rt, rt.alloc())

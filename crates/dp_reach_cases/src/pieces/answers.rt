@@ -1,4 +1,4 @@
-//! What is told of the calls that come in at a context, worked out by hand from the rules.
+//! Reports on the calls that come in at a context, worked out by hand from the rules.
 use dp_answer::{Ask, report_on};
 use dp_case_tables::{Question, text_of};
 use dp_plan::Dialplan;
@@ -6,8 +6,8 @@ use dp_queue::Queues;
 use std::alloc::Global;
 use std::test::Fail;
 
-/// A dialplan, its queues, the context, the target, where other calls come in, and the bytes of extensions and of callers' numbers, after
-/// one another with a bar between them; what is empty is not given. The answer is the status and the text, in which a `¶` is a line feed.
+/// A dialplan, its queues, the context, the target, where other calls come in, and the bytes of extensions and of callers' numbers, with a
+/// bar between each; empty ones are not given. The answer is the status and the text, in which a `¶` is a line feed.
 pub(super) struct Answers;
 
 /// The dialplans and queues by their names. A `¶` is a line feed.
@@ -22,7 +22,7 @@ routes→[globals]¶CARRIER=PJSIP/carrier¶RECEPTION=200¶[from-carrier]¶exten 
 opened→[globals]¶CARRIER=PJSIP/carrier¶RECEPTION=200¶[from-carrier]¶exten => _X.,1,Set(CALLERNUMBER=${CALLERID(num)})¶ same => n,Goto(reception,s,1)¶exten => _+X.,1,Goto(reception,s,1)¶[reception]¶exten => s,1,Answer()¶ same => n,Set(tries=0)¶ same => n(menu),Background(welcome)¶ same => n,WaitExten(5)¶exten => 1,1,Gosub(ring,s,1(${RECEPTION},20))¶ same => n,Goto(desk,1)¶exten => 2,1,Goto(internal,210,1)¶exten => i,1,Set(tries=$[${tries} + 1])¶ same => n,GotoIf($[${tries} < 2]?s,menu)¶ same => n,Goto(desk,1)¶exten => t,1,Goto(desk,1)¶exten => desk,1,Dial(PJSIP/${RECEPTION},30)¶ same => n,Hangup()¶exten => h,1,NoOp(${CALLERNUMBER} left)¶include => lobby-features¶[lobby-features]¶exten => *60,1,Answer()¶ same => n,Playback(opening-hours)¶ same => n,Hangup()¶exten => _*2XX,1,Goto(internal,${EXTEN:1},1)¶exten => _**X.,1,Goto(from-staff,${EXTEN:2},1)¶[from-lobby]¶include => internal¶include => lobby-features¶[internal]¶exten => _[23]XX,1,Gosub(ring,s,1(${EXTEN},20))¶ same => n,GotoIf($["${DIALSTATUS}" = "BUSY"]?busy)¶ same => n,Playback(not-there)¶ same => n,Hangup()¶ same => n(busy),Playback(busy)¶ same => n,Hangup()¶[ring]¶exten => s,1,Dial(PJSIP/${ARG1},${ARG2})¶ same => n,Return()¶[from-staff]¶include => internal¶include => national¶include => international¶[national]¶exten => _0ZX.,1,Dial(${CARRIER}/${EXTEN},60)¶ same => n,Hangup()¶[international]¶exten => _00ZX.,1,Set(CALLERID(num)=+4989123450)¶ same => n,Dial(${CARRIER}/${EXTEN},60)¶ same => n,Hangup()¶
 "#;
 
-/// The text of a file, and the empty text where there is none.
+/// The text of a file, or an empty text if there is none.
 fn file_of(alloc: Global, name: &str) -> Result<String, Fail> {
     for line in FILES.lines() {
         if let Some((found, text)) = line.split_once('→') {
@@ -44,7 +44,7 @@ fn lines_of(alloc: Global, text: &str) -> Result<String, Fail> {
     Ok(out)
 }
 
-/// What is given.
+/// The question.
 fn given_word(word: Option<&str>) -> Option<&[u8]> {
     let word = word.unwrap_or("");
     if word.is_empty() {
@@ -53,7 +53,7 @@ fn given_word(word: Option<&str>) -> Option<&[u8]> {
     Some(word.as_bytes())
 }
 
-/// The queues of a file, where one is named.
+/// The queues of a file, if one is named.
 fn queues_of(alloc: Global, name: &str) -> Result<Queues, Fail> {
     if name.is_empty() {
         return Ok(Queues::none(alloc));
@@ -102,18 +102,18 @@ doors||safe|safe|||→1 assumed: extensions of {0-9A-Za-z*#+_.}*, callers' numbe
 doors||outside|safe|hall|0-9|7→0 assumed: extensions of {0-9}*, callers' numbers of {7}*, calls come in at outside hall¶unreachable: safe¶
 doors||hall|safe||0-8a-cx|→0 assumed: extensions of {0-8a-cx}*, callers' numbers of {0-9+}*, calls come in at every context¶unreachable: safe¶
 doors||outside|hall||s-|→1 assumed: extensions of {s-}*, callers' numbers of {0-9+}*, calls come in at every context¶may reach: hall,s,1 Hangup()  e.g. extension s¶  outside,{s-}*  a call comes in¶  outside,s,1 Goto(hall,${EXTEN},1) -> hall,{s-}*¶every jump that lets a call in there:¶  outside,s,1 Goto(hall,${EXTEN},1)¶
-# A jump to a context that is computed, and an application that is not there.
+# A jump to a computed context, and an application that does not exist.
 jumps||in|||0-9|→0 assumed: extensions of {0-9}*, callers' numbers of {0-9+}*, calls come in at every context¶in,_X.,1 Set(where=${EXTEN})¶in,_X.,2 Goto(${where},s,1)¶  in,{0-9}*  a call comes in¶7,s,1 Hangup()¶  in,{0-9}*  a call comes in¶  in,_X.,2 Goto(${where},s,1) -> 7,s¶may lead to any context: in,_X.,2 Goto(${where},s,1)¶ok 3 of 4 entries in 2 of 3 contexts¶
 jumps||in|desk|||→1 assumed: extensions of {0-9A-Za-z*#+_.}*, callers' numbers of {0-9+}*, calls come in at every context¶may reach: desk,s,1 Macro(ring)  e.g. extension s¶  in,{0-9A-Za-z*#+_.}*  a call comes in¶  in,_X.,2 Goto(${where},s,1) -> desk,s¶every jump that lets a call in there:¶  in,_X.,2 Goto(${where},s,1)¶may lead to any context: in,_X.,2 Goto(${where},s,1)¶no such application: desk,s,1 Macro(ring)¶of what an exchange does that has this application, nothing is claimed¶
-# A way out of a queue, where it has one.
+# A way out of a queue, if it has one.
 ways||main|out|||→0 assumed: extensions of {0-9A-Za-z*#+_.}*, callers' numbers of {0-9+}*, calls come in at every context¶unreachable: out¶
 ways|wayout|main|out|||→1 assumed: extensions of {0-9A-Za-z*#+_.}*, callers' numbers of {0-9+}*, calls come in at every context¶may reach: out,1,1 Hangup()  e.g. extension 1¶  main,{0-9A-Za-z*#+_.}*  a call comes in¶  main,s,1 Queue(help) -> out,{0-9A-D*#}¶every jump that lets a call in there:¶  main,s,1 Queue(help)¶
 # A call ends at the extension `h`, and digits that match nothing lead to `i`.
 ends||in|late|||→1 assumed: extensions of {0-9A-Za-z*#+_.}*, callers' numbers of {0-9+}*, calls come in at every context¶may reach: late,s,1 NoOp()  e.g. extension s¶  in,{0-9A-Za-z*#+_.}*  a call comes in¶  in,s,1 Goto(main,s,1) -> main,s¶  the call ends -> main,h¶  main,h,1 Goto(late,s,1) -> late,s¶every jump that lets a call in there:¶  main,h,1 Goto(late,s,1)¶
 ends||in|lost|||→1 assumed: extensions of {0-9A-Za-z*#+_.}*, callers' numbers of {0-9+}*, calls come in at every context¶may reach: lost,s,1 NoOp()  e.g. extension s¶  in,{0-9A-Za-z*#+_.}*  a call comes in¶  in,s,1 Goto(main,s,1) -> main,s¶  no extension matches -> main,i¶  main,i,1 Goto(lost,s,1) -> lost,s¶every jump that lets a call in there:¶  main,i,1 Goto(lost,s,1)¶
-# A line more in the sample of routes opens a way of four places.
+# One more line in the sample of routes opens a way of four places.
 opened||from-carrier|international|||→1 assumed: extensions of {0-9A-Za-z*#+_.}*, callers' numbers of {0-9+}*, calls come in at every context¶may reach: international,_00ZX.,1 Set(CALLERID(num)=+4989123450)  e.g. extension 00111¶  from-carrier,{0-9A-Za-z*#+_.}*  a call comes in¶  from-carrier,_X.,2 Goto(reception,s,1) -> reception,s¶  reception,s,3 Background(welcome) -> reception,{0-9A-D*#}*¶  lobby-features,_**X.,1 Goto(from-staff,${EXTEN:2},1) -> from-staff,{0-9}{0-9A-D*#}*¶every jump that lets a call in there:¶  lobby-features,_**X.,1 Goto(from-staff,${EXTEN:2},1)¶
-# Names of contexts that are not there, and files with a fault.
+# Names of contexts that do not exist, and files with a fault.
 doors||kitchen||||→1 
 doors||outside|kitchen|a,hall||→1 
 doors||hal||||→1 

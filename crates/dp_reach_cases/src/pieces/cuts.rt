@@ -9,7 +9,7 @@ use dp_pieces::{
 use std::alloc::{AllocError, Global};
 use std::test::Fail;
 
-/// What is asked of pieces: a word, then what it needs, then the pieces after a bar.
+/// A question about pieces: a word, then what it needs, then the pieces after a bar.
 pub(super) struct Cuts;
 
 impl Question for Cuts {
@@ -23,7 +23,7 @@ impl Question for Cuts {
     }
 }
 
-/// What is asked of all pieces.
+/// Questions about all pieces.
 fn answer_whole(alloc: Global, word: &str, pieces: &[Piece]) -> Result<String, Fail> {
     let mut out = String::new(alloc);
     match word {
@@ -45,7 +45,7 @@ fn push_shapes(alloc: Global, out: &mut String, pieces: &[Piece]) -> Result<(), 
     Ok(())
 }
 
-/// What is asked of pieces by a byte or by a number.
+/// Questions about pieces with a byte or a number.
 fn answer_part(alloc: Global, word: &str, more: &[u8], pieces: &[Piece]) -> Result<String, Fail> {
     let mut out = String::new(alloc);
     let count = read_number(more).unwrap_or(0) as usize;
@@ -81,9 +81,9 @@ fn push_known(out: &mut String, cut: Option<(&[Piece], &[Piece])>) -> Result<(),
     }
 }
 
-/// A piece that is not known may have the byte at which is cut, a parenthesis, or a blank; each row says what is known then.
+/// An unknown piece may have the byte of the cut, a parenthesis, or a blank; each row says what is then known.
 pub(super) const CUTS: &str = r"
-# Blanks off the ends.
+# Without blanks at the ends.
 trim|→
 trim|   →
 trim| a b →a{ }*b
@@ -154,7 +154,7 @@ clean|a{)}*→no
 # The bytes of all pieces.
 bytes|→{}
 bytes|ba{xy}{a-c}*→{abcxy}
-# Without the first bytes, and the first alone.
+# Without the first bytes, and only the first bytes.
 without 0|abc→abc
 without 2|abc→c
 without 2|a→

@@ -1,4 +1,4 @@
-//! What applications owe by the pieces of their arguments, and what a reach has, worked out by hand from the rules.
+//! What applications owe because of the pieces of their arguments, and what a reach has, worked out by hand from the rules.
 use crate::pieces::notation::{pieces_of, push_pieces};
 use dp_case_tables::{Question, text_of};
 use dp_closed::{Area, Claim, Duty, Reach, duties, found_shape};
@@ -63,7 +63,7 @@ pub(super) const DUTIES: &str = r"
 NoOp|x→
 Nothing|x→
 Hangup|→
-# A target: its parts, an empty one the channel's own.
+# A target: its parts, of which an empty one is the channel's own.
 Goto|5→to from,{0123456789}*
 goto|s,1→to from,s
 Goto|out,s,1→to out,s
@@ -102,7 +102,7 @@ Set|DB(x/{0-9}*)=1→
 Set|GLOBAL({ab})=1→each {()1=ABGLOab}
 Set|CALLERID({ab})=1→caller {()1=ACDEILRab}
 Set|{ab}=1→each {1=ab} ; caller {1=ab}
-# Digits, and what is told.
+# Digits, and what is reported.
 WaitExten|→to from,{#*0123456789ABCD}* ; to from,t
 Background|x→to from,{#*0123456789ABCD}* ; to from,t
 Dial|x→DIALSTATUS {ACHILNUV}
@@ -116,7 +116,7 @@ UnpauseQueueMember|x→UPQMSTATUS {ADENPSU} ; UPQMSTATUS {DFNOTU}
 /// Two contexts.
 const PLAN: &[u8] = b"[a]\nexten => s,1,NoOp()\n[b]\nexten => s,1,NoOp()\n";
 
-/// The reach that has digits and `s` in `a`, and `s` in `b`.
+/// The reach with digits and `s` in `a`, and `s` in `b`.
 fn reach_of(alloc: Global) -> Result<Reach, Fail> {
     let mut a = Vec::new(alloc);
     a.push(pieces_of(alloc, "{0-9}*")?)?;
@@ -165,8 +165,8 @@ c|x→yes
 {abx}|12→no
 ";
 
-/// Whether a claim of that reach meets what is asked: what an application owes in `a`, at an extension of digits, or, after `way`, that a
-/// digit leads out of a queue of this context.
+/// Whether a claim with that reach meets a duty: what an application owes in `a`, at an extension of digits, or, after `way`, that a digit
+/// leads out of a queue of this context.
 pub(super) struct Claimed;
 
 /// The set of the bytes of a text.
@@ -178,7 +178,7 @@ fn set_of(text: &[u8]) -> ByteSet {
     set
 }
 
-/// The table in which `X` has `a` and `b`, each name what a subroutine's call has, and the caller's number `1` and `2`.
+/// The table in which `X` has `a` and `b`, each name has what a subroutine call has, and the caller's number has `1` and `2`.
 fn table_of(alloc: Global) -> Result<NameTable, Fail> {
     let mut names = NameTable::new(alloc);
     names.hold(alloc, b"X", &set_of(b"ab"))?;
@@ -204,7 +204,7 @@ fn is_met(alloc: Global, claim: Claim<'_>, asked: &str) -> Result<bool, Fail> {
     Ok(claim.meets_all(alloc, &owed)?)
 }
 
-/// The contexts of the ways out that are asked after.
+/// The contexts of the ways out in question.
 fn ways_of(alloc: Global, asked: &str) -> Result<Vec<Vec<Piece>>, Fail> {
     let mut ways = Vec::new(alloc);
     if let Some(("way", name)) = asked.split_once('|') {
@@ -232,7 +232,7 @@ impl Question for Claimed {
     }
 }
 
-/// What is met, and what is not.
+/// Duties that are met, and duties that are not.
 pub(super) const CLAIMED: &str = r"
 NoOp|x→yes
 Goto|s,1→yes
@@ -255,11 +255,11 @@ way|c→yes
 way|a→no
 ";
 
-/// A context of names of which some are better than others.
+/// A context in which some names are better than others.
 const NAMES: &[u8] =
     b"[c]\nexten => 100,1,NoOp()\nexten => _1X.,1,NoOp()\nexten => _X.,1,NoOp()\nexten => _X.,2,NoOp()\nexten => s,1,NoOp()\n";
 
-/// What is known of the extensions of a shape, after a bar, by which the entry of a number is found there.
+/// What is known of the extensions of a shape, after a bar, at which the entry with a number is found there.
 pub(super) struct Found;
 
 fn answer_found(
@@ -289,7 +289,7 @@ impl Question for Found {
     }
 }
 
-/// A better name of the same priority hides an entry where it covers all that the entry's name may match.
+/// A better name with the same priority hides an entry if it covers everything that the entry's name may match.
 pub(super) const FOUND: &str = r"
 0|100→100
 0|{0-9}*→100

@@ -1,4 +1,4 @@
-//! What is known of the values of names, by a table, worked out by hand from the rules.
+//! What is known of the values of names, given a table, worked out by hand from the rules.
 use crate::pieces::notation::push_pieces;
 use dp_case_tables::Question;
 use dp_pieces::{ByteSet, NameTable, Piece};
@@ -31,7 +31,7 @@ fn yes_or_no(is: bool) -> &'static str {
     if is { "yes" } else { "no" }
 }
 
-/// What is asked of a table.
+/// Questions to a table.
 fn answer_of(alloc: Global, table: &NameTable, asked: &str) -> Result<String, Fail> {
     let mut out = String::new(alloc);
     match asked.split_once('=') {
@@ -52,8 +52,8 @@ fn answer_of(alloc: Global, table: &NameTable, asked: &str) -> Result<String, Fa
     Ok(out)
 }
 
-/// Steps with blanks between them, then what is asked after a bar: the bytes of a name, of the caller's number or of any, whether a
-/// name may have some, or whether any value may have all of them and the digits.
+/// Steps with blanks between them, then a question after a bar: the bytes of a name, of the caller's number or of any value, whether a name
+/// may have some, or whether any value may have all of them and the digits.
 pub(super) struct Names;
 
 impl Question for Names {
@@ -69,7 +69,7 @@ impl Question for Names {
     }
 }
 
-/// A name has its own bytes and those of each name. What any has is what was given to any of them.
+/// A name has its own bytes and those of every name. Any value may have what was given to any of them.
 pub(super) const NAMES: &str = r"
 |X→{}
 |caller→{}

@@ -1,5 +1,5 @@
-//! Pieces as a line writes them: a byte as it stands, `{SET}` for one byte of a set and `{SET}*` for any bytes of one, where `a-b` in a
-//! set is a range.
+//! Pieces as a line writes them: a byte as it is, `{SET}` for one byte of a set and `{SET}*` for any bytes of one, where `a-b` in a set is
+//! a range.
 use dp_case_tables::bytes_of;
 use dp_pieces::{ByteSet, Piece};
 use std::alloc::{AllocError, Global};
@@ -11,7 +11,7 @@ fn put_range(set: &mut ByteSet, low: u8, high: u8) {
     }
 }
 
-/// Where the reading of a notation is: in no braces, in braces, or behind their end.
+/// The state of reading a notation: outside braces, in braces, or after their end.
 #[derive(Clone, Copy)]
 enum State {
     Text,
@@ -30,7 +30,7 @@ struct Notation {
 }
 
 impl Notation {
-    /// Reads a byte in no braces.
+    /// Reads a byte outside braces.
     fn take_text(&mut self, byte: u8) -> Result<(), AllocError> {
         if byte == b'{' {
             self.state = State::Set;
@@ -60,7 +60,7 @@ impl Notation {
         }
     }
 
-    /// Reads a byte in braces. A dash at their end is one of the set.
+    /// Reads a byte in braces. A dash at their end belongs to the set.
     fn take_set(&mut self, byte: u8) -> Result<(), AllocError> {
         if byte != b'}' {
             self.put(byte);
@@ -74,7 +74,7 @@ impl Notation {
         Ok(())
     }
 
-    /// Reads the byte behind the end of braces: `*` makes one byte any bytes.
+    /// Reads the byte after the end of braces: `*` makes one byte any bytes.
     fn take_closed(&mut self, byte: u8) -> Result<(), AllocError> {
         if byte != b'*' {
             return self.take_text(byte);
@@ -133,7 +133,7 @@ fn push_piece(out: &mut String, piece: &Piece) -> Result<(), AllocError> {
     }
 }
 
-/// Adds the notation of the pieces, each byte of a set by itself.
+/// Adds the notation of the pieces, each byte of a set on its own.
 pub(super) fn push_pieces(out: &mut String, pieces: &[Piece]) -> Result<(), AllocError> {
     for piece in pieces {
         push_piece(out, piece)?;

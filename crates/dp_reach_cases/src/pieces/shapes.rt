@@ -32,7 +32,7 @@ fn yes_or_no(is: bool) -> &'static str {
     if is { "yes" } else { "no" }
 }
 
-/// What is asked of a shape by a name.
+/// Questions about a shape with a name.
 fn answer_name(alloc: Global, word: &str, name: &Name, shape: &[Piece]) -> Result<String, Fail> {
     let mut out = String::new(alloc);
     match word {
@@ -44,9 +44,8 @@ fn answer_name(alloc: Global, word: &str, name: &Name, shape: &[Piece]) -> Resul
     Ok(out)
 }
 
-/// `may` is yes where a text of the shape may match, `covers` where each does as far as is seen, `meet` is what is known of one that has
-/// matched, `fit` is
-/// yes where the text may be one of the shape, and `within` where each text of the last shape is one of the first.
+/// `may` is yes if a text of the shape may match, `covers` if each does as far as is seen, `meet` is what is known of one that has matched,
+/// `fit` is yes if the text may be of the shape, and `within` if each text of the last shape is of the first.
 pub(super) const SHAPES: &str = r"
 # A plain name is matched by itself.
 may s|s→yes
@@ -101,7 +100,7 @@ meet _X.|1{ab}→1{ab}
 meet _ZX|{0-9}{0-9}→{123456789}{0123456789}
 meet _NX!|{0-9}{0-9a}*→{23456789}{0123456789}{0123456789a}*
 meet _1X|1→1
-# A dash does not count for a match, so a shape that may have one is left as it is.
+# A dash does not count for a match, so a shape that may have one is unchanged.
 may _XX|1{-}2→yes
 may _XX|{0-9-}*→yes
 may s|{0-9-}*→no

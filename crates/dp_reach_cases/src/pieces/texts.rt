@@ -1,4 +1,4 @@
-//! Texts that are not expanded yet, read as pieces by what is known of names, worked out by hand from the rules.
+//! Texts that are not expanded yet, read as pieces given what is known of names, worked out by hand from the rules.
 use crate::pieces::names::set_of;
 use crate::pieces::notation::{pieces_of, push_pieces};
 use dp_case_tables::Question;
@@ -9,7 +9,7 @@ use std::test::Fail;
 /// The shape of the channel's extension, then a text after a bar. The channel is in `from`.
 pub(super) struct Texts;
 
-/// The table in which `X` has `a` and `b`, `fwd` has `S` and `2`, the caller's number `1` and `2`, and any value `z` too.
+/// The table in which `X` has `a` and `b`, `fwd` has `S` and `2`, the caller's number has `1` and `2`, and any value also has `z`.
 fn table_of(alloc: Global) -> Result<NameTable, Fail> {
     let mut table = NameTable::new(alloc);
     table.hold(alloc, b"X", &set_of("ab"))?;
@@ -36,9 +36,9 @@ impl Question for Texts {
     }
 }
 
-/// A name that has no bytes gives any bytes of none, `{}*`. What may name anything gives any bytes of any value.
+/// A name without bytes gives any bytes of the empty set, `{}*`. A text that may name anything gives any bytes of any value.
 pub(super) const TEXTS: &str = r"
-# A text with no groups.
+# A text without groups.
 s|→
 s|plain, text→plain, text
 s|}]→}]
@@ -53,7 +53,7 @@ s|${exten}→{}*
 12{0-9}{ab}9|${EXTEN:1:3}→2{0123456789}{ab}
 1{0-9}*|${EXTEN:0:2}→1{0123456789}*
 1234|${EXTEN:1:-1}→{1234}*
-# Parts as few write them.
+# Unusual parts.
 12|${EXTEN:}→12
 12|${EXTEN:1:}→2
 12|${EXTEN::1}→1
@@ -88,7 +88,7 @@ s|${CALLERID(name)}→{}*
 s|${DB(fwd/1)}→{}*
 s|${GLOBAL(X}→{}*
 s|${GLOBAL(X)s}→{ab}*
-# Functions of an argument that is not known.
+# Functions of an unknown argument.
 s|${DB(fwd/${X})}→{}*
 s|${GLOBAL(${X})}→{12Sabz}*
 s|${LEN(${X})}→{0123456789}*

@@ -1,5 +1,5 @@
-//! Each application by its arguments, worked out by hand from the rules: with empty and missing parts, with blanks, with its
-//! name in another case, and with values that come from an expansion.
+//! Each application with its arguments, worked out by hand from the rules: with empty and missing parts, with blanks, with its name in
+//! another case, and with values that come from an expansion.
 use crate::runs::calls::answer_of;
 use dp_case_tables::{check_answer, check_heading};
 use dp_conf::NoMemory;
@@ -13,8 +13,8 @@ const FRONT: &str =
 /// The queues of all cases.
 const QUEUED: &str = r"[q]\nmember => Line/1\n[none]\njoinempty=no\n[Sales]\ncontext=out\n";
 
-/// A case is the application at `main`, `s`, 1, with lines after it; then `¦` and the script after a call of 555 to it and a
-/// step; then an arrow, and the trace after `ran 1 main,s,1 `.
+/// A case is the application at `main`, `s`, 1, with lines after it; then `¦` and the script after a call from 555 to it and a step; then
+/// an arrow, and the trace after `ran 1 main,s,1 `.
 const JUMPS: &str = r#"
 # Labels of a target.
 Goto(here)¦→Goto -> ready main,s,3
@@ -25,7 +25,7 @@ goto(200,there)¦→goto -> ready main,200,1
 Goto(out,200,here)¦→Goto -> ended
 Goto(there)¦→Goto -> ended
 Goto(here(1))¦→Goto -> ended
-# The parts of a target take part in the cutting where they come from values.
+# Commas in values separate the parts of a target too.
 Goto(${TWO})¦→Goto -> ready main,200,1
 Goto(out,${TWO})¦→Goto -> ready out,200,1
 Goto(a,b,${TWO})¦→Goto -> ended
@@ -70,7 +70,7 @@ GotoIf(01?3:200,1)¦→GotoIf -> ready main,s,3
 GotoIf(false?3:200,1)¦→GotoIf -> ready main,s,3
 GotoIf("0"?3:200,1)¦→GotoIf -> ready main,s,3
 GotoIf("")¦→GotoIf -> ready main,s,2
-# Where the condition and the sides end.
+# The ends of the condition and of the sides.
 GotoIf(1?3?:200,1)¦→GotoIf -> ended
 GotoIf(0?x:200,1:3)¦→GotoIf -> ended
 GotoIf(1?(a:b):3)¦→GotoIf -> ended
@@ -110,7 +110,7 @@ Gosub(,s,1)¦→Gosub -> ready main,s,1
 Gosub(sub,,1)¦→Gosub -> ready sub,s,1
 gosub(sub,s,1)¦→gosub -> ready sub,s,1
 GOSUB(sub,s,1)¦→GOSUB -> ready sub,s,1
-# Where there is no target, or no entry is found.
+# No target, or no entry is found.
 Gosub()¦→Gosub -> ended
 Gosub¦→Gosub -> ended
 Gosub(,)¦→Gosub -> ended
@@ -132,11 +132,11 @@ Gosub(sub,s,1(a)x)¦show 1 ARG1→Gosub -> ready sub,s,1\nARG1=a
 Gosub(sub,s,1(a)(b))¦show 1 ARG1→Gosub -> ready sub,s,1\nARG1=a)(b
 Gosub(3(a))¦show 1 ARG1→Gosub -> ready main,s,3\nARG1=a
 Gosub(sub,s,1(,b))¦show 1 ARG1\nshow 1 ARG2→Gosub -> ready sub,s,1\nARG1=\nARG2=b
-# None, and an empty one, which hides the variable.
+# No argument, and an empty one, which hides the variable.
 Set(ARG1=o)\nexten => s,2,Gosub(sub,s,1())¦step 1\nshow 1 ARG1→Set -> ready main,s,2\nran 1 main,s,2 Gosub -> ready sub,s,1\nARG1=o
 Set(ARG1=o)\nexten => s,2,Gosub(sub,s,1)¦step 1\nshow 1 ARG1→Set -> ready main,s,2\nran 1 main,s,2 Gosub -> ready sub,s,1\nARG1=o
 Set(ARG1=o)\nexten => s,2,Gosub(sub,s,1( ))¦step 1\nshow 1 ARG1→Set -> ready main,s,2\nran 1 main,s,2 Gosub -> ready sub,s,1\nARG1=
-# Arguments with no end.
+# Arguments without an end.
 Gosub(sub,s,1(a)¦→Gosub -> ended
 # Values.
 Gosub(${TWO})¦→Gosub -> ready main,200,1
@@ -164,17 +164,17 @@ GosubIf(1?a,b,c,d)¦→GosubIf -> ended
 GosubIf(1?sub,s,1(a)¦→GosubIf -> ended
 GosubIf(${ASK})¦→GosubIf -> ready main,200,1
 GosubIf(0?${SIDES})¦→GosubIf -> ready main,200,1
-# Ways back: the place after the call, and the whole argument as it stands.
+# Returns: the place after the call, and the whole argument as it is.
 Gosub(sub,s,2)¦step 1\nshow 1 GOSUB_RETVAL→Gosub -> ready sub,s,2\nran 1 sub,s,2 Return -> ready main,s,2\nGOSUB_RETVAL=v
 GosubIf(1?sub,s,2)¦step 1\nshow 1 GOSUB_RETVAL→GosubIf -> ready sub,s,2\nran 1 sub,s,2 Return -> ready main,s,2\nGOSUB_RETVAL=v
 Gosub(r,s,1)\n[r]\nexten => s,1,Return( a , b )¦step 1\nshow 1 GOSUB_RETVAL→Gosub -> ready r,s,1\nran 1 r,s,1 Return -> ready main,s,2\nGOSUB_RETVAL= a , b 
 Gosub(r,s,1)\n[r]\nexten => s,1,Return(${TWO})¦step 1\nshow 1 GOSUB_RETVAL→Gosub -> ready r,s,1\nran 1 r,s,1 Return -> ready main,s,2\nGOSUB_RETVAL=200,1
 Gosub(r,s,1)\n[r]\nexten => s,1,return¦step 1\nshow 1 GOSUB_RETVAL→Gosub -> ready r,s,1\nran 1 r,s,1 return -> ready main,s,2\nGOSUB_RETVAL=
 Set(GOSUB_RETVAL=o)\nexten => s,2,Gosub(r,s,1)\n[r]\nexten => s,1,Return()¦step 1 2\nshow 1 GOSUB_RETVAL→Set -> ready main,s,2\nran 1 main,s,2 Gosub -> ready r,s,1\nran 1 r,s,1 Return -> ready main,s,3\nGOSUB_RETVAL=
-# The value goes where the caller's frames say, and not into the frame that goes.
+# The value is set in the frames of the caller, and not in the frame that is dropped.
 Gosub(r,s,1)\n[r]\nexten => s,1,Set(LOCAL(GOSUB_RETVAL)=old)\nexten => s,2,Return(new)¦step 1 2\nshow 1 GOSUB_RETVAL→Gosub -> ready r,s,1\nran 1 r,s,1 Set -> ready r,s,2\nran 1 r,s,2 Return -> ready main,s,2\nGOSUB_RETVAL=new
 Gosub(r,s,1)\n[r]\nexten => s,1,Set(LOCAL(GOSUB_RETVAL)=old)\nexten => s,2,Gosub(sub,s,2)\nexten => s,3,StackPop()¦step 1 3\nshow 1 GOSUB_RETVAL\nstep 1\nshow 1 GOSUB_RETVAL→Gosub -> ready r,s,1\nran 1 r,s,1 Set -> ready r,s,2\nran 1 r,s,2 Gosub -> ready sub,s,2\nran 1 sub,s,2 Return -> ready r,s,3\nGOSUB_RETVAL=v\nran 1 r,s,3 StackPop -> ready r,s,4\nGOSUB_RETVAL=
-# No way back.
+# No frame to return from.
 Return()¦→Return -> ended
 Return¦→Return -> ended
 RETURN(x)¦show 1 GOSUB_RETVAL→RETURN -> ended\nGOSUB_RETVAL=
@@ -186,7 +186,7 @@ Gosub(r,s,1(a))\n[r]\nexten => s,1,Gosub(2(b))\nexten => s,2,StackPop()\nexten =
 ";
 
 const SETTINGS: &str = r"
-# The name without its blanks, and the value as it stands after the first sign.
+# The name without its blanks, and the value unchanged after the first sign.
 Set(A=1)¦show 1 A→Set -> ready main,s,2\nA=1
 Set( A =1)¦show 1 A→Set -> ready main,s,2\nA=1
 Set(A= 1 )¦show 1 A→Set -> ready main,s,2\nA= 1 
@@ -226,7 +226,7 @@ Set(GLOBAL(G=5)¦show 1 G→Set -> ready main,s,2\nG=
 Set(GLOBAL(a(b)=5)¦show 1 a(b→Set -> ready main,s,2\na(b=5
 Set(GLOBAL()=5)\nexten => s,2,Set(A=<${}>)¦step 1\nshow 1 A→Set -> ready main,s,2\nran 1 main,s,2 Set -> ready main,s,3\nA=<5>
 Set(GLOBAL(G)=)¦show 1 G→Set -> ready main,s,2\nG=
-# Locals of the innermost frame, where there is one.
+# Locals of the innermost frame, if there is one.
 Set(LOCAL(A)=1)¦show 1 A→Set -> ready main,s,2\nA=
 Gosub(r,s,1)\n[r]\nexten => s,1,Set(LOCAL(A)=1)\nexten => s,2,Return()¦step 1\nshow 1 A\nstep 1\nshow 1 A→Gosub -> ready r,s,1\nran 1 r,s,1 Set -> ready r,s,2\nA=1\nran 1 r,s,2 Return -> ready main,s,2\nA=
 Gosub(r,s,1)\n[r]\nexten => s,1,Set(local(A)=1)\nexten => s,2,Set(LOCAL(A)x=1)¦step 1 2\nshow 1 A→Gosub -> ready r,s,1\nran 1 r,s,1 Set -> ready r,s,2\nran 1 r,s,2 Set -> ready r,s,3\nA=
@@ -249,7 +249,7 @@ Set(A=${OPEN})¦show 1 A→Set -> ready main,s,2\nA=(
 ";
 
 const WAITS: &str = r"
-# What only goes on, whatever its arguments.
+# Applications that only go on, whatever their arguments are.
 Answer()¦→Answer -> ready main,s,2
 Answer(5,x)¦→Answer -> ready main,s,2
 answer¦→answer -> ready main,s,2
@@ -261,12 +261,12 @@ VERBOSE( )¦→VERBOSE -> ready main,s,2
 Playback(hello&world,skip)¦show 1 PLAYBACKSTATUS→Playback -> ready main,s,2\nPLAYBACKSTATUS=
 Playback()¦→Playback -> ready main,s,2
 playback¦→playback -> ready main,s,2
-# The end of the call, whatever its cause.
+# The end of the call, whatever the cause is.
 Hangup()¦→Hangup -> ended
 Hangup¦→Hangup -> ended
 HangUp(16)¦→HangUp -> ended
 Hangup(x,${TWO})¦→Hangup -> ended
-# A wait is ended by a time-out alone, whatever its seconds.
+# Only a time-out ends a wait, whatever its seconds are.
 Wait(5)¦digit 1 5\npoll 1\ntimeout 1→Wait -> pause\nok 1 -> pause\nrefused 42 NotWaiting\nok 1 -> ready main,s,2
 Wait()¦timeout 1→Wait -> pause\nok 1 -> ready main,s,2
 Wait¦→Wait -> pause
@@ -290,7 +290,7 @@ Background(${TWO})¦digit 1 2\ntimeout 1→Background -> digits\nok 1 -> digits\
 ";
 
 const DIALS: &str = r"
-# A call to devices sets nothing before it came to something, and their text is read by nobody.
+# A call to devices sets nothing before its result, and the text of the devices is not read.
 Dial(Line/5)¦show 1 DIALSTATUS→Dial -> dialling\nDIALSTATUS=
 Dial(Line/1&x)¦offer q\nresult 1 BUSY\nresult 1 BUSY→Dial -> dialling\nrefused 45 NobodyWaiting\nok 1 -> ready main,s,2\nrefused 53 NotDialling
 dial( x )¦→dial -> dialling
@@ -301,21 +301,21 @@ Dial()¦show 1 DIALSTATUS→Dial -> ready main,s,2\nDIALSTATUS=CHANUNAVAIL
 Dial( )¦show 1 DIALSTATUS→Dial -> ready main,s,2\nDIALSTATUS=CHANUNAVAIL
 Dial(,20)¦show 1 DIALSTATUS→Dial -> ready main,s,2\nDIALSTATUS=CHANUNAVAIL
 Dial(${NONE},20,g)¦show 1 DIALSTATUS→Dial -> ready main,s,2\nDIALSTATUS=CHANUNAVAIL
-# What it came to.
+# Its result.
 Dial(x)¦result 1 ANSWER\nshow 1 DIALSTATUS→Dial -> dialling\nok 1 -> ended\nDIALSTATUS=ANSWER
 Dial(x)¦result 1 BUSY\nshow 1 DIALSTATUS→Dial -> dialling\nok 1 -> ready main,s,2\nDIALSTATUS=BUSY
 Dial(x)¦result 1 NOANSWER\nshow 1 DIALSTATUS→Dial -> dialling\nok 1 -> ready main,s,2\nDIALSTATUS=NOANSWER
 Dial(x)¦result 1 CONGESTION\nshow 1 DIALSTATUS→Dial -> dialling\nok 1 -> ready main,s,2\nDIALSTATUS=CONGESTION
 Dial(x)¦result 1 CHANUNAVAIL\nshow 1 DIALSTATUS→Dial -> dialling\nok 1 -> ready main,s,2\nDIALSTATUS=CHANUNAVAIL
 Dial(x)¦hangup 1\nshow 1 DIALSTATUS\nresult 1 BUSY→Dial -> dialling\nok 1 -> ended\nDIALSTATUS=CANCEL\nrefused 49 Ended
-# The time is any text but an empty one.
+# The time is any text that is not empty.
 Dial(x)¦timeout 1→Dial -> dialling\nrefused 43 NoTimer
 Dial(x, )¦timeout 1→Dial -> dialling\nrefused 43 NoTimer
 Dial(x,,,5)¦timeout 1→Dial -> dialling\nrefused 43 NoTimer
 Dial(x,0)¦timeout 1\nshow 1 DIALSTATUS→Dial -> dialling\nok 1 -> ready main,s,2\nDIALSTATUS=NOANSWER
 Dial(x,x)¦timeout 1→Dial -> dialling\nok 1 -> ready main,s,2
 Dial(${TIMED})¦timeout 1→Dial -> dialling\nok 1 -> ready main,s,2
-# An option `g` outside parentheses goes on after the far side.
+# The option `g` outside parentheses goes on after the far side.
 Dial(x,,g)¦result 1 ANSWER→Dial -> dialling\nok 1 -> ready main,s,2
 Dial(x,,tg)¦result 1 ANSWER→Dial -> dialling\nok 1 -> ready main,s,2
 Dial(x,,U(a,b)g)¦result 1 ANSWER→Dial -> dialling\nok 1 -> ready main,s,2
@@ -368,7 +368,7 @@ Queue(q,,,,,30)¦timeout 1→Queue -> queued q\nrefused 43 NoTimer
 Queue(${TIMED})¦timeout 1\nshow 1 QUEUESTATUS→Queue -> queued q\nok 1 -> ready main,s,2\nQUEUESTATUS=TIMEOUT
 Queue(${NONE})¦show 1 QUEUESTATUS→Queue -> ready main,s,2\nQUEUESTATUS=UNKNOWN
 Queue(q,,,,${NONE})¦timeout 1→Queue -> queued q\nrefused 43 NoTimer
-# The status goes where the rule of setting says.
+# The status is set by the rule for setting.
 Gosub(r,s,1)\n[r]\nexten => s,1,Set(LOCAL(QUEUESTATUS)=x)\nexten => s,2,Queue(x)\nexten => s,3,StackPop()¦step 1 2\nshow 1 QUEUESTATUS\nstep 1\nshow 1 QUEUESTATUS→Gosub -> ready r,s,1\nran 1 r,s,1 Set -> ready r,s,2\nran 1 r,s,2 Queue -> ready r,s,3\nQUEUESTATUS=UNKNOWN\nran 1 r,s,3 StackPop -> ready r,s,4\nQUEUESTATUS=
 # A way out by the queue's context.
 Queue(sales)¦digit 1 2\ndigit 1 5→Queue -> queued Sales\nok 1 -> queued Sales\nok 1 -> queued Sales
@@ -385,11 +385,11 @@ AddQueueMember()¦show 1 AQMSTATUS→AddQueueMember -> ready main,s,2\nAQMSTATUS
 AddQueueMember¦show 1 AQMSTATUS→AddQueueMember -> ready main,s,2\nAQMSTATUS=NOSUCHQUEUE
 AddQueueMember(,Line/9)¦show 1 AQMSTATUS→AddQueueMember -> ready main,s,2\nAQMSTATUS=NOSUCHQUEUE
 AddQueueMember(x,Line/1)¦show 1 AQMSTATUS→AddQueueMember -> ready main,s,2\nAQMSTATUS=NOSUCHQUEUE
-# The channel itself where no interface is given.
+# The channel itself if no interface is given.
 AddQueueMember(q)\nexten => s,2,RemoveQueueMember(q,Channel/1)¦step 1\nshow 1 RQMSTATUS→AddQueueMember -> ready main,s,2\nran 1 main,s,2 RemoveQueueMember -> ready main,s,3\nRQMSTATUS=REMOVED
 AddQueueMember(q,)\nexten => s,2,RemoveQueueMember(q, )¦step 1\nshow 1 RQMSTATUS→AddQueueMember -> ready main,s,2\nran 1 main,s,2 RemoveQueueMember -> ready main,s,3\nRQMSTATUS=REMOVED
 AddQueueMember(q, ,1)\nexten => s,2,AddQueueMember(q,Channel/1)¦step 1\nshow 1 AQMSTATUS→AddQueueMember -> ready main,s,2\nran 1 main,s,2 AddQueueMember -> ready main,s,3\nAQMSTATUS=MEMBERALREADY
-# Penalties: of the least one two ring, of another only the member of the file.
+# Penalties: two members of the least penalty ring; with another penalty only the member of the file does.
 AddQueueMember(q,Line/9)\nexten => w,1,Queue(q)¦start main w\nstep 2\noffer q→AddQueueMember -> ready main,s,2\nstarted 2\nran 2 main,w,1 Queue -> queued q\noffered 2 2
 AddQueueMember(q,Line/9,)\nexten => w,1,Queue(q)¦start main w\nstep 2\noffer q→AddQueueMember -> ready main,s,2\nstarted 2\nran 2 main,w,1 Queue -> queued q\noffered 2 2
 AddQueueMember(q,Line/9,x)\nexten => w,1,Queue(q)¦start main w\nstep 2\noffer q→AddQueueMember -> ready main,s,2\nstarted 2\nran 2 main,w,1 Queue -> queued q\noffered 2 2
@@ -413,7 +413,7 @@ RemoveQueueMember()¦show 1 RQMSTATUS→RemoveQueueMember -> ready main,s,2\nRQM
 RemoveQueueMember¦show 1 RQMSTATUS→RemoveQueueMember -> ready main,s,2\nRQMSTATUS=NOSUCHQUEUE
 RemoveQueueMember(,Line/1)¦show 1 RQMSTATUS→RemoveQueueMember -> ready main,s,2\nRQMSTATUS=NOSUCHQUEUE
 RemoveQueueMember(x,Line/1)¦show 1 RQMSTATUS→RemoveQueueMember -> ready main,s,2\nRQMSTATUS=NOSUCHQUEUE
-# Members that pause: of one queue, and of all where none is given; no interface is nobody's.
+# Members that pause: in one queue, and in all if none is given; an empty interface is nobody's.
 PauseQueueMember(q,Line/1)¦show 1 PQMSTATUS→PauseQueueMember -> ready main,s,2\nPQMSTATUS=PAUSED
 pausequeuemember( Q , Line/1 ,x)¦show 1 PQMSTATUS→pausequeuemember -> ready main,s,2\nPQMSTATUS=PAUSED
 PauseQueueMember(,Line/1)¦show 1 PQMSTATUS→PauseQueueMember -> ready main,s,2\nPQMSTATUS=PAUSED
@@ -431,7 +431,7 @@ AddQueueMember(q)\nexten => s,2,PauseQueueMember(q)¦step 1\nshow 1 PQMSTATUS→
 AddQueueMember(q)\nexten => s,2,PauseQueueMember(q,${CHANNEL})¦step 1\nshow 1 PQMSTATUS→AddQueueMember -> ready main,s,2\nran 1 main,s,2 PauseQueueMember -> ready main,s,3\nPQMSTATUS=PAUSED
 PauseQueueMember(${MEMBER})¦show 1 PQMSTATUS→PauseQueueMember -> ready main,s,2\nPQMSTATUS=NOTFOUND
 PauseQueueMember(q,Line/1)\nexten => w,1,Queue(q)¦start main w\nstep 2\noffer q→PauseQueueMember -> ready main,s,2\nstarted 2\nran 2 main,w,1 Queue -> queued q\nrefused 46 NoMember
-# Members that go on.
+# Members that are unpaused.
 UnpauseQueueMember(q,Line/1)¦show 1 UPQMSTATUS\nshow 1 PQMSTATUS→UnpauseQueueMember -> ready main,s,2\nUPQMSTATUS=UNPAUSED\nPQMSTATUS=
 unpausequeuemember( , Line/1 )¦show 1 UPQMSTATUS→unpausequeuemember -> ready main,s,2\nUPQMSTATUS=UNPAUSED
 UnpauseQueueMember(,Line/9)¦show 1 UPQMSTATUS→UnpauseQueueMember -> ready main,s,2\nUPQMSTATUS=NOTFOUND
@@ -452,7 +452,7 @@ const TABLES: &[&str] = &[
     MEMBERS,
 ];
 
-/// The status of a trace: 1 where an event was refused.
+/// The status of a trace: 1 if an event was refused.
 fn status_of(trace: &str) -> u8 {
     if trace.split_once("refused ").is_some() {
         1
@@ -461,7 +461,7 @@ fn status_of(trace: &str) -> u8 {
     }
 }
 
-/// The answer that is wanted to a case with this trace: the trace after the call and its step, and the status.
+/// The expected answer to a case with this trace: the trace after the call and its step, and the status.
 fn wanted_answer(alloc: Global, trace: &str) -> Result<String, NoMemory> {
     format!(in alloc;
         "started 1\\nran 1 main,s,1 {trace}\\nstatus {}",
@@ -469,7 +469,7 @@ fn wanted_answer(alloc: Global, trace: &str) -> Result<String, NoMemory> {
     )
 }
 
-/// What the run of a case writes and ends with.
+/// The output and result of the run of a case.
 fn run_of(alloc: Global, lines: &str, after: &str) -> Result<String, NoMemory> {
     let plan = format!(in alloc; "{FRONT}{lines}")?;
     let script = format!(in alloc; "start main s 555\\nstep 1\\n{after}")?;
@@ -493,7 +493,7 @@ fn check_table(alloc: Global, table: &str) -> Result<(), Fail> {
     Ok(())
 }
 
-/// Each application with its arguments of all forms.
+/// Each application with arguments of all forms.
 #[test]
 fn applications_run_with_arguments_of_all_forms(rt: HostRuntime) -> Result<(), Fail> {
     for table in TABLES {

@@ -1,4 +1,4 @@
-//! Calls through dialplans with queues, with all that is printed of them, worked out by hand from the rules.
+//! Calls through dialplans with queues, with everything that they print, worked out by hand from the rules.
 use crate::runs::manual::PAGES;
 use dp_case_tables::{Question, check_all};
 use dp_commands::run_script;
@@ -7,8 +7,8 @@ use dp_conf::NoMemory;
 use std::alloc::Global;
 use std::test::Fail;
 
-/// Worked cases. A case is a dialplan that begins in `[main]`, a file of queues and a script, parted by `¦`, and a second dialplan
-/// after a further `¦`, where there is one; then an arrow, and the trace with the status after it.
+/// Worked cases. A case is a dialplan that begins in `[main]`, a file of queues and a script, separated by `¦`, and a second dialplan after
+/// another `¦`, if there is one; then an arrow, and the trace followed by the status.
 const ROWS: &str = r"
 # wildcards
 exten => s,1,WaitExten(5)\nexten => _1!,1,NoOp()\nexten => _1.,1,NoOp()¦¦start main s\nstep 1\ndigit 1 1\ntimeout 1→started 1\nran 1 main,s,1 WaitExten -> digits\nok 1 -> digits\nok 1 -> ready main,1,1\nstatus 0
@@ -56,51 +56,51 @@ exten => s,1,Dial()\nexten => s,2,NoOp()\nexten => h,1,Dial(Line/6)¦¦start mai
 exten => s,1,Background(welcome)\n same => n,WaitExten(5)\nexten => 1,1,Queue(sales,c)\n same => n,Hangup()\nexten => i,1,Goto(s,1)\nexten => t,1,Hangup()\nexten => h,1,NoOp(${QUEUESTATUS})\n¦[sales]\nstrategy = ringall\nmember => Line/1\nmember => Line/2\n¦start main s\nstep 1\ndigit 1 1\nstep 1\noffer sales\nanswer Line/1\ndone Line/1\nshow 1 QUEUESTATUS\nstep 1 2\n→started 1\nran 1 main,s,1 Background -> digits\nok 1 -> ready main,1,1\nran 1 main,1,1 Queue -> queued sales\noffered 1 2\nok\nok\nQUEUESTATUS=CONTINUE\nran 1 main,1,2 Hangup -> ready main,h,1\nran 1 main,h,1 NoOp -> ready main,h,2\nstatus 0
 ";
 
-/// Digits, and what becomes of them.
+/// Digits, and where they lead.
 const DIALOGUES: &str = r"
-# Digits that may go on are collected, and go where they lead when they may not, or when no more come in time.
+# Digits are collected while they may go on, and go where they lead when they may not, or when no more come in time.
 exten => s,1,Background(menu)\nexten => 1,1,NoOp()\nexten => 12,1,NoOp()¦¦start main s\nstep 1\ndigit 1 1\ndigit 1 2\nstep 1→started 1\nran 1 main,s,1 Background -> digits\nok 1 -> digits\nok 1 -> ready main,12,1\nran 1 main,12,1 NoOp -> ready main,12,2\nstatus 0
 exten => s,1,Background(menu)\nexten => 1,1,NoOp()\nexten => 12,1,NoOp()¦¦start main s\nstep 1\ndigit 1 1\ntimeout 1→started 1\nran 1 main,s,1 Background -> digits\nok 1 -> digits\nok 1 -> ready main,1,1\nstatus 0
-# Where the name that goes on has no priority 1, it does not count.
+# If the name that goes on has no priority 1, it does not count.
 exten => s,1,Background(menu)\nexten => 1,1,NoOp()\nexten => 12,2,NoOp()¦¦start main s\nstep 1\ndigit 1 1→started 1\nran 1 main,s,1 Background -> digits\nok 1 -> ready main,1,1\nstatus 0
 # An included context counts.
 exten => s,1,WaitExten()\ninclude => more\n[more]\nexten => _5X,1,NoOp()¦¦start main s\nstep 1\ndigit 1 5\ndigit 1 *→started 1\nran 1 main,s,1 WaitExten -> digits\nok 1 -> digits\nok 1 -> ready main,5*,1\nstatus 0
 # All digits of a telephone.
 exten => s,1,WaitExten()\nexten => _[0-9A-D*#].,1,NoOp()¦¦start main s\nstep 1\ndigit 1 0\ndigit 1 9\ndigit 1 *\ndigit 1 #\ndigit 1 A\ndigit 1 D\ntimeout 1→started 1\nran 1 main,s,1 WaitExten -> digits\nok 1 -> digits\nok 1 -> digits\nok 1 -> digits\nok 1 -> digits\nok 1 -> digits\nok 1 -> digits\nok 1 -> ready main,09*#AD,1\nstatus 0
 exten => s,1,WaitExten()¦¦start main s\nstep 1\ndigit 1 E\ndigit 1 a\ndigit 1 +\ndigit 1 -\ndigit 1 /→started 1\nran 1 main,s,1 WaitExten -> digits\nrefused 51 BadDigit\nrefused 51 BadDigit\nrefused 51 BadDigit\nrefused 51 BadDigit\nrefused 51 BadDigit\nstatus 1
-# With no digit in time `Background` goes on, and `WaitExten` where the next priority is found, else to `t`.
+# Without a digit in time `Background` goes on, and `WaitExten` if the next priority is found, else to `t`.
 exten => s,1,Background(menu)\nexten => t,1,NoOp()¦¦start main s\nstep 1\ntimeout 1\nstep 1→started 1\nran 1 main,s,1 Background -> digits\nok 1 -> ready main,s,2\nno entry 1 -> ended\nstatus 0
 exten => s,1,WaitExten(5)\nexten => s,2,NoOp()\nexten => t,1,NoOp()¦¦start main s\nstep 1\ntimeout 1→started 1\nran 1 main,s,1 WaitExten -> digits\nok 1 -> ready main,s,2\nstatus 0
 exten => s,1,WaitExten(5)\nexten => t,1,NoOp()¦¦start main s\nstep 1\ntimeout 1→started 1\nran 1 main,s,1 WaitExten -> digits\nok 1 -> ready main,t,1\nstatus 0
 exten => s,1,WaitExten(5)\ninclude => more\n[more]\nexten => _[a-z],1,NoOp()¦¦start main 5\nstart main s\nstep 2\ntimeout 2\nstep 2→started 1\nstarted 2\nran 2 main,s,1 WaitExten -> digits\nok 2 -> ready main,t,1\nran 2 more,_[abcdefghijklmnopqrstuvwxyz],1 NoOp -> ready main,t,2\nstatus 0
 exten => s,1,WaitExten(5)¦¦start main s\nstep 1\ntimeout 1→started 1\nran 1 main,s,1 WaitExten -> digits\nok 1 -> ended\nstatus 0
 exten => s,1,WaitExten(5)\nexten => h,1,NoOp()¦¦start main s\nstep 1\ntimeout 1→started 1\nran 1 main,s,1 WaitExten -> digits\nok 1 -> ready main,h,1\nstatus 0
-# An extension that is not there goes to `i`, but not one of which only the priority is missing.
+# An extension that does not exist leads to `i`, but one that only lacks the priority does not.
 exten => i,1,Goto(s,1)\nexten => s,1,NoOp()¦¦start main 9\nstep 1 2\nshow 1 INVALID_EXTEN→started 1\ninvalid 1 -> ready main,i,1\nran 1 main,i,1 Goto -> ready main,s,1\nINVALID_EXTEN=9\nstatus 0
 exten => i,1,NoOp()\nexten => 5,1,Goto(5,3)¦¦start main 5\nstep 1 2→started 1\nran 1 main,5,1 Goto -> ready main,5,3\nno entry 1 -> ended\nstatus 0
 exten => i,2,NoOp()¦¦start main 9\nstep 1→started 1\nno entry 1 -> ended\nstatus 0
 exten => s,1,NoOp()\n[other]\nexten => i,1,NoOp()¦¦start main 9\nstep 1→started 1\nno entry 1 -> ended\nstatus 0
-# What was dialled is set by the rule of setting: here in the local of the frame.
+# What was dialled is set by the rule for setting: here in the local of the frame.
 exten => s,1,Gosub(f,s,1)\n[f]\nexten => s,1,Set(LOCAL(INVALID_EXTEN)=x)\nexten => s,2,Goto(9,1)\nexten => i,1,NoOp()\nexten => i,2,StackPop()¦¦start main s\nstep 1 4\nshow 1 INVALID_EXTEN\nstep 1 2\nshow 1 INVALID_EXTEN→started 1\nran 1 main,s,1 Gosub -> ready f,s,1\nran 1 f,s,1 Set -> ready f,s,2\nran 1 f,s,2 Goto -> ready f,9,1\ninvalid 1 -> ready f,i,1\nINVALID_EXTEN=9\nran 1 f,i,1 NoOp -> ready f,i,2\nran 1 f,i,2 StackPop -> ready f,i,3\nINVALID_EXTEN=\nstatus 0
 # Events that a channel does not wait for.
 exten => s,1,Wait(1)\nexten => s,2,WaitExten()¦¦start main s\ntimeout 1\npoll 1\nstep 1\nstep 1\npoll 1\ntimeout 1\nstep 1\npoll 1\nstep 1→started 1\nrefused 42 NotWaiting\nrefused 42 NotWaiting\nran 1 main,s,1 Wait -> pause\nrefused 41 NotReady\nrefused 42 NotWaiting\nok 1 -> ready main,s,2\nran 1 main,s,2 WaitExten -> digits\nrefused 42 NotWaiting\nrefused 41 NotReady\nstatus 1
-# Channels that are not there, or are over.
+# Channels that do not exist, or are over.
 exten => s,1,Hangup()¦¦digit 1 x\ntimeout 1\npoll 1\nhangup 1\nstart main s\nstep 1\ndigit 1 x\ntimeout 1\npoll 1\nhangup 1→refused 40 NoChannel\nrefused 40 NoChannel\nrefused 40 NoChannel\nrefused 40 NoChannel\nstarted 1\nran 1 main,s,1 Hangup -> ended\nrefused 49 Ended\nrefused 49 Ended\nrefused 49 Ended\nrefused 49 Ended\nstatus 1
 ";
 
 /// How calls end.
 const ENDS: &str = r"
-# A hang-up runs `h` once, in the context where the channel stands then.
+# A hang-up runs `h` once, in the context where the channel then is.
 exten => s,1,NoOp()\nexten => h,1,NoOp()¦¦start main s\nhangup 1\nhangup 1\nhangup 1→started 1\nok 1 -> ready main,h,1\nok 1 -> ended\nrefused 49 Ended\nstatus 1
 exten => s,1,Goto(out,s,1)\nexten => h,1,NoOp()\n[out]\nexten => s,1,NoOp()¦¦start main s\nstep 1\nhangup 1→started 1\nran 1 main,s,1 Goto -> ready out,s,1\nok 1 -> ended\nstatus 0
 exten => s,1,NoOp()\ninclude => more\n[more]\nexten => _[a-z],1,NoOp()¦¦start main s\nhangup 1\nstep 1→started 1\nok 1 -> ready main,h,1\nran 1 more,_[abcdefghijklmnopqrstuvwxyz],1 NoOp -> ready main,h,2\nstatus 0
 exten => s,1,NoOp()\nexten => h,2,NoOp()¦¦start main s\nhangup 1→started 1\nok 1 -> ended\nstatus 0
-# So do the end of a call by an application, a name that is no application, and a place with no entry.
+# So do the end of a call by an application, a name that is not an application, and a place with no entry.
 exten => s,1,Hangup()\nexten => h,1,NoOp()¦¦start main s\nstep 1 3→started 1\nran 1 main,s,1 Hangup -> ready main,h,1\nran 1 main,h,1 NoOp -> ready main,h,2\nno entry 1 -> ended\nstatus 0
 exten => s,1,Macro(x)\nexten => h,1,Hangup()¦¦start main s\nstep 1 2→started 1\nran 1 main,s,1 Macro -> ready main,h,1\nran 1 main,h,1 Hangup -> ended\nstatus 0
 exten => s,1,Goto(x)\nexten => h,1,NoOp()¦¦start main s\nstep 1→started 1\nran 1 main,s,1 Goto -> ready main,h,1\nstatus 0
 exten => h,1,NoOp()¦¦start main s\nstep 1→started 1\nno entry 1 -> ready main,h,1\nstatus 0
-# `h` may go where it likes, but waits for nothing, and a second hang-up is the end.
+# `h` may go anywhere, but waits for nothing, and a second hang-up is the end.
 exten => h,1,Goto(s,1)\nexten => s,1,NoOp()\nexten => s,2,Background(x)¦¦start main 5\nhangup 1\nstep 1 3→started 1\nok 1 -> ready main,h,1\nran 1 main,h,1 Goto -> ready main,s,1\nran 1 main,s,1 NoOp -> ready main,s,2\nran 1 main,s,2 Background -> ended\nstatus 0
 exten => h,1,Queue(q)¦[q]¦start main s\nhangup 1\nstep 1\nshow 1 QUEUESTATUS→started 1\nok 1 -> ready main,h,1\nran 1 main,h,1 Queue -> ended\nQUEUESTATUS=\nstatus 0
 exten => h,1,Queue(none)\nexten => h,2,Queue(q)\nexten => h,3,NoOp()¦[q]\njoinempty=no¦start main s\nhangup 1\nstep 1\nshow 1 QUEUESTATUS\nstep 1\nshow 1 QUEUESTATUS→started 1\nok 1 -> ready main,h,1\nran 1 main,h,1 Queue -> ready main,h,2\nQUEUESTATUS=UNKNOWN\nran 1 main,h,2 Queue -> ready main,h,3\nQUEUESTATUS=JOINEMPTY\nstatus 0
@@ -118,17 +118,17 @@ const QUEUES: &str = r"
 exten => s,1,Queue(q)¦[q]\nmember => A¦start main s\nstart main s\nstep 1\nstep 2\noffer q\noffer q\nhangup 1\nanswer A\noffer q\nanswer A→started 1\nstarted 2\nran 1 main,s,1 Queue -> queued q\nran 2 main,s,1 Queue -> queued q\noffered 1 1\nrefused 46 NoMember\nok 1 -> ended\nrefused 47 NotRinging\noffered 2 1\nok\nstatus 1
 # An agent that declines is idle, and is rung again.
 exten => s,1,Queue(q)¦[q]\nmember => A¦start main s\nstep 1\noffer q\ndecline A\ndecline A\noffer q\nanswer A\ndecline A→started 1\nran 1 main,s,1 Queue -> queued q\noffered 1 1\nok\nrefused 47 NotRinging\noffered 1 1\nok\nrefused 47 NotRinging\nstatus 1
-# After its agent a call ends, or goes on with the option `c`.
+# After its agent is done a call ends, or goes on with the option `c`.
 exten => s,1,Queue(q)\nexten => h,1,NoOp()¦[q]\nmember => A¦start main s\nstep 1\noffer q\nanswer A\nstep 1\ntimeout 1\npoll 1\ndigit 1 5\ndone A\ndone A\nstep 1→started 1\nran 1 main,s,1 Queue -> queued q\noffered 1 1\nok\nrefused 41 NotReady\nrefused 42 NotWaiting\nrefused 42 NotWaiting\nrefused 42 NotWaiting\nok\nrefused 48 NotTalking\nran 1 main,h,1 NoOp -> ready main,h,2\nstatus 1
 exten => s,1,Queue(q,tc)\nexten => s,2,NoOp()¦[q]\nmember => A¦start main s\nstep 1\noffer q\nanswer A\ndone A\nstep 1→started 1\nran 1 main,s,1 Queue -> queued q\noffered 1 1\nok\nok\nran 1 main,s,2 NoOp -> ready main,s,3\nstatus 0
 exten => s,1,Queue(q,C)\nexten => s,2,NoOp()¦[q]\nmember => A¦start main s\nstep 1\noffer q\nanswer A\ndone A\nstep 1→started 1\nran 1 main,s,1 Queue -> queued q\noffered 1 1\nok\nok\nrefused 49 Ended\nstatus 1
 exten => s,1,Queue(q,x(c))\nexten => s,2,NoOp()¦[q]\nmember => A¦start main s\nstep 1\noffer q\nanswer A\ndone A\nstep 1→started 1\nran 1 main,s,1 Queue -> queued q\noffered 1 1\nok\nok\nrefused 49 Ended\nstatus 1
-# A talk that the caller ends is a finished call, so that the agent with fewer is chosen then.
+# A talk that the caller ends is a finished call, so the agent with fewer is then chosen.
 exten => s,1,Queue(q)¦[q]\nstrategy=fewestcalls\nmember => A\nmember => B¦start main s\nstart main s\nstep 1\nstep 2\noffer q\nanswer A\nhangup 1\ndone A\noffer q\nanswer A\nanswer B→started 1\nstarted 2\nran 1 main,s,1 Queue -> queued q\nran 2 main,s,1 Queue -> queued q\noffered 1 1\nok\nok 1 -> ended\nrefused 48 NotTalking\noffered 2 1\nrefused 47 NotRinging\nok\nstatus 1
 # A way out through an included context, and its agents are idle.
 exten => s,1,Queue(q)\n[out]\ninclude => more\n[more]\nexten => 5,1,NoOp()¦[q]\ncontext=out\nmember => A¦start main s\nstep 1\noffer q\ndigit 1 5\nanswer A\nstep 1→started 1\nran 1 main,s,1 Queue -> queued q\noffered 1 1\nok 1 -> ready out,5,1\nrefused 47 NotRinging\nran 1 more,5,1 NoOp -> ready out,5,2\nstatus 1
 exten => s,1,Queue(q)\nexten => 5,1,NoOp()¦[q]¦start main s\nstep 1\ndigit 1 5→started 1\nran 1 main,s,1 Queue -> queued q\nok 1 -> queued q\nstatus 0
-# Queues are named in any case, and printed as their section is.
+# Queues are named in any case, and printed as their section writes them.
 exten => s,1,Queue(SALES)¦[Sales]\nmember => A¦start main s\nstep 1\noffer sAles\nanswer a\nanswer A\nstep 1→started 1\nran 1 main,s,1 Queue -> queued Sales\noffered 1 1\nrefused 47 NotRinging\nok\nrefused 41 NotReady\nstatus 1
 # An agent of two queues rings once.
 exten => s,1,Queue(a)\nexten => 2,1,Queue(b)¦[a]\nmember => A\n[b]\nmember => A¦start main s\nstart main 2\nstep 1\nstep 2\noffer a\noffer b\nanswer A\noffer b\ndone A\noffer b→started 1\nstarted 2\nran 1 main,s,1 Queue -> queued a\nran 2 main,2,1 Queue -> queued b\noffered 1 1\nrefused 46 NoMember\nok\nrefused 46 NoMember\nok\noffered 2 1\nstatus 1
@@ -144,9 +144,9 @@ exten => s,1,Queue(q)\nexten => p,1,PauseQueueMember(q,A)¦[q]\nleavewhenempty=l
 exten => s,1,Queue(q)\nexten => n,1,Set(N=${QUEUE_WAITING_COUNT(Q)}${QUEUE_WAITING_COUNT(x)})¦[q]¦start main s\nstart main s\nstart main n\nstep 1\nstep 2\nstep 3\nshow 3 N→started 1\nstarted 2\nstarted 3\nran 1 main,s,1 Queue -> queued q\nran 2 main,s,1 Queue -> queued q\nran 3 main,n,1 Set -> ready main,n,2\nN=20\nstatus 0
 ";
 
-/// Dialplans that are put in force in place of others.
+/// Reloads.
 const RELOADS: &str = r"
-# A count of a queue is of those who wait at the event, and there is no channel.
+# A count of a queue is of the calls that wait at the event, and there is no channel.
 exten => s,1,Queue(q)¦[q]¦start main s\nreload\nshow 1 N\nstep 1\nreload\nshow 1 N¦[globals]\nN=${QUEUE_WAITING_COUNT(q)}<${EXTEN}>\n[main]\nexten => s,1,Queue(q)→started 1\nok\nN=0<>\nran 1 main,s,1 Queue -> queued q\nok\nN=1<>\nstatus 0
 # Queues and agents stay, and a channel goes on in the new dialplan.
 exten => s,1,Queue(q,c)¦[q]\nmember => A¦start main s\nstep 1\noffer q\nreload\nanswer A\nreload\ndone A\nstep 1¦[main]\nexten => s,2,Hangup()→started 1\nran 1 main,s,1 Queue -> queued q\noffered 1 1\nok\nok\nok\nok\nran 1 main,s,2 Hangup -> ended\nstatus 0
@@ -154,10 +154,10 @@ exten => s,1,Queue(q,c)¦[q]\nmember => A¦start main s\nstep 1\noffer q\nreload
 exten => s,1,Queue(q)¦[q]\ncontext=out¦start main s\nstep 1\ndigit 1 5\nreload\ndigit 1 5¦[out]\nexten => 5,1,NoOp()→started 1\nran 1 main,s,1 Queue -> queued q\nok 1 -> queued q\nok\nok 1 -> ready out,5,1\nstatus 0
 # A call to devices stays.
 exten => s,1,Dial(x,5)¦¦start main s\nstep 1\nreload\nresult 1 BUSY\nstep 1¦→started 1\nran 1 main,s,1 Dial -> dialling\nok\nok 1 -> ready main,s,2\nno entry 1 -> ended\nstatus 0
-# In the files of a run the lines that part a joined text are comments.
+# In the files of a run the lines that separate a joined text are comments.
 exten => s,1,NoOp()\n;; reload\n;; script\nexten => s,2,NoOp()¦¦start main s\n;; reload\nstep 1 2→started 1\nran 1 main,s,1 NoOp -> ready main,s,2\nran 1 main,s,2 NoOp -> ready main,s,3\nstatus 0
 exten => s,1,NoOp()¦¦reload\nstart main s\nstep 1¦[main]\n;; script\nexten => s,1,Hangup()→ok\nstarted 1\nran 1 main,s,1 Hangup -> ended\nstatus 0
-# The text of the second dialplan is looked into at the event alone.
+# The text of the second dialplan is read only at the event.
 exten => s,1,NoOp()¦¦start main s\nstep 1¦[main→started 1\nran 1 main,s,1 NoOp -> ready main,s,2\nstatus 0
 exten => s,1,NoOp()¦¦reload\nreload¦[main]\nexten => s,0,A→refused 52 BadPlan\nrefused 52 BadPlan\nstatus 1
 ";
@@ -190,14 +190,14 @@ exten => s,1,A¦¦Done A→fault 70 BadScript line 1
 
 const TABLES: &[&str] = &[ROWS, DIALOGUES, ENDS, QUEUES, RELOADS, FAULTS, PAGES];
 
-/// All that a run of these texts writes, and what it ends with after it.
+/// The whole output of a run of these texts, followed by its result.
 fn answer_to(alloc: Global, texts: &Texts) -> Result<String, NoMemory> {
     let mut writer = make_sink(alloc, 4096, None);
     let ended = run_script(alloc, texts.lend(), &mut writer);
     outcome_text(alloc, ended, writer)
 }
 
-/// The same of the texts of a case.
+/// The same for the texts of a case.
 pub(super) fn answer_of(
     alloc: Global,
     plan: &str,
@@ -208,7 +208,7 @@ pub(super) fn answer_of(
     answer_to(alloc, &texts)
 }
 
-/// What the run of a case writes and ends with.
+/// The output and result of the run of a case.
 struct Call;
 
 impl Question for Call {

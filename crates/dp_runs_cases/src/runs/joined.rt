@@ -1,4 +1,4 @@
-//! Joined texts with all that they write and what they end with, worked out by hand from the rules.
+//! Joined texts with their output and results, worked out by hand from the rules.
 use dp_case_tables::check_same;
 use dp_commands::{RunTexts, run_script};
 use dp_commands_fixture::{Run, check_table, make_sink, outcome_text};
@@ -20,16 +20,16 @@ const ROWS: &str = r"
 
 /// Values that are shown.
 const SHOWS: &str = r"
-# A channel that is not there counts for the status, and the script goes on.
+# A channel that does not exist counts for the status, and the script goes on.
 ;; script\nshow 1 M\n→refused 40 NoChannel\nstatus 1
 ;; script\nshow 0 M\nstart main s\nshow 1 M\nshow 2 M\n→refused 40 NoChannel\nstarted 1\nM=\nrefused 40 NoChannel\nstatus 1
-# What the channel gives, also after its end. It changes nothing.
+# What the channel gives, even after its end. It changes nothing.
 [main]\nexten => s,1,Hangup()\n;; script\nstart main s\nshow 1 CONTEXT\nshow 1 EXTEN\nshow 1 PRIORITY\nshow 1 CHANNEL\nstep 1\nshow 1 PRIORITY\n→started 1\nCONTEXT=main\nEXTEN=s\nPRIORITY=1\nCHANNEL=Channel/1\nran 1 main,s,1 Hangup -> ended\nPRIORITY=1\nstatus 0
 [main]\nexten => s,1,NoOp()\nexten => s,2,NoOp()\n;; script\nstart main s\nstart main 2-00\nstep 1\nshow 1 PRIORITY\nshow 2 EXTEN\nstep 1\n→started 1\nstarted 2\nran 1 main,s,1 NoOp -> ready main,s,2\nPRIORITY=2\nEXTEN=2-00\nran 1 main,s,2 NoOp -> ready main,s,3\nstatus 0
-# Global variables, of which the last value stands; names have their case, and may be those of functions.
+# Global variables, of which the last value counts; names are case sensitive, and may be those of functions.
 [globals]\nM=1\nM=2\nEXTEN=9\nLEN(x)=7\n;; script\nstart main s\nshow 1 M\nshow 1 m\nshow 1 EXTEN\nshow 1 LEN(x)\n→started 1\nM=2\nm=\nEXTEN=s\nLEN(x)=7\nstatus 0
 [globals]\nM=\xFF=\n;; script\nstart main s\nshow 1 M\nshow 1 M=\n→started 1\nM=\xFF=\nM==\nstatus 0
-# A line that is none.
+# A faulty line.
 ;; script\nstart main s\nshow 1\n→fault 70 BadScript line 2
 ";
 
@@ -44,7 +44,7 @@ const SEPARATORS: &str = r"
 [main]\nexten => s,1,NoOp()\n;; script\n→status 0
 # The first line.
 ;; script\nstart main s\nstep 1\n→started 1\nno entry 1 -> ended\nstatus 0
-# Blanks round it, and carriage returns.
+# Blanks around it, and carriage returns.
 [main]\nexten => s,1,NoOp()\n \t;; script \t\nstart main s\nstep 1\n→started 1\nran 1 main,s,1 NoOp -> ready main,s,2\nstatus 0
 [main]\r\nexten => s,1,NoOp()\r\n;; script\r\nstart main s\r\nstep 1\r\n→started 1\nran 1 main,s,1 NoOp -> ready main,s,2\nstatus 0
 # No line feed at the end.
@@ -57,19 +57,19 @@ const SEPARATORS: &str = r"
 \xEF\xBB\xBF;; script\nstart main s\n→fault 2 NoSection line 2
 \xEF\xBB\xBF;; script\n[main]\nexten => s,1,NoOp()\n;; script\nstart main s\nstep 1\n→started 1\nran 1 main,s,1 NoOp -> ready main,s,2\nstatus 0
 [main]\n;; script\n\xEF\xBB\xBFstart main s\n→fault 70 BadScript line 1
-# Lines that are nearly so are the dialplan's.
+# Lines that are almost separators belong to the dialplan.
 [main]\n;; Script\nstart main s\n→fault 4 NoEquals line 3
 [main]\n;;script\nstart main s\n→fault 4 NoEquals line 3
 [main]\n;; script x\nstart main s\n→fault 4 NoEquals line 3
 [main]\n;;  script\n; ; script\n;;\tscript\n;;; script\n→status 0
 [main]\nexten => s,1,NoOp() ;; script\n;; script\nstart main s\nstep 1\n→started 1\nran 1 main,s,1 NoOp -> ready main,s,2\nstatus 0
-# A comment of the script may begin as a block comment of a dialplan.
+# A comment of the script may begin like a block comment of a dialplan.
 [main]\n;; script\n;-- x\n→status 0
 ";
 
 /// Where the second dialplan begins and ends.
 const SECONDS: &str = r"
-# There is none, and a line `reload` is faulty.
+# Without one, a line `reload` is faulty.
 [main]\n;; script\nreload\n→fault 70 BadScript line 1
 [main]\n;; script\nstart main s\n\nreload\n→fault 70 BadScript line 3
 [main]\nabc\n;; script\nreload\n→fault 4 NoEquals line 2
@@ -80,9 +80,9 @@ const SECONDS: &str = r"
 ;; reload\n;; script→status 0
 # The first line.
 ;; reload\n[main]\nexten => s,1,NoOp()\n;; script\nstart main s\nreload\nstep 1\n→started 1\nok\nran 1 main,s,1 NoOp -> ready main,s,2\nstatus 0
-# Blanks round it, and carriage returns.
+# Blanks around it, and carriage returns.
 [main]\r\n \t;; reload \t\r\n[main]\r\nexten => s,1,NoOp()\r\n;; script\r\nreload\r\nstart main s\r\nstep 1\r\n→ok\nstarted 1\nran 1 main,s,1 NoOp -> ready main,s,2\nstatus 0
-# With no script it goes to the end, and no event looks into it.
+# Without a script it goes to the end, and no event reads it.
 [main]\n;; reload\n[main\nstart main s\n→status 0
 [main]\nabc\n;; reload\n→fault 4 NoEquals line 2
 # A second such line is a comment, of the second dialplan or of the script.
@@ -91,31 +91,31 @@ const SECONDS: &str = r"
 [main]\n;; script\n;; reload\n[main]\n→fault 70 BadScript line 2
 [main]\n;; script\n;; reload\nreload\n→fault 70 BadScript line 2
 [main]\n;; reload\n[main]\n;; script\n;; reload\nreload\n→ok\nstatus 0
-# The byte order mark is passed over at its front, and before the first line it makes that line a comment of the dialplan.
+# The byte order mark is skipped at its start, and before the first line it makes that line a comment of the dialplan.
 [main]\n;; reload\n\xEF\xBB\xBF[main]\nexten => s,1,NoOp()\n;; script\nreload\nstart main s\nstep 1\n→ok\nstarted 1\nran 1 main,s,1 NoOp -> ready main,s,2\nstatus 0
 \xEF\xBB\xBF;; reload\n[main]\nexten => s,1,NoOp()\n;; script\nstart main s\nstep 1\n→started 1\nran 1 main,s,1 NoOp -> ready main,s,2\nstatus 0
 \xEF\xBB\xBF;; reload\n[main]\n;; script\nreload\n→fault 70 BadScript line 1
 \xEF\xBB\xBF;; reload\n[main]\nexten => s,1,NoOp()\n;; reload\n;; script\nstart main s\nreload\nstep 1\n→started 1\nok\nno entry 1 -> ended\nstatus 0
-# Lines that are nearly so are the dialplan's.
+# Lines that are almost separators belong to the dialplan.
 [main]\n;; Reload\n;;reload\n;; reload x\n;;  reload\n; ; reload\n;;; reload\nexten => s,1,NoOp()\n;; script\nstart main s\nstep 1\n→started 1\nran 1 main,s,1 NoOp -> ready main,s,2\nstatus 0
 [main]\n;; Reload\n;; script\nreload\n→fault 70 BadScript line 1
-# Faults of the dialplan have their lines in the joined text; a fault of the second one has none.
+# Faults of the dialplan have their lines in the joined text; a fault of the second one is not reported.
 [main]\n\nabc\n;; reload\n[main\n;; script\nreload\n→fault 4 NoEquals line 3
 [main]\n;; reload\n\nabc\n;; script\nreload\n→refused 52 BadPlan\nstatus 1
 ";
 
-/// Dialplans that are put in force in place of others.
+/// Reloads.
 const RELOADS: &str = r"
-# Its globals are set one after another into those that are, each time anew; others stay.
+# Its globals are set one after another over the existing ones, each time again; others stay.
 [globals]\nX=1\n;; reload\n[globals]\nX=${X}2\nX=${X}3\n;; script\nstart main s\nreload\nshow 1 X\nreload\nshow 1 X\n→started 1\nok\nX=123\nok\nX=12323\nstatus 0
 [main]\nexten => s,1,Set(GLOBAL(X)=7)\nexten => s,2,Set(GLOBAL(Z)=8)\n;; reload\n[globals]\nX=${X}2\n;; script\nstart main s\nstep 1 2\nreload\nshow 1 X\nshow 1 Z\n→started 1\nran 1 main,s,1 Set -> ready main,s,2\nran 1 main,s,2 Set -> ready main,s,3\nok\nX=72\nZ=8\nstatus 0
-# Notes are no fault.
+# Notes are not faults.
 [main]\n;; reload\n[main]\nexten => s,1,NoOp()\nexten => s,1,Hangup()\ninclude => x\ncolour = red\n;; script\nreload\nstart main s\nstep 1\n→ok\nstarted 1\nran 1 main,s,1 NoOp -> ready main,s,2\nstatus 0
 # Digits are kept, and go on as the new dialplan says.
 [main]\nexten => s,1,WaitExten()\nexten => _5X,1,NoOp()\n;; reload\n[main]\nexten => 5,1,NoOp()\nexten => _57.,1,NoOp()\n;; script\nstart main s\nstep 1\ndigit 1 5\nreload\ndigit 1 7\ntimeout 1\n→started 1\nran 1 main,s,1 WaitExten -> digits\nok 1 -> digits\nok\nok 1 -> digits\nok 1 -> ready main,57,1\nstatus 0
-# So are the place, the variables and the frames, to whose place a return goes unasked.
+# So are the place, the variables and the frames, to whose place a return goes without a check.
 [main]\nexten => s,1,Set(A=1)\nexten => s,2,Gosub(f,s,1(x))\n[f]\nexten => s,1,NoOp()\n;; reload\n[f]\nexten => s,1,Return(${ARG1}${A})\n;; script\nstart main s\nstep 1 2\nreload\nstep 1\nshow 1 GOSUB_RETVAL\nstep 1\n→started 1\nran 1 main,s,1 Set -> ready main,s,2\nran 1 main,s,2 Gosub -> ready f,s,1\nok\nran 1 f,s,1 Return -> ready main,s,3\nGOSUB_RETVAL=x1\nno entry 1 -> ended\nstatus 0
-# `h`, `i` and `t` are looked for in the new dialplan, and a call that is over stays so.
+# `h`, `i` and `t` are looked up in the new dialplan, and a call that is over stays so.
 [main]\nexten => s,1,WaitExten()\n;; reload\n[main]\nexten => h,1,NoOp()\nexten => i,1,NoOp()\nexten => t,1,NoOp()\n;; script\nstart main s\nstart main s\nstart main s\nstart main s\nhangup 4\nstep 2\nreload\nhangup 1\ntimeout 2\nstep 3\nstep 4\n→started 1\nstarted 2\nstarted 3\nstarted 4\nok 4 -> ended\nran 2 main,s,1 WaitExten -> digits\nok\nok 1 -> ready main,h,1\nok 2 -> ready main,t,1\ninvalid 3 -> ready main,i,1\nrefused 49 Ended\nstatus 1
 ";
 
@@ -125,19 +125,19 @@ const CALLS: &str = r"
 [main]\nexten => 1,1,NoOp()\nexten => 1,2,Hangup()\nexten => 2,1,Goto(1,2)\n;; script\nstart main 1\nstart main 2\nstep 2\nstep 1\nstep 2\nstep 1\n→started 1\nstarted 2\nran 2 main,2,1 Goto -> ready main,1,2\nran 1 main,1,1 NoOp -> ready main,1,2\nran 2 main,1,2 Hangup -> ended\nran 1 main,1,2 Hangup -> ended\nstatus 0
 # A call that begins after the steps of another.
 [main]\nexten => s,1,Goto(1)\n;; script\nstart main s\nstep 1 2\nstart main s\nstep 2\nstep 1\n→started 1\nran 1 main,s,1 Goto -> ready main,s,1\nran 1 main,s,1 Goto -> ready main,s,1\nstarted 2\nran 2 main,s,1 Goto -> ready main,s,1\nran 1 main,s,1 Goto -> ready main,s,1\nstatus 0
-# Places that are not there.
+# Places that do not exist.
 [main]\nexten => s,1,Goto(9,1)\n;; script\nstart main s\nstep 1 2\n→started 1\nran 1 main,s,1 Goto -> ready main,9,1\nno entry 1 -> ended\nstatus 0
 [main]\nexten => s,1,Goto(2147483648)\n;; script\nstart main s\nstep 1 2\n→started 1\nran 1 main,s,1 Goto -> ready main,s,2147483648\nno entry 1 -> ended\nstatus 0
 [main]\nexten => s,1,NoOp()\n;; script\nstart Main s\nstep 1\n→started 1\nno entry 1 -> ended\nstatus 0
 [main]\nexten => s,2,NoOp()\n;; script\nstart main s\nstep 1\n→started 1\nno entry 1 -> ended\nstatus 0
-# A target of no number is the end of the call.
+# A target without a number is the end of the call.
 [main]\nexten => s,1,Goto(x)\n;; script\nstart main s\nstep 1\n→started 1\nran 1 main,s,1 Goto -> ended\nstatus 0
-# Another context, of which the sections are parted.
+# Another context, whose sections are apart.
 [main]\nexten => s,1,Goto(out,7,1)\n[out]\nexten => 7,1,NoOp()\n[main]\nexten => s,2,NoOp()\n[out]\nexten => 7,2,Goto(main,s,2)\n;; script\nstart main s\nstep 1 5\n→started 1\nran 1 main,s,1 Goto -> ready out,7,1\nran 1 out,7,1 NoOp -> ready out,7,2\nran 1 out,7,2 Goto -> ready main,s,2\nran 1 main,s,2 NoOp -> ready main,s,3\nno entry 1 -> ended\nstatus 0
 # Applications are printed as they are written.
 [main]\nexten => s,1,goto(2)\nexten => s,2,NOOP\nexten => s,3,hangUP()\n;; script\nstart main s\nstep 1 3\n→started 1\nran 1 main,s,1 goto -> ready main,s,2\nran 1 main,s,2 NOOP -> ready main,s,3\nran 1 main,s,3 hangUP -> ended\nstatus 0
 [main]\nexten => s,1,Play Back(x)\n;; script\nstart main s\nstep 1\n→started 1\nran 1 main,s,1 Play Back -> ended\nstatus 0
-# Dashes of a dialled text are passed over, and are kept in the place.
+# Dashes of a dialled text are skipped, and are kept in the place.
 [main]\nexten => 200,1,NoOp()\n;; script\nstart main 2-00\nstep 1\n→started 1\nran 1 main,200,1 NoOp -> ready main,2-00,2\nstatus 0
 # The first of two entries at one place.
 [globals]\nA=1\n[main]\nexten => s,01,NoOp()\nexten => s,1,Hangup()\n;; script\nstart main s\nstep 1\n→started 1\nran 1 main,s,1 NoOp -> ready main,s,2\nstatus 0
@@ -184,11 +184,11 @@ const REFUSED: &str = r"
 const PATTERNS: &str = r"
 # The most specific name answers.
 [main]\nexten => _X.,1,NoOp()\nexten => _1XX,1,NoOp()\nexten => 123,1,NoOp()\n;; script\nstart main 123\nstart main 124\nstart main 12\nstart main 1\nstep 1\nstep 2\nstep 3\nstep 4\n→started 1\nstarted 2\nstarted 3\nstarted 4\nran 1 main,123,1 NoOp -> ready main,123,2\nran 2 main,_1XX,1 NoOp -> ready main,124,2\nran 3 main,_X.,1 NoOp -> ready main,12,2\nno entry 4 -> ended\nstatus 0
-# Of sets of one size, the one with the lower members.
+# Of sets with equal sizes, the one with the lower members.
 [main]\nexten => _NX,1,NoOp()\nexten => _[4-8]X,1,NoOp()\nexten => _[0-4]X,1,NoOp()\nexten => _[2-9]X,1,NoOp()\n;; script\nstart main 45\nstep 1\n→started 1\nran 1 main,_[01234]X,1 NoOp -> ready main,45,2\nstatus 0
-# The priority is asked before the name is chosen.
+# The priority is checked before the name is chosen.
 [main]\nexten => 123,1,NoOp(one)\nexten => _X.,1,NoOp(other)\nexten => _X.,2,NoOp(two)\n;; script\nstart main 123\nstep 1 3\n→started 1\nran 1 main,123,1 NoOp -> ready main,123,2\nran 1 main,_X.,2 NoOp -> ready main,123,3\nno entry 1 -> ended\nstatus 0
-# The extensions of the exchange are found as any other.
+# The special extensions are found like any other.
 [main]\nexten => _.,1,NoOp()\n;; script\nstart main s\nstart main i\nstep 1\nstep 2\n→started 1\nstarted 2\nran 1 main,_.,1 NoOp -> ready main,s,2\nran 2 main,_.,1 NoOp -> ready main,i,2\nstatus 0
 # A usual file, without its queues.
 [general]\nstatic=yes\nwriteprotect=no\n\n[globals]\nTRUNK=Line/9\n\n[main]\nexten => _NXXXXXX,1,NoOp()\n same => n,NoOp(hello-world)\n same => n(q),Queue(support,c)\nsame => n,Hangup()\ninclude => out\n;; script\nstart main 555-1234\nstep 1 3\n→started 1\nran 1 main,_NXXXXXX,1 NoOp -> ready main,555-1234,2\nran 1 main,_NXXXXXX,2 NoOp -> ready main,555-1234,3\nran 1 main,_NXXXXXX,3 Queue -> ready main,555-1234,4\nstatus 0
@@ -206,9 +206,9 @@ const INCLUDES: &str = r"
 /// Targets whose priority is a label.
 const LABELS: &str = r"
 [main]\nexten => s,1,Goto(x)\nexten => s,n(x),Hangup()\n;; script\nstart main s\nstep 1 2\n→started 1\nran 1 main,s,1 Goto -> ready main,s,2\nran 1 main,s,2 Hangup -> ended\nstatus 0
-# One that nothing has.
+# A label that nothing has.
 [main]\nexten => s,1,Goto(y)\nexten => s,n(x),Hangup()\n;; script\nstart main s\nstep 1\n→started 1\nran 1 main,s,1 Goto -> ended\nstatus 0
-# With case.
+# Case counts.
 [main]\nexten => s,1,Goto(X)\nexten => s,n(x),Hangup()\n;; script\nstart main s\nstep 1\n→started 1\nran 1 main,s,1 Goto -> ended\nstatus 0
 # Of another extension, by the name that matches it.
 [main]\nexten => s,1,Goto(2-00,x)\nexten => 200,1,NoOp()\nexten => _2XX,4(x),Hangup()\n;; script\nstart main s\nstep 1 2\n→started 1\nran 1 main,s,1 Goto -> ready main,2-00,4\nran 1 main,_2XX,4 Hangup -> ended\nstatus 0
@@ -246,7 +246,7 @@ a=1\n;; script\nstart main s\n→fault 2 NoSection line 1
 [main]\nexten => s,n,A\n;; script\nstart main s\n→fault 21 NoPrevious line 2
 [main]\nexten => s,1(),A\n;; script\n→fault 22 BadLabel line 2
 [main]\nsame => 2,B\n;; script\n→fault 26 NoExten line 2
-# Too many groups inside each other.
+# Too deeply nested groups.
 [globals]\nA=${${${${${${${${${${${${${${${${${${${${${${${${${${${${${${${${${}}}}}}}}}}}}}}}}}}}}}}}}}}}}}}}}}\n;; script\n→fault 25 TooDeep line 2
 # The text's fault before those of contexts.
 [main]\nexten => s,0,A\nabc\n;; script\n→fault 4 NoEquals line 3
@@ -290,7 +290,7 @@ const TABLES: &[&str] = &[
     FAULTY_SCRIPTS,
 ];
 
-/// Whether the run of a script on a dialplan writes this and ends so.
+/// Whether the run of a script on a dialplan has this output and result.
 fn check_apart<'a>(alloc: Global, plan: &'a [u8], script: &'a str, want: &str) -> Result<(), Fail> {
     let mut writer = make_sink(alloc, 4096, None);
     let texts = RunTexts {

@@ -1,6 +1,6 @@
-//! The examples of the manual's pages of applications.
+//! The examples of the manual's pages on applications.
 
-/// A case is the dialplan of a page, its queues and its script; then an arrow, and what the page says that they print.
+/// A case is the dialplan of a page, its queues and its script; then an arrow, and the output on the page.
 pub(super) const PAGES: &str = r"
 # Goto.
 [main]\nexten => s,1,Goto(200,ask)\nexten => 200,1,NoOp()\n same => n(ask),Goto(3)\n¦¦start main s\nstep 1 3→started 1\nran 1 main,s,1 Goto -> ready main,200,2\nran 1 main,200,2 Goto -> ready main,200,3\nno entry 1 -> ended\nstatus 0

@@ -1,4 +1,4 @@
--- Steps of the code: what the lines of a test file have made so far. What comes of all lines is `file_in` of Files.
+-- Steps of the code: what the lines of a test file have made so far. The result of all lines is `file_in` of Files.
 use Rattle.std.specs.Prelude.{ℕ, Bool, List, [], ◌∷◌, ◌++◌, Option, Some, None, is_some, Result, Ok, Err, if◌then◌else◌}
 use Rattle.std.specs.Option.{option_or, option_to_list}
 use Rattle.dp_tests.specs.Files.{acts_at, fault_at, fault_by, test_by}
@@ -53,7 +53,7 @@ with_head draft Queues line = record draft { queues = option_or draft.queues (So
 with_head draft Clock line = record draft { clock = option_or draft.clock (Some line) }
 with_head draft Assume line = record draft { assume = option_or draft.assume (Some line) }
 
--- with a line of the head that stands in a test
+-- with a line of the head that is in a test
 abbrev pub with_fact : Draft → HeadWord → HeadLine → Draft
 with_fact draft word line = if is_fact word then with_line draft draft.current (acts_at line.line (acts.Turns line.turns)) else draft
 

@@ -4,7 +4,7 @@ use dp_conf::{NoMemory, split_args, trim};
 use std::alloc::Global;
 use std::test::Fail;
 
-/// Arguments stand between bars.
+/// Arguments are between bars.
 pub(super) const ARGUMENTS: &str = r#"
 →||
  \t →||
@@ -56,7 +56,7 @@ impl Question for Arguments {
     }
 }
 
-/// Blanks are bytes of 32 or less, but the line feed.
+/// Blanks are bytes of 32 or less, except the line feed.
 pub(super) const TRIMMED: &str = r"
 →
  →

@@ -7,7 +7,7 @@ use std::io::{Cursor, ErrorKind, Read, Write};
 use std::process::Abort;
 use std::test::Fail;
 
-/// A reader of so many bytes `x`, at most `step` at once, whose read `fails_at`, counted from 0, answers an error.
+/// A reader of this number of bytes `x`, at most `step` at once, whose read with the number `fails_at`, counted from 0, returns an error.
 #[derive(Drop)]
 struct Source {
     left: usize,
@@ -57,7 +57,7 @@ fn kind_of(word: &str) -> Result<ErrorKind, Fail> {
     }
 }
 
-/// The reader that fails at a read with an error of a kind, of `READ KIND`.
+/// The reader that fails at a read with an error of a kind, given `READ KIND`.
 fn failing(left: usize, step: usize, words: &str) -> Result<Source, Fail> {
     let (turn, kind) = words.split_once(' ').ok_or("no kind")?;
     let mut source = in_steps(left, step);
@@ -66,7 +66,7 @@ fn failing(left: usize, step: usize, words: &str) -> Result<Source, Fail> {
     Ok(source)
 }
 
-/// The reader of `BYTES STEP` or of `BYTES STEP READ KIND`.
+/// The reader for `BYTES STEP` or for `BYTES STEP READ KIND`.
 fn source_of(words: &str) -> Result<Source, Fail> {
     let (left, words) = words.split_once(' ').ok_or("no step")?;
     let left = number_of(left)?;
@@ -84,7 +84,7 @@ fn push_read(out: &mut String, read: &Result<Vec<u8>, ReadFault>) -> Result<(), 
     }
 }
 
-/// How many bytes are read of the reader, or the fault, and whether the reader failed.
+/// The number of bytes that are read from the reader, or the fault, and whether the reader failed.
 struct Bytes;
 
 impl Question for Bytes {
@@ -100,7 +100,7 @@ impl Question for Bytes {
     }
 }
 
-/// Readers of so many bytes, so many at once, of which some fail at a read, counted from 0, with an error of a kind.
+/// Readers of this number of bytes, this number at once, some of which fail at a read, counted from 0, with an error of a kind.
 const BYTES: &str = r"
 0 1→0
 20000 1→20000
@@ -127,7 +127,7 @@ const BYTES: &str = r"
 5 1 5 UnexpectedEof→ReadFailed, failed
 ";
 
-/// How many reads it takes to read the reader whole.
+/// The number of reads that it takes to read the reader whole.
 struct Reads;
 
 impl Question for Reads {
@@ -173,7 +173,7 @@ fn readers_are_read_whole(rt: HostRuntime) -> Result<(), Fail> {
     check_readers(&rt, rt.alloc())
 }
 
-/// A writer that takes at most `step` bytes at once, and whose write `fails_at`, counted from 0, answers an error.
+/// A writer that takes at most `step` bytes at once, and whose write with the number `fails_at`, counted from 0, returns an error.
 #[derive(Drop)]
 struct Sink {
     held: Vec<u8>,
@@ -199,7 +199,7 @@ impl Write for Sink {
     }
 }
 
-/// The writer of `STEP WRITE`, where `-` is no write.
+/// The writer for `STEP WRITE`, where `-` means no write.
 fn sink_of(alloc: Global, words: &str) -> Result<Sink, Fail> {
     let (step, turn) = words.split_once(' ').ok_or("no write")?;
     Ok(Sink {
@@ -210,7 +210,7 @@ fn sink_of(alloc: Global, words: &str) -> Result<Sink, Fail> {
     })
 }
 
-/// Whether all that stands between the bars is taken.
+/// Whether everything between the bars is taken.
 fn takes_all(writer: &mut Told<Sink>, pieces: &str) -> bool {
     let mut is_taken = true;
     for piece in pieces.split('|') {
@@ -234,7 +234,7 @@ fn push_written(out: &mut String, mut writer: Told<Sink>, pieces: &str) -> Resul
     Ok(())
 }
 
-/// What a writer holds, whether it refused a text, and whether it failed.
+/// The contents of a writer, whether it refused a text, and whether it failed.
 struct Written;
 
 impl Question for Written {
@@ -247,9 +247,9 @@ impl Question for Written {
     }
 }
 
-/// Writers that take so many bytes at once, of which some fail at a write, counted from 0, and texts between bars.
+/// Writers that take this number of bytes at once, some of which fail at a write, counted from 0, and texts between bars.
 const WRITTEN: &str = r"
-# A writer takes all, in however small pieces.
+# A writer takes everything, in pieces of any size.
 1 -:started|| 1→started 1
 2 -:started|| 1→started 1
 3 -:started|| 1→started 1
@@ -258,7 +258,7 @@ const WRITTEN: &str = r"
 6 -:started|| 1→started 1
 7 -:started|| 1→started 1
 8 -:started|| 1→started 1
-# Seven bytes, two at a time, are four writes: where write k fails, the bytes of those before it were written.
+# Seven bytes, two at a time, are four writes: if write k fails, the bytes of the writes before it were written.
 2 0:started→, refused, failed
 2 1:started→st, refused, failed
 2 2:started→star, refused, failed

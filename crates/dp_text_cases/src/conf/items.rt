@@ -77,7 +77,7 @@ abc→fault 2 line 1
 [m]\nabc\n;-- x\n[→fault 4 line 2
 "#;
 
-/// The items of a text as the rows show them, one after another. A contract sees nothing of them: the rows say all.
+/// The items of a text as the rows show them, one after another. Contracts see nothing of them: the rows show everything.
 #[derive(Drop)]
 struct Shown {
     out: String,
@@ -167,7 +167,7 @@ impl Question for Items {
     }
 }
 
-/// The same of a text that is read at once.
+/// The same for a text that is read at once.
 struct ItemsRead;
 
 impl Question for ItemsRead {
@@ -177,7 +177,7 @@ impl Question for ItemsRead {
     }
 }
 
-/// The items that were taken, up to the fault where there is one.
+/// The items that were taken, up to the fault if there is one.
 struct Taken;
 
 impl Question for Taken {
@@ -200,7 +200,7 @@ abc\n[m]→
 [m]\na=b→1[m]2{a}{b}
 ";
 
-/// Each line stands after `[main]`.
+/// Each line comes after `[main]`.
 const FAULT_LINES: &str = r#"
 [main]\nabc→fault 4 line 2
 [main]\n#include "x"→fault 5 line 2
@@ -209,7 +209,7 @@ const FAULT_LINES: &str = r#"
 a=1\n[main]→fault 2 line 1
 "#;
 
-/// A `\;` is a semicolon, and `;--` is refused where `;---` is a comment.
+/// A `\;` is a semicolon, and `;--` is refused, while `;---` is a comment.
 const ESCAPED_SEMICOLONS: &str = r"
 [main]\nexten => s,1,NoOp(a\\;b\\\\;c)\n→1[main]2{exten}{s,1,NoOp(a;b\\;c)}
 [main]\n\n;-- x\n→fault 1 line 3

@@ -25,7 +25,7 @@ impl Question for Words {
     }
 }
 
-/// Words are the same but for the case of letters of ASCII.
+/// Words are the same without regard to the case of ASCII letters.
 pub(super) const WORDS: &str = r"
 |→same
 general|general→same
@@ -51,7 +51,7 @@ impl Question for Number {
     }
 }
 
-/// Digits alone are a number, and the greatest stands for all that are greater.
+/// Only digits are a number, and the greatest one stands for all that are greater.
 pub(super) const NUMBERS: &str = r"
 →none
 0→0
@@ -79,7 +79,7 @@ fn push_cut(out: &mut String, cut: Option<(&[u8], &[u8])>) -> Result<(), NoMemor
     }
 }
 
-/// What stands before and after the first comma.
+/// The text before and after the first comma.
 pub(super) struct Cut;
 
 impl Question for Cut {

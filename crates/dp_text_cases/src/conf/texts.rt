@@ -13,7 +13,7 @@ fn push_same(out: &mut String, left: &Text, right: &Text) -> Result<(), NoMemory
     }
 }
 
-/// The bytes of a text, how it stands to its clone, and how to a copy of the bytes of another.
+/// The bytes of a text, how it compares with its clone, and with a copy of the bytes of another.
 fn push_text(out: &mut String, alloc: Global, text: &Text, other: &[u8]) -> Result<(), NoMemory> {
     push_bytes(out, text.bytes())?;
     out.push(' ')?;
@@ -24,7 +24,7 @@ fn push_text(out: &mut String, alloc: Global, text: &Text, other: &[u8]) -> Resu
     push_same(out, text, &copy)
 }
 
-/// The text before the bar, whether its clone is the same, and whether a copy of what stands after the bar is.
+/// The text before the bar, whether its clone is the same, and whether a copy of the text after the bar is.
 pub(super) struct Same;
 
 impl Question for Same {
@@ -52,7 +52,7 @@ fn map_of_two(alloc: Global) -> Result<HashMap<Text, u32>, NoMemory> {
     Ok(map)
 }
 
-/// What a map has of the text, where `main` has 1 and `out` has 2.
+/// The value of the text in a map, where `main` has 1 and `out` has 2.
 pub(super) struct Places;
 
 impl Question for Places {

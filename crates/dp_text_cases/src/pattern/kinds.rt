@@ -1,6 +1,6 @@
 //! Classes and plain names by how they are kept: one byte, digits, any bytes; few bytes and many.
 
-/// Classes of one byte, of digits alone, and of any bytes.
+/// Classes of one byte, of digits only, and of any bytes.
 pub(super) const CLASSES: &str = r"
 # One byte.
 parts _[5]→[5] end
@@ -19,7 +19,7 @@ classes _[a]a→same same
 classes _56→before same
 classes _a5→after same
 classes _\xFE\xFF→before same
-# Digits, and the bytes about them.
+# Digits, and the bytes around them.
 parts _XZN→[0123456789][123456789][23456789] end
 parts _[31][0-1]→[13][01] end
 parts _[09]→[09] end
@@ -80,7 +80,7 @@ parts _1-2-[3]-[4-4]X[ab]-.→[1][2][3][4][0123456789][ab] dot
 copy _5N[ab]!→same
 ";
 
-/// Plain names of 16 bytes, which stand in the name itself, and of more.
+/// Plain names of 16 bytes, which fit in the name itself, and of more.
 pub(super) const PLAIN: &str = r"
 parts 1234567890123456→1234567890123456
 parts 12345678901234567→12345678901234567

@@ -1,6 +1,6 @@
 //! The order of names, and which names are one.
 
-/// The first name of each pair stands before the second.
+/// The first name of each pair comes before the second.
 pub(super) const IN_ORDER: &str = r"
 # Plain names by their bytes, and before patterns.
 order 100|200→before
@@ -65,7 +65,7 @@ order _1.|_1!→before
 order _a|_A→after
 ";
 
-/// The more specific name stands first.
+/// The more specific name comes first.
 pub(super) const SPECIFIC_FIRST: &str = r"
 order 123|_1XX→before
 order _1XX|_X.→before
@@ -80,7 +80,7 @@ matches _X.|12→yes
 matches _X.|1→no
 ";
 
-/// Classes of one size are in the order of their members, and patterns of equal classes are one name.
+/// Classes with equal sizes are in the order of their members, and patterns with equal classes are one name.
 pub(super) const CLASSES_AND_DOUBLES: &str = r"
 order _[4-8]X|_NX→before
 order _[0-4]X|_[4-8]X→before

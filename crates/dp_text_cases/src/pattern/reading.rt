@@ -1,9 +1,9 @@
-//! Texts that are no names, and what names are made of.
+//! Texts that are not names, and what names consist of.
 use dp_pattern::{NameFault, NoMemory, PatternFault};
 use std::alloc::Global;
 use std::test::Fail;
 
-/// Texts that are no names.
+/// Texts that are not names.
 pub(super) const FAULTS: &str = r"
 read →fault 10
 read -→fault 10
@@ -57,7 +57,7 @@ read _[ 9-0]→fault 15
 read _ [→fault 15
 ";
 
-/// What names are made of. The class of five members stands before that of eight.
+/// What names consist of. The class with five members comes before that with eight.
 pub(super) const PARTS: &str = r"
 parts 1-00→100
 parts _N[0-4]a.→[23456789][01234][a] dot

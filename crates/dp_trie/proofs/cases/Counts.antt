@@ -1,4 +1,4 @@
--- How many nodes are entered, computed on the definitions themselves.
+-- The number of nodes that are entered, computed from the definitions themselves.
 use Rattle.std.proofs.Common.{◌≡◌, ℕ, false, List, [], ◌∷◌, ◌++◌, None, refl}
 use Rattle.std.specs.Prelude.{codes}
 use Rattle.dp_pattern.specs.Name.{Meaning, Plain, Pattern}
@@ -9,11 +9,11 @@ use Rattle.dp_trie.specs.Entered.{entered_count, entered_first, nodes_added}
 use Rattle.dp_trie.specs.Known.{Known, KeptContext}
 use Rattle.dp_trie.specs.declared.entry_question.EntryQuestion.TheVariants.{Priority}
 
--- an entry of this name and priority
+-- an entry with this name and priority
 abbrev known_entry : Meaning → ℕ → Known
 known_entry name priority = record { name = name; priority = priority; label = None; id = record { context = 0; entry = 0 } }
 
--- how many nodes are entered for a text and a priority, among entries in their order
+-- the number of nodes that are entered for a text and a priority, among entries in their order
 abbrev count : List Known → List ℕ → ℕ → ℕ
 count entries digits priority = entered_count false (wants (Priority priority)) digits entries
 
@@ -23,7 +23,7 @@ one = codes "1"
 abbrev any : List ℕ
 any = codes "0123456789"
 
--- `_1X` with priority 1 and `_1.` with priority 2, of which `1` stands once: four nodes
+-- `_1X` with priority 1 and `_1.` with priority 2, which share one `1`: four nodes
 abbrev two_patterns : List Known
 two_patterns = known_entry (Pattern (one ∷ any ∷ []) End) 1 ∷ known_entry (Pattern (one ∷ []) Dot) 2 ∷ []
 
@@ -45,12 +45,12 @@ count-second : count two_patterns (codes "15") 2 ≡ 4
 unfolding name_cmp
 count-second = refl
 
--- what is entered where nothing answers; an end is entered also where digits are left
+-- what is entered if nothing answers; an end is entered even if digits are left
 count-none : count two_patterns (codes "155") 1 ≡ 4
 unfolding name_cmp
 count-none = refl
 
--- the digits end after the first class, so only the end of `_1.` stands below it
+-- the digits end after the first class, so only the end of `_1.` is below it
 count-short : count two_patterns (codes "1") 1 ≡ 2
 unfolding name_cmp
 count-short = refl
@@ -64,7 +64,7 @@ count-empty : count two_patterns [] 1 ≡ 0
 unfolding name_cmp
 count-empty = refl
 
--- `_X` with two priorities has one end, whichever of them is asked for
+-- `_X` with two priorities has one end, for both of them
 abbrev two_priorities : List Known
 two_priorities = known_entry (Pattern (any ∷ []) End) 1 ∷ known_entry (Pattern (any ∷ []) End) 2 ∷ []
 
@@ -80,8 +80,8 @@ count-priority_3 : count two_priorities (codes "5") 3 ≡ 2
 unfolding name_cmp
 count-priority_3 = refl
 
--- `_.` and `_!` are ends with no class, which are entered for every text; a plain name is no node, and one that answers
--- leaves nothing to be entered
+-- `_.` and `_!` are ends without a class, which are entered for every text; a plain name is not a node, and after one that answers nothing
+-- is entered
 abbrev ends : List Known
 ends = known_entry (Plain (codes "12")) 1 ∷ known_entry (Pattern [] Dot) 1 ∷ known_entry (Pattern [] Bang) 2 ∷ []
 
@@ -109,7 +109,7 @@ first-answers : entered_first kept_contexts false (wants (Priority 4)) (codes "5
 unfolding name_cmp
 first-answers = refl
 
--- the second one does, after the two nodes of the first; a number that no context has adds none
+-- the second context does, after the two nodes of the first; a number without a context adds none
 second-answers : entered_first kept_contexts false (wants (Priority 2)) (codes "5") (0 ∷ 9 ∷ 1 ∷ []) ≡ 4
 unfolding name_cmp
 second-answers = refl

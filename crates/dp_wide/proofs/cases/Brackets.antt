@@ -1,4 +1,4 @@
--- Texts whose groups Asterisk may end elsewhere, computed on the definitions themselves.
+-- Texts whose groups Asterisk may end elsewhere, computed from the definitions themselves.
 use Rattle.std.proofs.Common.{◌≡◌, true, false, refl, codes}
 use Rattle.dp_wide.specs.Brackets.{has_counted, reads}
 
@@ -26,7 +26,7 @@ bracket-in-braces : reads (codes "${FILTER([0-9],${A})}") ≡ true
 unfolding reads has_counted
 bracket-in-braces = refl
 
--- the inner group is not of the kind, and the outer one is
+-- the inner group is not of the kind, but the outer one is
 brace-in-inner : reads (codes "${A:$[{]}") ≡ false
 unfolding reads has_counted
 brace-in-inner = refl
@@ -35,12 +35,12 @@ end-in-inner : reads (codes "${A:$[\"}\"]}") ≡ false
 unfolding reads has_counted
 end-in-inner = refl
 
--- behind the group it is plain for both
+-- after the group it is plain for both
 brace-behind : reads (codes "${A}{B}") ≡ true
 unfolding reads has_counted
 brace-behind = refl
 
--- a group that does not end is open to the end of the text
+-- a group without an end is open to the end of the text
 brace-in-open : reads (codes "${A {") ≡ false
 unfolding reads has_counted
 brace-in-open = refl

@@ -1,4 +1,4 @@
--- Names of applications and of variables, computed on the definitions themselves.
+-- Names of applications and of variables, computed from the definitions themselves.
 use Rattle.std.proofs.Common.{◌≡◌, ℕ, Bool, true, false, not, ◌&&◌, List, [], ◌∷◌, ◌++◌, Some, None, length, map, refl, codes}
 use Rattle.std.specs.List.{list_all, list_any}
 use Rattle.dp_wide.specs.Going.{going_names, goes_on}
@@ -9,7 +9,7 @@ use Rattle.dp_wide.specs.Outside.{outside_applications, outside_statuses}
 abbrev listed_names : List (List ℕ)
 listed_names = going_names ++ map (λ a. a.0) outside_applications
 
--- no name stands again after itself, in any case
+-- no name occurs twice, in any case
 abbrev stand_once : List (List ℕ) → Bool
 stand_once [] = true
 stand_once (name ∷ names) = not (is_word_of names name) && stand_once names
@@ -65,7 +65,7 @@ outside-absent : outside_statuses (codes "While") ≡ None
 unfolding outside_applications
 outside-absent = refl
 
--- each status of an application is one of the names of statuses, and none of these is given by Asterisk besides
+-- each status of an application is one of the names of statuses, and Asterisk gives none of these as well
 outside-statuses : list_all (λ a. list_all is_status a.1) outside_applications ≡ true
 unfolding outside_applications status_names
 outside-statuses = refl
@@ -74,7 +74,7 @@ status-given : list_any is_given_by_asterisk status_names ≡ false
 unfolding status_names given_names
 status-given = refl
 
--- names of variables have one case
+-- names of variables are case sensitive
 status-spelled : is_status (codes "vmstatus") ≡ false
 unfolding status_names
 status-spelled = refl

@@ -1,4 +1,4 @@
--- Lists of names that `Read` was given, computed on the definitions themselves.
+-- Lists of the variables of `Read`, computed from the definitions themselves.
 use Rattle.std.proofs.Common.{◌≡◌, true, false, [], Some, None, refl, codes}
 use Rattle.dp_conf.specs.Levels.{parts_of}
 use Rattle.dp_wide.specs.AsteriskFunctions.{functions_a_to_c, functions_d_to_e, functions_f_to_i, functions_j_to_o, functions_p_to_q, functions_r_to_s, functions_t_to_z, is_asterisk_function}

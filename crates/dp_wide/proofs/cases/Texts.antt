@@ -1,4 +1,4 @@
--- Texts that are cut, counted and kept in part, computed on the definitions themselves.
+-- Texts that are cut, counted and filtered, computed from the definitions themselves.
 use Rattle.std.proofs.Common.{◌≡◌, [], ◌∷◌, refl, codes}
 use Rattle.dp_wide.specs.Texts.{delimiter_of, field_count, cut, kept_of}
 
@@ -34,7 +34,7 @@ cut-front : cut (codes "a-b-c-d") 45 (codes "-2") ≡ codes "a-b"
 unfolding cut
 cut-front = refl
 
--- no field has the number 0, nor one past the last
+-- no field has the number 0, or a number past the last
 cut-outside : cut (codes "a-b") 45 (codes "0&9") ≡ []
 unfolding cut
 cut-outside = refl
@@ -43,7 +43,7 @@ cut-backwards : cut (codes "a-b-c") 45 (codes "3-2") ≡ []
 unfolding cut
 cut-backwards = refl
 
--- one part that is no range leaves nothing
+-- one part that is not a range leaves nothing
 cut-faulty : cut (codes "a-b") 45 (codes "1&x") ≡ []
 unfolding cut
 cut-faulty = refl
@@ -52,7 +52,7 @@ cut-dash : cut (codes "a-b") 45 (codes "-") ≡ []
 unfolding cut
 cut-dash = refl
 
--- a number of any length is taken exactly
+-- a number of any length is read exactly
 cut-far : cut (codes "a-b") 45 (codes "2-99999999999999999999999") ≡ codes "b"
 unfolding cut
 cut-far = refl

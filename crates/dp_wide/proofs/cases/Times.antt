@@ -1,4 +1,4 @@
--- Moments that are read, and ranges in which they lie, computed on the definitions themselves.
+-- Moments that are read, and ranges in which they lie, computed from the definitions themselves.
 use Rattle.std.proofs.Common.{◌≡◌, [], Some, None, true, false, refl, codes}
 use Rattle.dp_wide.specs.Times.{weekday_named, month_named, moment_of, range_of, lies_in}
 use Rattle.dp_wide.specs.declared.times.Moment.{Moment}
@@ -33,7 +33,7 @@ lies-end : lies_in late (codes "9:00-23:59") [] [] [] ≡ true
 unfolding late range_of
 lies-end = refl
 
--- ranges go round
+-- ranges wrap around
 lies-round : lies_in late (codes "22:00-06:00") (codes "fri-mon") (codes "28-3") (codes "nov-feb") ≡ true
 unfolding late range_of weekday_named month_named
 lies-round = refl
@@ -42,7 +42,7 @@ lies-outside : lies_in late [] (codes "1-5") [] [] ≡ false
 unfolding late range_of weekday_named
 lies-outside = refl
 
--- what is no range is passed over
+-- anything that is not a range is skipped
 lies-passed : lies_in late [] (codes "x & SAT") [] (codes "13&11") ≡ true
 unfolding late range_of weekday_named month_named
 lies-passed = refl

@@ -1,4 +1,4 @@
-//! What becomes of a channel that runs an `ExecIf`, worked out by hand from the rules.
+//! The effect of an `ExecIf` on a channel, worked out by hand from the rules.
 use crate::choices::push_run;
 use dp_case_tables::{Question, bytes_of, text_of};
 use dp_conf::cut_once;
@@ -83,7 +83,7 @@ ExecIf|1?ExecIf(1?ExecIf(1?ExecIf(1?ExecIf(1?ExecIf(1?ExecIf(1?ExecIf(1?ExecIf(0
 ExecIf|1?ExecIf(1?ExecIf(1?ExecIf(1?ExecIf(1?ExecIf(1?ExecIf(1?ExecIf(1?execif)))))))→hang
 # And one more.
 ExecIf|1?ExecIf(1?ExecIf(1?ExecIf(1?ExecIf(1?ExecIf(1?ExecIf(1?ExecIf(1?ExecIf(1?ExecIf(1?Set(A=10))))))))))→hang
-# Those that are not taken do not count.
+# Sides that are not taken do not count.
 ExecIf|0?ExecIf(1?ExecIf(1?ExecIf(1?ExecIf(1?ExecIf(1?ExecIf(1?ExecIf(1?ExecIf(1?Set(A=8))))))))):Set(A=2)→next, A=2
 ExecIf|1?ExecIf(1?ExecIf(1?ExecIf(1?ExecIf(1?ExecIf(1?ExecIf(1?ExecIf(0?ExecIf(1?Set(A=9)))))))))→next
 ";

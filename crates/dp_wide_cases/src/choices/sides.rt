@@ -34,7 +34,7 @@ pub(super) const CALLS: &str = r"
 0?NoOp→none
 1?NoOp(a):Set(A=1)→NoOp|a
 0?NoOp(a):Set(A=1)→Set|A=1
-# Conditions as those of `GotoIf`.
+# Conditions like those of `GotoIf`.
 ?NoOp:Hangup→Hangup|
  ?NoOp:Hangup→Hangup|
  0 ?NoOp:Hangup→Hangup|
@@ -42,7 +42,7 @@ pub(super) const CALLS: &str = r"
 0.0?NoOp:Hangup→NoOp|
 no?NoOp:Hangup→NoOp|
 (0)?NoOp:Hangup→NoOp|
-# Sides that are not there, or of blanks alone.
+# Sides that are missing or blank.
 1?→none
 0?→none
 ?→none
@@ -57,7 +57,7 @@ no?NoOp:Hangup→NoOp|
 1? NoOp ( a , b ) :Hangup→NoOp| a , b\x20
 0?NoOp: hangUP ( )→hangUP|\x20
 1?No Op(a)→No Op|a
-# A `:` inside parentheses parts no sides.
+# A `:` inside parentheses does not separate sides.
 1?Set(A=b:c):Hangup→Set|A=b:c
 0?Set(A=b:c):Hangup→Hangup|
 0?NoOp:Set(A=b:c)→Set|A=b:c
@@ -78,7 +78,7 @@ no?NoOp:Hangup→NoOp|
 1?(a)→|a
 1?()→|
 1?)(→)|
-# Another `?`, and a comma behind the first.
+# A second `?`, and a comma after the first.
 1?Set(A=b?c)→Set|A=b?c
 1?a?b→a?b|
 0?a?b:c?d→c?d|
@@ -141,7 +141,7 @@ yes?a:b→a
 # Blanks at the ends of a side.
 1? a b : c→a b
 0?a:\tb c\t→b c
-# Sides that are not there, or of blanks alone.
+# Sides that are missing or blank.
 1?a→a
 0?a→
 1?→

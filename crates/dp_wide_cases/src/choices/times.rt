@@ -1,4 +1,4 @@
-//! What becomes of a channel that runs a `GotoIfTime`, worked out by hand from the rules.
+//! The effect of a `GotoIfTime` on a channel, worked out by hand from the rules.
 use crate::choices::push_run;
 use dp_case_tables::{Question, bytes_of, text_of};
 use dp_conf::cut_once;
@@ -6,7 +6,7 @@ use dp_vars::Globals;
 use std::alloc::Global;
 use std::test::Fail;
 
-/// Where a `GotoIfTime` sends a channel by the clock, which is unset where it is `-`, and by its arguments after a bar.
+/// Where a `GotoIfTime` sends a channel, given the clock, where `-` is an unset one, and its arguments after a bar.
 pub(super) struct Timed;
 
 impl Question for Timed {
@@ -36,7 +36,7 @@ Sat 2026-11-28 12:44|9:00-17:00,mon-sat,20-30,dec?5:6→jump|6
 Sat 2026-11-28 12:44|*,*,*,*?5:6→jump|5
 Sat 2026-11-28 12:44|8:00-9:00&12:00-13:00,sat&sun,28,11?5:6→jump|5
 Sat 2026-11-28 12:44| 9:00 - 17:00 , sat , 28 , nov ?5:6→jump|5
-# Ranges that go round.
+# Ranges that wrap around.
 Sat 2026-11-28 23:30|22:00-06:00,fri-mon,28-3,nov-feb?5:6→jump|5
 Sun 2026-11-29 06:00|22:00-06:00,fri-mon,28-3,nov-feb?5:6→jump|5
 Sun 2026-11-29 06:01|22:00-06:00,fri-mon,28-3,nov-feb?5:6→jump|6
@@ -44,7 +44,7 @@ Thu 2026-12-31 23:30|22:00-06:00,fri-mon,28-3,nov-feb?5:6→jump|6
 Fri 2027-01-01 00:00|22:00-06:00,fri-mon,28-3,nov-feb?5:6→jump|5
 Mon 2027-01-04 00:00|22:00-06:00,fri-mon,28-3,nov-feb?5:6→jump|6
 Mon 2027-03-01 00:00|22:00-06:00,fri-mon,28-3,nov-feb?5:6→jump|6
-# Too few parts: those that are missing are all.
+# Too few parts: missing ones are all.
 Sat 2026-11-28 12:44|?5:6→jump|5
 Sat 2026-11-28 12:44|12:44?5:6→jump|5
 Sat 2026-11-28 12:44|12:45?5:6→jump|6
@@ -52,11 +52,11 @@ Sat 2026-11-28 12:44|,sat?5:6→jump|5
 Sat 2026-11-28 12:44|,sun?5:6→jump|6
 Sat 2026-11-28 12:44|,,28?5:6→jump|5
 Sat 2026-11-28 12:44|,,,dec?5:6→jump|6
-# Too many: a zone has no effect, and nor has what comes behind it.
+# Too many parts: a zone has no effect, and neither has what comes after it.
 Sat 2026-11-28 12:44|*,*,*,nov,Europe/Berlin?5:6→jump|5
 Sat 2026-11-28 12:44|*,*,*,dec,Europe/Berlin?5:6→jump|6
 Sat 2026-11-28 12:44|*,*,*,*,0:00-0:01,dec,x,?5:6→jump|5
-# What is no range.
+# Not a range.
 Sat 2026-11-28 12:44|noon?5:6→jump|6
 Sat 2026-11-28 12:44|noon&12:44?5:6→jump|5
 Sat 2026-11-28 12:44|(*,*,*,*)?5:6→jump|6
@@ -64,7 +64,7 @@ Sat 2026-11-28 12:44|(*,*,*,*)?5:6→jump|6
 
 /// Targets.
 pub(super) const SIDES: &str = r"
-# One side, or a side that is not there.
+# One side, or a side that is missing.
 Sat 2026-11-28 12:44|*?5→jump|5
 Sat 2026-11-28 12:44|*?5:→jump|5
 Sat 2026-11-28 12:44|*?:6→next
@@ -90,7 +90,7 @@ Sat 2026-11-28 12:44|5:6→next
 Sat 2026-11-28 12:44|→next
 ";
 
-/// Clocks that are none: they lie nowhere. The channel's variable `CLOCK` has no effect.
+/// Invalid clocks, which lie in no range. The channel's variable `CLOCK` has no effect.
 pub(super) const CLOCKS: &str = r"
 -|*,*,*,*?5:6→jump|6
 -|?5:6→jump|6

@@ -1,12 +1,12 @@
 //! The caller, worked out by hand from the rules.
 
-/// The number is known, and what reads a cell is known where something wrote that.
+/// The number is known, and what reads a cell is known if something set that.
 pub(super) const CALLERS: &str = r"
 ${CALLERID(num)}→5551234
 ${CALLERID(number)}→5551234
 ${CALLERID(number):-4}→1234
 gone ; ${CALLERID(num)}.→.
-# A variable of that very name is no caller.
+# A variable with that very name is not the caller.
 set CALLERID(num)=9 ; ${CALLERID(num)}→5551234
 set CALLERID(number)=9 ; ${CALLERID(number)}→5551234
 # The name is a cell.
@@ -33,7 +33,7 @@ ${CALLERID(numbers)}→ unknown CALLERID(numbers)
 ${CALLERID(ALL)}→ unknown CALLERID(ALL)
 ${callerid(num)}→ unknown callerid(num)
 ${CallerID(all)}→ unknown CallerID(all)
-# A plain name, and a call that does not end.
+# A plain name, and a call without an end.
 ${CALLERID}.→.
 ${CALLERID(num}.→.
 ";

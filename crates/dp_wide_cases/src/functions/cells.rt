@@ -1,6 +1,6 @@
 //! Cells, and the functions of keys and of queues, worked out by hand from the rules.
 
-/// A cell is known where something wrote it, also the empty text.
+/// A cell is known if something set it, even to the empty text.
 pub(super) const CELLS: &str = r"
 ${CDR(x)}→ unknown CDR(x)
 set CDR(x)=1 ; ${CDR(x)}→1
@@ -16,7 +16,7 @@ set CDR(a,b)=5 ; ${CDR(a,b)}→5
 set A(B(c))=5 ; ${A(B(c))}→5
 ${(x)}→ unknown (x)
 set (x)=5 ; ${(x)}→5
-# A cell of the channel is looked up as any variable.
+# A cell of the channel is looked up like any variable.
 global CDR(x)=2 ; ${CDR(x)}→2
 global CDR(x)=2 ; set CDR(x)=1 ; ${CDR(x)}→1
 set CDR(x)=1 ; gone ; ${CDR(x)}→ unknown CDR(x)
@@ -24,7 +24,7 @@ set CDR(x)=1 ; gone ; ${CDR(x)}→ unknown CDR(x)
 set K=x ; set CDR(x)=1 ; ${CDR(${K})}→1
 set K=x ; ${CDR(${K})}→ unknown CDR(x)
 ${CDR(${DB(k)})}→ unknown DB(k)
-# A cell of all channels is a global alone.
+# A cell of all channels is only a global.
 ${DB(a/b)}→ unknown DB(a/b)
 global DB(a/b)=7 ; ${DB(a/b)}→7
 global DB(a/b)= ; ${DB(a/b)}.→.
@@ -44,7 +44,7 @@ ${DB(a)}${CDR(b)}→ unknown DB(a)
 global DB(a)=1 ; ${DB(a)}${CDR(b)}→1 unknown CDR(b)
 ${LEN(${DB(a)})}→0 unknown DB(a)
 global DB(a)=4 ; $[${DB(a)} + 1]→5
-# A call that does not end is empty.
+# A call without an end is empty.
 ${CDR(x}.→.
 ";
 
@@ -64,7 +64,7 @@ global DB(a/b)=7 ; ${DB_DELETE(a/b)}→7
 global DB(a/b)=7 ; ${DB_DELETE(a/b)}${DB(a/b)}${DB_EXISTS(a/b)}→771
 global DB(a/b)= ; ${DB_DELETE(a/b)}.→.
 global DB(a/b)=7 ; ${db_exists(a/b)}→ unknown db_exists(a/b)
-# Queues are known, and so is that there is none.
+# Queues are known, and so is that a queue does not exist.
 ${QUEUE_EXISTS(sales)}→1
 ${QUEUE_EXISTS(idle)}→1
 ${QUEUE_EXISTS(other)}→0

@@ -1,4 +1,4 @@
-//! Fields of values that are named, worked out by hand from the rules.
+//! Fields of the values of names, worked out by hand from the rules.
 
 /// Fields that are chosen.
 pub(super) const CUTS: &str = r"
@@ -8,7 +8,7 @@ set X=a-b-c ; ${CUT(X,-,1&3)}→a-c
 set X=a-b-c ; ${CUT(X,-,2):0:1}.→b.
 global X=a-b-c ; ${CUT(X,-,3)}→c
 set X=${A}-b ; ${CUT(X,-,1)}→${A}
-# What parts fields: the first byte as it stands, or a `-` where there is none.
+# The byte that separates fields: the first byte as it is, or a `-` if there is none.
 set X=a-b-c ; ${CUT(X,,2)}→b
 set X=a.b.c ; ${CUT(X,.-,2)}→b
 set X=a b c ; ${CUT(X, ,2)}→b
@@ -19,9 +19,9 @@ set X=a\b ; ${CUT(X,\\,2)}.→.
 set X=a,b,c ; ${CUT(X,,,2)}.→.
 set X=a:b ; ${CUT(X,:,2)}→b
 set X=a)b ; ${CUT(X,),2)}→b
-# A comma after a parenthesis that does not close parts nothing.
+# A comma after a parenthesis that does not close separates nothing.
 set X=a(b ; ${CUT(X,(,2)}.→.
-# Too few arguments choose nothing, and too many are no choice.
+# Too few arguments choose nothing, and neither do too many.
 set X=a-b-c ; ${CUT(X,-)}.→.
 set X=a-b-c ; ${CUT(X,-,)}.→.
 set X=a-b-c ; ${CUT(X)}.→.
@@ -52,14 +52,14 @@ ${CUT(LEN(abc),-,1)}→3
 ${CUT(CALLERID(num),1,1)}→555
 ${CUT(QUEUE_EXISTS(sales),-,1)}→1
 global G=a-b ; ${CUT(GLOBAL(G),-,2)}→b
-# The argument ends at the last parenthesis, and a call in it that does not end is empty.
+# The argument ends at the last parenthesis, and a call in it without an end is empty.
 set X=a-b ; ${CUT(CUT(X,-,1}.→.
 set X=a-b ; ${CUT(CUT(X,-,1),-,1}.→.
 ${CUT(DB(k)}.→.
-# A comma in parentheses is of the argument of that function.
+# A comma in parentheses belongs to the argument of that function.
 ${CUT(FILTER(a-c,xaybz),-,1)}→ab
 ${CUT(TOUPPER(a,b),\\,,2)}→B
-# It is known where the group of the name is.
+# It is known if the group of the name is.
 ${CUT(DB(k),-,1)}→ unknown CUT(DB(k),-,1)
 global DB(k)=a-b ; ${CUT(DB(k),-,2)}→b
 global DB(k)= ; ${CUT(DB(k),-,2)}.→.
@@ -73,7 +73,7 @@ set UNIQUEID=1.2 ; ${CUT(UNIQUEID,.,1)}→1
 ${CUT(VMSTATUS:1,-,1)}→ unknown CUT(VMSTATUS:1,-,1)
 ${CUT(${DB(k)},-,1)}→ unknown DB(k)
 set K=k ; ${CUT(DB(${K}),-,1)}→ unknown CUT(DB(k),-,1)
-# An unknown name that CUT is told to choose nothing of is still unknown.
+# An unknown name is unknown even if `CUT` chooses nothing of it.
 ${CUT(DB(k))}→ unknown CUT(DB(k))
 # A name in another case is that of a cell.
 set X=a-b ; ${cut(X,-,1)}→ unknown cut(X,-,1)
@@ -92,7 +92,7 @@ set X= ; ${FIELDQTY(X,-)}→0
 ${FIELDQTY(X,-)}→0
 ${FIELDQTY(,-)}→0
 ${FIELDQTY()}→0
-# What parts fields: the first byte of all that stands after the name.
+# The byte that separates fields: the first byte of everything after the name.
 set X=a-b-c ; ${FIELDQTY(X)}→3
 set X=a-b-c ; ${FIELDQTY(X,)}→3
 set X=a,b,c ; ${FIELDQTY(X,\\,)}→3

@@ -1,6 +1,6 @@
 //! Plain names, functions that are never known, and which names are functions, worked out by hand from the rules.
 
-/// A plain name is known, but where something outside would have set it.
+/// A plain name is known unless something outside would have set it.
 pub(super) const NAMES: &str = r"
 ${NOSUCH}.→.
 set A=1 ; ${A}→1
@@ -63,7 +63,7 @@ SHIFT→function
 POP→function
 EVAL→function
 HASH→function
-# Any other name is that of cells, as one in another case is.
+# Any other name is that of cells, and so is one in another case.
 DB→cells
 CDR→cells
 DEVICE_STATE→cells

@@ -26,7 +26,7 @@ ${TOLOWER()}.→.
 ${TOLOWER(${TOUPPER(a)}B)}→ab
 ${TOUPPER(abc):1}→BC
 ${toupper(a)}→ unknown toupper(a)
-# Blanks are not nothing, and what stands in the text has been expanded.
+# Blanks are not empty, and the text has been expanded.
 ${ISNULL()}→1
 ${ISNULL( )}→0
 ${ISNULL(0)}→0
@@ -52,7 +52,7 @@ ${IF(?a:b)}→b
 ${IF( 0 ?a:b)}→b
 ${IF(-0?a:b)}→b
 ${IF($[2 > 1]?yes:no)}→yes
-# A side is trimmed, and one that is not there is empty.
+# A side is trimmed, and a missing side is empty.
 ${IF(1? a b : c )}.→a b.
 ${IF(0? a b : c )}.→c.
 ${IF(1?a)}→a
@@ -63,14 +63,14 @@ ${IF(1?  :b)}.→.
 ${IF(1?)}.→.
 ${IF(1)}.→.
 ${IF()}.→.
-# What parts: the first question mark, and the first colon outside parentheses.
+# The separators: the first question mark, and the first colon outside parentheses.
 ${IF(1?(a:b):c)}→(a:b)
 ${IF(0?(a:b):c)}→c
 ${IF(0?a:b:c)}→b:c
 ${IF(1?a?b:c)}→a?b
 ${IF(1?a,b:c)}→a,b
 ${IF(1?abc:d):1}→bc
-# What is unknown in either side is unknown.
+# Anything unknown in either side is unknown.
 ${IF(${DB(k)}?a:b)}→b unknown DB(k)
 ${IF(0?${DB(k)}:b)}→b unknown DB(k)
 ${if(1?a:b)}→ unknown if(1?a:b)

@@ -1,4 +1,4 @@
-//! Calls to applications that go on, that run outside and that end a call, in a machine over a table in which they stand before the
+//! Calls to applications that go on, that run outside and that end a call, in a machine over a table in which they come before the
 //! program's own.
 use crate::names::machine_of;
 use dp_app::With;
@@ -14,14 +14,15 @@ use std::test::Fail;
 /// The program's own table, after those that go on, those that run outside and those that end a call.
 type Names = WithGoing<WithOutside<With<Busy, With<Congestion, StandardApps>>>>;
 
-/// Lines of the dialplan, parted by `\n`, and what is done to a call to `s`, parted by `;`. The words are `step`, `time` for the end of
-/// a time, `hang` for a hang-up, `NAME=VALUE` for a variable that is set, `$NAME` for one that is shown, and `?` for the state.
+/// Lines of the dialplan, separated by `
+/// `, and what happens to a call to `s`, separated by `;`. The words are `step`, `time` for a time-out, `hang` for a hang-up, `NAME=VALUE`
+/// for a variable that is set, `$NAME` for one that is shown, and `?` for the state.
 pub(super) const STORIES: &str = r"
-# One that goes on leaves its status.
+# An application that goes on leaves its status.
 s,1,System(ls)¦SYSTEMSTATUS=x;step;?;$SYSTEMSTATUS→Ready s,2, SYSTEMSTATUS=x
 s,1,Originate(a,b,c)¦ORIGINATE_STATUS=x;VMSTATUS=y;step;?;$ORIGINATE_STATUS;$VMSTATUS→Ready s,2, ORIGINATE_STATUS=x, VMSTATUS=y
 s,1,lookupblacklist()¦LOOKUPSTATUS=x;step;?;$LOOKUPSTATUS→Ready s,2, LOOKUPSTATUS=x
-# One that runs outside takes its status away, and no other. What is set while it waits is there when it goes on.
+# An application that runs outside unsets its status, and no other. What is set while it waits is there when it goes on.
 s,1,VoiceMail(1)¦VMSTATUS=SUCCESS;AGISTATUS=x;step;?;$VMSTATUS;$AGISTATUS→Pause s,1, VMSTATUS=, AGISTATUS=x
 s,1,VoiceMail(1)¦VMSTATUS=SUCCESS;step;VMSTATUS=FAILED;time;?;$VMSTATUS→Ready s,2, VMSTATUS=FAILED
 s,1,VoiceMail(1)¦VMSTATUS=SUCCESS;step;time;?;$VMSTATUS→Ready s,2, VMSTATUS=
@@ -53,7 +54,7 @@ s,1,PrivacyManager()¦PRIVACYMGRSTATUS=x;step;$PRIVACYMGRSTATUS→PRIVACYMGRSTAT
 s,1,ConfBridge(1)¦CONFBRIDGE_RESULT=x;step;$CONFBRIDGE_RESULT→CONFBRIDGE_RESULT=
 # Names of variables are compared byte by byte.
 s,1,AGI(a.py)¦agistatus=x;step;$agistatus→agistatus=x
-# `Read` and `ReadExten` take the variable of their first argument away too, and no other does.
+# `Read` and `ReadExten` also unset the variable of their first argument, and no other application does.
 s,1,Read(X,beep)¦X=5;Y=6;READSTATUS=OK;step;?;$X;$Y;$READSTATUS→Pause s,1, X=, Y=6, READSTATUS=
 s,1,Read(X)¦step;X=42;READSTATUS=OK;time;?;$X;$READSTATUS→Ready s,2, X=42, READSTATUS=OK
 s,1,rEAD( X ,X2)¦X=5;X2=6;step;$X;$X2→X=, X2=6
@@ -65,7 +66,7 @@ s,1,Read(Z)¦X=5;step;?;$Z;$X→Pause s,1, Z=, X=5
 s,1,ReadExten(X)¦X=5;READSTATUS=OK;READEXTENSTATUS=OK;step;$X;$READSTATUS;$READEXTENSTATUS→X=, READSTATUS=OK, READEXTENSTATUS=
 s,1,readexten(X,beep)¦step;X=42;READEXTENSTATUS=OK;time;?;$X;$READEXTENSTATUS→Ready s,2, X=42, READEXTENSTATUS=OK
 s,1,Record(X)¦X=5;step;$X→X=5
-# A name has no value as a local of any frame either.
+# The name has no value as a local of any frame either.
 s,1,Gosub(in,1)\nin,1,Set(LOCAL(VMSTATUS)=a)\nin,2,Gosub(on,1)\non,1,Set(LOCAL(VMSTATUS)=b)\non,2,VoiceMail(1)¦VMSTATUS=c;step;step;step;step;$VMSTATUS;step;?;$VMSTATUS→VMSTATUS=b, Pause on,2, VMSTATUS=
 s,1,Gosub(in,1)\nin,1,Set(LOCAL(X)=a)\nin,2,Read(X)\nin,3,Return()¦X=c;step;step;step;?;$X;time;step;?;$X→Pause in,2, X=, Ready s,2, X=
 # While the channel is closing the call ends, and nothing changes.
@@ -79,7 +80,7 @@ s,1,Congestion()¦X=5;step;?;$X→Ended s,1, X=5
 s,1,NoOp()\nh,1,Busy()¦hang;step;?→Ended h,1
 ";
 
-/// Adds how a channel waits, and where it stands.
+/// Adds how a channel waits, and its place.
 fn push_state(out: &mut String, machine: &Machine<Names>) -> Result<(), NoMemory> {
     match (machine.phase(1), machine.place(1)) {
         (Some(phase), Some(place)) => {
@@ -100,7 +101,7 @@ fn push_value(
     push_bytes(out, &machine.value(alloc, 1, name.as_bytes())?)
 }
 
-/// Adds the answer to a word that asks something.
+/// Adds the answer to a word that is a question.
 fn push_answer(
     out: &mut String,
     alloc: Global,
@@ -127,7 +128,7 @@ fn set_event(alloc: Global, name: &str, value: &str) -> Result<Event, NoMemory> 
     })
 }
 
-/// The event of a word, or None where the word asks something.
+/// The event of a word, or None if the word is a question.
 fn event_of(alloc: Global, word: &str) -> Result<Option<Event>, NoMemory> {
     match word {
         "step" => Ok(Some(Event::Step { channel: 1 })),
@@ -169,7 +170,7 @@ fn do_words(
     Ok(())
 }
 
-/// What the words tell of a call.
+/// The answers to the words on a call.
 pub(super) fn told(alloc: Global, lines: &str, words: &str) -> Result<String, Fail> {
     let mut machine: Machine<Names> = machine_of(alloc, lines)?;
     let mut out = String::new(alloc);
@@ -177,7 +178,7 @@ pub(super) fn told(alloc: Global, lines: &str, words: &str) -> Result<String, Fa
     Ok(out)
 }
 
-/// What becomes of a call.
+/// The course of a call.
 pub(super) struct Story;
 
 impl Question for Story {

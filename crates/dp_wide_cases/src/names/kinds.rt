@@ -6,9 +6,9 @@ use dp_wide::{is_given_by_asterisk, is_status};
 use std::alloc::Global;
 use std::test::Fail;
 
-/// Names of applications, parted by blanks, and what all of them do.
+/// Names of applications, separated by blanks, and what all of them do.
 pub(super) const KINDS: &str = r"
-# Those that go on, also while the channel is closing.
+# Applications that go on, also while the channel is closing.
 Ringing Progress Proceeding SayDigits SayNumber SayAlpha SayPhonetic SayUnixTime→goes on
 Playtones StopPlaytones StartMusicOnHold StopMusicOnHold SetMusicOnHold→goes on
 MixMonitor StopMixMonitor Monitor StopMonitor PauseMonitor UnpauseMonitor→goes on
@@ -17,7 +17,7 @@ ResetCDR NoCDR ForkCDR CELGenUserEvent QueueLog UpdateConfig→goes on
 ChannelRedirect SoftHangup Originate System TrySystem→goes on
 SIPAddHeader SIPRemoveHeader HangupCauseClear LookupCIDName LookupBlacklist SetCallerPres→goes on
 JabberSend MessageSend→goes on
-# Those that run outside: the channel waits, and while it is closing the call ends.
+# Applications that run outside: the channel waits, and while it is closing the call ends.
 VoiceMail VoiceMailMain VMAuthenticate Directory→waits
 Read ReadExten Record ControlPlayback BackgroundDetect→waits
 AGI DeadAGI EAGI ExternalIVR→waits
@@ -29,20 +29,20 @@ MusicOnHold WaitMusicOnHold WaitForSilence WaitForNoise WaitForRing WaitUntil→
 Transfer Bridge BridgeWait Stasis DISA→waits
 PrivacyManager Zapateller Flash AMD NVFaxDetect Dictate→waits
 TestClient TestServer AgentLogin AgentRequest Morsecode SMS Curl→waits
-# Those that end the call.
+# Applications that end the call.
 Busy Congestion Hangup→hangs up
 # In any case.
 ringing RINGING mixmonitor cELgENuSEReVENT sipaddheader→goes on
 voicemail VOICEMAIL agi Agi disa sendfax mp3player sms→waits
 busy BUSY cONGESTION→hangs up
-# Those of the program's own table, and names that are near another.
+# Applications of the program's own table, and names that are almost those of others.
 NoOp Verbose Answer Playback noop→goes on
 Wait→waits
 While Ring Ringings VoiceMails ReadE Readx AG AGIs Parked MusicOn Busyy→hangs up
 VoiceMail- Read. _AGI→hangs up
 ";
 
-/// Names of variables, parted by blanks, and what all of them are.
+/// Names of variables, separated by blanks, and what all of them are.
 pub(super) const VARIABLES: &str = r"
 VMSTATUS READSTATUS AGISTATUS SYSTEMSTATUS PAGESTATUS RECORD_STATUS FAXSTATUS AMDSTATUS TRANSFERSTATUS→status
 PARKEDAT PRIVACYMGRSTATUS ORIGINATE_STATUS CONFBRIDGE_RESULT LOOKUPSTATUS FAXERROR AMDCAUSE WAITSTATUS→status
@@ -52,7 +52,7 @@ UNIQUEID LINKEDID EPOCH DATETIME TIMESTAMP HANGUPCAUSE ANSWEREDTIME DIALEDTIME�
 DIALEDPEERNAME DIALEDPEERNUMBER CALLINGPRES SYSTEMNAME ENTITYID CHANNEL DB_RESULT→given
 MEMBERINTERFACE MEMBERNAME QEHOLDTIME PLAYBACKSTATUS BACKGROUNDSTATUS BRIDGEPEER→given
 GOSUB_RESULT HASHRESULT SIPCALLID SIPDOMAIN RECORDED_FILE→given
-# Those that this program gives or sets, those of another case, and those that are near another.
+# Names that this program gives or sets, those in another case, and those that are almost others.
 EXTEN CONTEXT PRIORITY DIALSTATUS QUEUESTATUS GOSUB_RETVAL INVALID_EXTEN READEXTENSTATU→none
 vmstatus VmStatus uniqueid Channel→none
 VMSTATU VMSTATUSS STATUS UNIQUEI UNIQUEIDS CHANNEL(name) RECORDSTATUS→none
@@ -76,7 +76,7 @@ fn word_of(states: &str) -> &str {
     }
 }
 
-/// Adds a word, if it is not the one that stands there.
+/// Adds a word, if it is not the one that is already there.
 fn push_other(out: &mut String, name: &str, word: &str) -> Result<(), NoMemory> {
     if out.is_empty() {
         return out.push_str(word);

@@ -1,5 +1,5 @@
-//! What is unknown ahead of applications that look at their arguments, and of those that do not, in a machine over a table of another
-//! maker after those that go on and those that run outside.
+//! What is unknown ahead of applications that look at their arguments, and of those that do not, in a machine over a table by another
+//! author after those that go on and those that run outside.
 use crate::names::machine_of;
 use dp_case_tables::{Question, push_bytes, text_of};
 use dp_machine::{Machine, NoMemory, Unknown};
@@ -9,12 +9,12 @@ use dp_wide::{WithGoing, WithOutside};
 use std::alloc::Global;
 use std::test::Fail;
 
-/// The table of another maker after the names. Its function `AWAY(x)` is never known, and `Ping(?)` asks `PINGS`.
+/// The table by another author after the names. Its function `AWAY(x)` is never known, and `Ping(?)` asks `PINGS`.
 type Names = WithGoing<WithOutside<OwnApps>>;
 
-/// An application with its arguments, and what is unknown ahead of a channel that stands there.
+/// An application with its arguments, and what is unknown ahead of a channel there.
 pub(super) const AHEAD: &str = r"
-# One that goes on, and one that runs outside, looks at no arguments.
+# An application that goes on, or runs outside, looks at no arguments.
 Ringing()→none
 Ringing(${AWAY(1)})→none
 mixmonitor(${AWAY(1)}.wav)→none
@@ -26,13 +26,13 @@ Read(X,beep)→none
 Read(${AWAY(1)})→group AWAY(1)
 ReadExten(${AWAY(1)})→group AWAY(1)
 rEAD(X,${AWAY(1)})→group AWAY(1)
-# Those of the other table are as they are there.
+# Applications of the other table are as they are there.
 Ping(${AWAY(1)})→group AWAY(1)
 Ping(?)→asks PINGS
 Stay(${AWAY(1)})→none
 Ringing(?)→none
 VoiceMail(?)→none
-# A name of none.
+# A name that no application has.
 While(1)→application While
 Busy()→application Busy
 ";

@@ -1,6 +1,6 @@
 //! Cells that are set, and functions that set something else.
 
-/// A function of an argument is the cell of that name: of five functions a global, of the others the channel's own.
+/// A function of an argument is the cell with that name: for five functions a global, for the others the channel's own.
 pub(super) const CELLS: &str = r"
 1,Set(DB(a/b)=1)¦1¦DB(a/b);@DB(a/b)→1|1
 1,Set(DEVICE_STATE(Custom:x)=INUSE)¦1¦@DEVICE_STATE(Custom:x)→INUSE
@@ -10,7 +10,7 @@ pub(super) const CELLS: &str = r"
 1,Set(CDR(x)=1)¦1¦CDR(x);@CDR(x)→1|
 1,Set(LEN(x)=9)¦1¦LEN(x);@LEN(x)→9|
 1,Set((x)=1)¦1¦(x);@(x)→1|
-# Names of functions are case sensitive, and no blanks are left out inside.
+# Names of functions are case sensitive, and blanks inside are kept.
 1,Set(db(a)=1)¦1¦db(a);@db(a);DB(a)→1||
 1,Set(DB (a)=1)¦1¦DB (a);@DB (a);DB(a)→1||
 1,Set(DB( a )=1)¦1¦@DB( a );@DB(a)→1|
@@ -18,7 +18,7 @@ pub(super) const CELLS: &str = r"
 1,Set(_DB(a)=1)¦1¦@DB(a);_DB(a)→1|
 1,Set(__CDR(a)=1)¦1¦CDR(a);__CDR(a)→1|
 1,Set(DB(_a)=1)¦1¦@DB(_a);@DB(a)→1|
-# The argument ends at the last `)`, which has to be the last byte.
+# The argument ends at the last `)`, which must be the last byte.
 1,Set(DB()=1)¦1¦@DB()→1
 1,Set(DB(a(b)=1)¦1¦@DB(a(b)→1
 1,Set(DB(a))=1)¦1¦@DB(a))→1
@@ -30,17 +30,17 @@ pub(super) const CELLS: &str = r"
 1,Gosub(sub,s,1)\n[sub]\nexten => s,1,Set(LOCAL(CDR(x))=1)\nexten => s,2,Set(CDR(x)=2)\nexten => s,3,Return()¦4¦CDR(x)→
 ";
 
-/// Functions that are no cells.
+/// Functions that are not cells.
 pub(super) const FUNCTIONS: &str = r"
 1,Set(GLOBAL(g)=1)¦1¦g;@g;GLOBAL(g)→1|1|
 1,Set(GLOBAL(_g)=1)¦1¦@_g;@g→1|
 1,Set(_GLOBAL(g)=1)¦1¦@g→1
 1,Set(global(g)=1)¦1¦g;global(g);@global(g)→|1|
-# A local is set where there is a frame.
+# A local is set if there is a frame.
 1,Set(LOCAL(l)=1)¦1¦l;LOCAL(l)→|
 1,Gosub(sub,s,1)\n[sub]\nexten => s,1,Set(LOCAL(l)=1)\nexten => s,2,Return()¦2¦l→1
 1,Gosub(sub,s,1)\n[sub]\nexten => s,1,Set(LOCAL(l)=1)\nexten => s,2,Return()¦3¦l→
-# These do more than to write a cell, and have no effect here.
+# These do more than write a cell, and have no effect here.
 1,Set(HASH(a,b)=1)¦1¦HASH(a,b);@HASH(a,b);=→||main,s,2
 1,Set(PUSH(a)=1)¦1¦PUSH(a)→
 1,Set(UNSHIFT(a)=1)¦1¦UNSHIFT(a)→
@@ -68,14 +68,14 @@ pub(super) const CALLERS: &str = r#"
 1,Set(CALLERID(all)="" <200>)\n2,Set(C=${CALLERID(num)})¦2¦C;CALLERID(name)→200|
 1,Set(CALLERID(all)=<200>)\n2,Set(C=${CALLERID(num)})¦2¦C;CALLERID(name)→200|
 1,Set(CALLERID(all)=Bob <>)\n2,Set(C=${CALLERID(num)})¦2¦C;CALLERID(name)→|Bob
-# Quotes are left out where they stand at both ends.
+# Quotes are left out if they are at both ends.
 1,Set(CALLERID(all)="Bob <200>)\n2,Set(C=${CALLERID(num)})¦2¦C;CALLERID(name)→200|"Bob
 1,Set(CALLERID(all)=Bob" <200>)\n2,Set(C=${CALLERID(num)})¦2¦C;CALLERID(name)→200|Bob"
 1,Set(CALLERID(all)=" <200>)\n2,Set(C=${CALLERID(num)})¦2¦C;CALLERID(name)→200|"
 1,Set(CALLERID(all)="a"b" <200>)\n2,Set(C=${CALLERID(num)})¦2¦C;CALLERID(name)→200|a"b
 # The number goes from the first `<` to the last `>`.
 1,Set(CALLERID(all)=Bob <2<3>4>5)\n2,Set(C=${CALLERID(num)})¦2¦C;CALLERID(name)→2<3>4|Bob
-# With no `<`, or no `>` after it, all is the number.
+# Without a `<`, or without a `>` after it, everything is the number.
 1,Set(CALLERID(all)=200)\n2,Set(C=${CALLERID(num)})¦2¦C;CALLERID(name)→200|
 1,Set(CALLERID(name)=Al)\n2,Set(CALLERID(all)= 200)\n3,Set(C=${CALLERID(num)})¦3¦C;CALLERID(name)→200|
 1,Set(CALLERID(all)=Bob <200)\n2,Set(C=${CALLERID(num)})¦2¦C;CALLERID(name)→Bob <200|
@@ -91,10 +91,10 @@ pub(super) const DELETED: &str = r"
 1,Set(DB(a/b)=1)\n2,DBdel(a)¦2¦@DB(a/b)→1
 1,Set(DB(a,b)=1)\n2,DBdel(a,b)¦2¦@DB(a,b)→
 1,Set(DB()=1)\n2,DBdel()¦2¦@DB()→
-# By the function, whose argument is as it stands, whatever the value.
+# By the function, whose argument is kept as it is, whatever the value.
 1,Set(DB(k)=1)\n2,Set(DB_DELETE(k)=x)¦2¦@DB(k);DB_DELETE(k);@DB_DELETE(k)→||
 1,Set(DB(k)=1)\n2,Set(DB_DELETE( k )=)¦2¦@DB(k)→1
 1,Set(DB(k)=1)\n2,Set(db_delete(k)=x)¦2¦@DB(k);db_delete(k)→1|x
-# A variable of the channel of the same name is another.
+# A variable of the channel with the same name is another.
 1,Gosub(sub,s,1)\n[sub]\nexten => s,1,Set(LOCAL(DB(k))=1)\nexten => s,2,DBdel(k)\nexten => s,3,Return()¦3¦DB(k);@DB(k)→1|
 ";

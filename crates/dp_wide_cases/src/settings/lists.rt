@@ -13,11 +13,11 @@ pub(super) const ARRAYS: &str = r"
 1,Set(B=9)\n2,Set(ARRAY(A,B)=1,)¦2¦A;B→1|
 # Blanks at the ends of names are left out, and values stay as they are.
 1,Set(ARRAY( A , __B )= 1, 2 )¦1¦A;B→\x201|\x202\x20
-# Empty names and broken ones are passed over with their values.
+# Empty names and malformed ones are skipped with their values.
 1,Set(ARRAY(A,,B)=1,2,3)¦1¦A;B→1|3
 1,Set(ARRAY()=1)¦1¦;=→|main,s,2
 1,Set(ARRAY(A,_,B)=1,2,3)¦1¦A;_;B→1||3
-# Commas inside parentheses part nothing.
+# Commas inside parentheses do not separate.
 1,Set(ARRAY(A,B)=(1,2),3)¦1¦A;B→(1,2)|3
 1,Set(ARRAY(DB(a,b),B)=1,2)¦1¦@DB(a,b);B→1|2
 # Each name is set by the same rule.
@@ -39,10 +39,10 @@ pub(super) const SEVERAL: &str = r"
 1,MSet(A=1,B,=3,C=4)¦1¦A;B;;C→1|||4
 # Blanks at the ends of a part are left out, and of its name.
 1,MSet( A =1 , B = 2 )¦1¦A;B→1|\x202
-# In order, and the later stands.
+# In order, and the later value counts.
 1,MSet(A=1,A=2)¦1¦A→2
 1,Set(A=0)\n2,MSet(A=1,B=${A})¦2¦A;B→1|0
-# Each is what `Set` does.
+# Each does what `Set` does.
 1,MSet(_A=1,__B=2,___C=3)¦1¦A;B;_C→1|2|3
 1,MSet(DB(a/b)=1,GLOBAL(g)=2,CDR(c)=3)¦1¦@DB(a/b);@g;CDR(c);@CDR(c)→1|2|3|
 1,MSet(CALLERID(all)=Bob <7>,A=8)\n2,Set(C=${CALLERID(num)})¦2¦C;CALLERID(name);A→7|Bob|8

@@ -20,9 +20,10 @@ type SettingApps = With<SetWide, With<MSet, With<DbDel, Calling>>>;
 
 type SettingMachine = Machine<SettingApps>;
 
-/// A case is the lines of the extension `s` in `main`, parted by `\n`, where a line that begins with `[` or `exten` is itself; then
-/// how many steps the first of two calls takes there, and what is asked, parted by `;`: the value of a name in the first call, with an
-/// `@` before it in the second, or with `=` alone the place of the first. The answers are parted by `|`.
+/// A case is the lines of the extension `s` in `main`, separated by `
+/// `, where a line that begins with `[` or `exten` is used as it is; then the number of steps that the first of two calls takes there, and
+/// questions, separated by `;`: the value of a name in the first call, with an `@` before it in the second, or with only `=` the place of
+/// the first. The answers are separated by `|`.
 pub(super) struct Run;
 
 /// Adds a line of the dialplan.
@@ -45,7 +46,7 @@ fn plan_of(alloc: Global, lines: &str) -> Result<Dialplan, Fail> {
     Ok(plan)
 }
 
-/// Adds where a channel is.
+/// Adds the place of a channel.
 fn push_place(
     out: &mut String,
     phase: Option<&Phase>,
@@ -102,7 +103,7 @@ fn take_steps(alloc: Global, machine: &mut SettingMachine, steps: u32) -> Result
     Ok(())
 }
 
-/// What a new machine with these lines answers after so many steps.
+/// The answer of a new machine with these lines after this number of steps.
 fn answers_of(alloc: Global, lines: &str, steps: u32, words: &str) -> Result<String, Fail> {
     let plan = plan_of(alloc, lines)?;
     let mut machine: SettingMachine = Machine::new(alloc, plan, Queues::none(alloc))?;

@@ -47,7 +47,7 @@ _→nothing
 __→nothing
 ___→variable _
 _GLOBAL(x)→global x
-# What is not the channel's.
+# Names that are not the channel's.
 GLOBAL(x)→global x
 GLOBAL()→global\x20
 LOCAL(x)→local x
@@ -76,7 +76,7 @@ HASH(a,b)→nothing
 PUSH(a)→nothing
 UNSHIFT(a)→nothing
 CHANNEL(hangup_handler_push)→nothing
-# Broken calls.
+# Malformed calls.
 DB(a→nothing
 DB(→nothing
 DB(a)x→nothing

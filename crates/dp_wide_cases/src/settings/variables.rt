@@ -2,14 +2,14 @@
 
 /// Names with their values.
 pub(super) const VARIABLES: &str = r"
-# What stands before the first `=` is the name, and all after it the value.
+# The text before the first `=` is the name, and everything after it is the value.
 1,Set(A=1)¦1¦A;@A;=→1||main,s,2
 1,Set(A=b=c)¦1¦A→b=c
 1,Set(A=)¦1¦A→
 1,Set(A=1)\n2,Set(A=)¦2¦A→
 1,Set(A= 1,2)¦1¦A→\x201,2
 1,set(A=1)¦1¦A→1
-# With no `=`, or with no name, nothing is set.
+# Without a `=`, or without a name, nothing is set.
 1,Set(A)¦1¦A;=→|main,s,2
 1,Set()¦1¦A;;=→||main,s,2
 1,Set(=1)¦1¦;=→|main,s,2
@@ -26,7 +26,7 @@ pub(super) const VARIABLES: &str = r"
 1,Set(__ X=1)¦1¦ X;X→1|
 1,Set(X_=1)¦1¦X_;X→1|
 1,Set(_X=1)\n2,Set(__X=2)¦2¦X→2
-# A name of marks alone.
+# A name that consists of marks.
 1,Set(_=1)¦1¦;_;=→||main,s,2
 1,Set(__=1)¦1¦;_;__→||
 1,Set(___=1)¦1¦;_;___→|1|

@@ -37,7 +37,7 @@ pub(super) const DELIMITERS: &str = r"
 :\\,→:
 ";
 
-/// The fields of a value that are chosen: the value, at what it is cut, and what chooses.
+/// The chosen fields of a value: the value, the byte at which it is cut, and the choice.
 pub(super) struct Cut;
 
 impl Question for Cut {
@@ -95,7 +95,7 @@ a-b-c-d||2-3&3-4&2→b-c-d
 a-b-c-d||-1&4-→a-d
 a,b,c|,|3&1→a,c
 a-b-c-d||3-2&4→d
-# Something else among them.
+# Something else between them.
 a-b-c-d||→
 a-b-c-d||-→
 a-b-c-d||x→
@@ -123,7 +123,7 @@ a||2→
 \xFF\x00\xFF|\x00|1-→ÿ\x00ÿ
 ";
 
-/// How many fields a value has.
+/// The number of fields of a value.
 pub(super) struct Count;
 
 impl Question for Count {

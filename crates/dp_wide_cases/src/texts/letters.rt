@@ -4,7 +4,7 @@ use dp_wide::{filter, to_lower, to_upper};
 use std::alloc::Global;
 use std::test::Fail;
 
-/// The bytes that a set has of a text.
+/// The bytes of a text that a set has.
 pub(super) struct Kept;
 
 impl Question for Kept {
@@ -29,7 +29,7 @@ abc|aXbXcX→abc
 aa|baab→aa
 abc|CBA→
  |a b c→\x20\x20
-# Ranges, to which both ends belong.
+# Ranges with both ends.
 0-9|+1 (555) 12-34→15551234
 0-9|/09:→09
 a-c|`abcd→abc
@@ -72,7 +72,7 @@ impl Question for Letters {
     }
 }
 
-/// The letters of ASCII alone are changed.
+/// Only ASCII letters are changed.
 pub(super) const CAPITALS: &str = r"
 →|
 abc→ABC|abc

@@ -34,7 +34,7 @@ Sat 2026-11-28 09:01|9:00|||→no
 Sat 2026-11-28 08:59|9:00|||→no
 Sat 2026-11-28 00:00|0:00|||→yes
 Sat 2026-11-28 23:59|23:59|||→yes
-# Two ends, and both belong to the range.
+# Two ends, both of which belong to the range.
 Sat 2026-11-28 08:59|9:00-17:00|||→no
 Sat 2026-11-28 09:00|9:00-17:00|||→yes
 Sat 2026-11-28 12:30|9:00-17:00|||→yes
@@ -44,7 +44,7 @@ Sat 2026-11-28 09:00|9:00-9:00|||→yes
 Sat 2026-11-28 09:01|9:00-9:00|||→no
 Sat 2026-11-28 00:00|0:00-23:59|||→yes
 Sat 2026-11-28 23:59|0:00-23:59|||→yes
-# Round midnight.
+# Around midnight.
 Sat 2026-11-28 21:59|22:00-06:00|||→no
 Sat 2026-11-28 22:00|22:00-06:00|||→yes
 Sat 2026-11-28 23:59|22:00-06:00|||→yes
@@ -71,7 +71,7 @@ Sat 2026-11-28 09:00| * |||→yes
 Sat 2026-11-28 09:00|  |||→yes
 Sat 2026-11-28 09:00|**|||→no
 Sat 2026-11-28 09:00|*&10:00|||→no
-# What is no range is passed over.
+# Anything that is not a range is skipped.
 Sat 2026-11-28 09:00|9|||→no
 Sat 2026-11-28 09:00|9:0|||→no
 Sat 2026-11-28 09:00|009:00|||→no
@@ -99,7 +99,7 @@ Wed 2026-11-28 09:00||mon-fri||→yes
 Sat 2026-11-28 09:00||Mon-Fri||→no
 Mon 2026-11-28 09:00||mon-fri||→yes
 Fri 2026-11-28 09:00||mon-fri||→yes
-# Round the end of a week.
+# Around the end of a week.
 Thu 2026-11-28 09:00||fri-mon||→no
 Fri 2026-11-28 09:00||fri-mon||→yes
 Sat 2026-11-28 09:00||fri-mon||→yes
@@ -121,7 +121,7 @@ Wed 2026-11-28 09:00||1-7||→yes
 Sun 2026-11-28 09:00||0-7||→yes
 Mon 2026-11-28 09:00||0-7||→no
 Wed 2026-11-28 09:00||1-fri||→yes
-# Some of several, and what is no range.
+# Some of several, and some that are not ranges.
 Wed 2026-11-28 09:00||mon & wed & fri||→yes
 Tue 2026-11-28 09:00||mon & wed & fri||→no
 Sat 2026-11-28 09:00||saturday||→no
@@ -140,14 +140,14 @@ Sat 2026-11-01 09:00|||01|→yes
 Sat 2026-10-31 09:00|||31|→yes
 Sat 2026-11-15 09:00|||1-15|→yes
 Sat 2026-11-16 09:00|||1-15|→no
-# Round the end of a month.
+# Around the end of a month.
 Sat 2026-11-27 09:00|||28-3|→no
 Sat 2026-11-28 09:00|||28-3|→yes
 Sat 2026-10-31 09:00|||28-3|→yes
 Sat 2026-11-01 09:00|||28-3|→yes
 Sat 2026-11-03 09:00|||28-3|→yes
 Sat 2026-11-04 09:00|||28-3|→no
-# Some of several, and what is no range.
+# Some of several, and some that are not ranges.
 Sat 2026-11-28 09:00|||1& 28 |→yes
 Sat 2026-11-28 09:00|||0|→no
 Sat 2026-11-28 09:00|||32|→no
@@ -171,14 +171,14 @@ Sat 2026-12-28 09:00||||12→yes
 Sat 2026-06-28 09:00||||apr-sep→yes
 Sat 2026-10-28 09:00||||apr-sep→no
 Sat 2026-08-28 09:00||||7-aug→yes
-# Round the end of a year.
+# Around the end of a year.
 Sat 2026-10-28 09:00||||nov-feb→no
 Sat 2026-11-28 09:00||||nov-feb→yes
 Sat 2026-12-28 09:00||||nov-feb→yes
 Sat 2026-01-28 09:00||||nov-feb→yes
 Sat 2026-02-28 09:00||||nov-feb→yes
 Sat 2026-03-28 09:00||||nov-feb→no
-# Some of several, and what is no range.
+# Some of several, and some that are not ranges.
 Sat 2026-05-28 09:00||||mar&may & jul→yes
 Sat 2026-04-28 09:00||||mar&may & jul→no
 Sat 2026-11-28 09:00||||0→no

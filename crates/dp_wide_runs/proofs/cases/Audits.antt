@@ -1,4 +1,4 @@
--- What texts name as kinds of findings, and the functions that texts call.
+-- The kinds of findings that texts name, and the functions that texts call.
 use Rattle.std.proofs.Common.{◌≡◌, true, false, [], ◌∷◌, refl}
 use Rattle.std.specs.Prelude.{codes}
 use Rattle.dp_wide.specs.AsteriskFunctions.{functions_a_to_c, functions_d_to_e, functions_f_to_i, functions_j_to_o, functions_p_to_q, functions_r_to_s, functions_t_to_z}

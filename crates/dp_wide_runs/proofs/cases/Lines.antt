@@ -1,4 +1,4 @@
--- What lines of a script with facts stand for.
+-- The meanings of the lines of a script with facts.
 use Rattle.std.proofs.Common.{◌≡◌, [], ◌∷◌, None, Some, refl}
 use Rattle.std.specs.Prelude.{codes}
 use Rattle.dp_machine.specs.declared.event.Event.TheVariants.{Step, Timeout, Assign, Redirect}

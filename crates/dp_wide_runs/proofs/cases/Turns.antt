@@ -8,7 +8,7 @@ use Rattle.dp_wide_runs.specs.Given.{given_as}
 use Rattle.dp_wide_runs.specs.Turns.{further_turn, no_stops, pass_refusal, priority_after, step_turn, at_stop, wide_status}
 use Rattle.dp_wide_runs.specs.declared.wide_turn.WideTurn.TheVariants.{Further}
 
--- a step before what is unknown changes nothing in the world
+-- a step does not change the world if something is unknown ahead of it
 stops_here : (w : World) (channel : ℕ) (what : Unknown) → (step_turn no_stops w channel (Some what)).state ≡ (at_stop, w)
 stops_here w channel what = refl
 
@@ -19,7 +19,7 @@ left_out w channel = refl
 not_given : (w : World) (channel : ℕ) → given_as (at_stop, w) (Further channel) ≡ None
 not_given w channel = refl
 
--- a later step is asked anew, and the run has stopped nonetheless
+-- a later step is tried anew, and the run has still stopped once
 asked_anew : (w : World) (channel : ℕ) → (step_turn at_stop w channel None).state.0 ≡ record { line_is_over = false; has_stopped = true }
 asked_anew w channel = refl
 

@@ -6,7 +6,7 @@ use Rattle.dp_audit.specs.declared.finding.Finding.TheVariants.{Unset}
 use Rattle.dp_audit.proofs.UnsetLemmas.{names_next}
 use Rattle.dp_audit.proofs.unset.push_names.Goals as goal
 
--- a text of no length
+-- an empty text
 nothing : (text : List ℕ) → 0 ≡ length text → [] ≡ text
 nothing [] none = refl
 nothing (byte ∷ text) none = absurd cc

@@ -8,7 +8,7 @@ use Rattle.dp_board.proofs.places.count_entries.Goals as goal
 pub loop-entry-init : goal.loop-entry-init
 loop-entry-init c = record { len = refl; counts = CountsEntries-none c.args.counts.now (length c.args.counts.now) c.requires.fresh }
 
--- a seat has no more entries than were walked
+-- a seat has no more entries than were counted
 pub overflow_add-counts : goal.overflow_add-counts
 overflow_add-counts c =
     let i = c.loop-entry.entry-index in

@@ -5,7 +5,7 @@ use Rattle.dp_board.proofs.places.is_record.Goals as goal
 use Rattle.dp_board.proofs.places.is_record.Goals.{then-call-next-via-then-call-next}
 use Rattle.dp_board.proofs.places.is_record.Goals.{then-call-next-via-else-call-next+then-not-is_told_at_place}
 
--- no record that is what the entries tell has a call before the next place, or one that its entry does not tell
+-- no record that has the seat's entries has a call before the next place, or one that is not its entry's
 pub returns-then-call-next : goal.returns-then-call-next
 returns-then-call-next c =
     let seat = c.args.seat in

@@ -11,7 +11,7 @@ use Rattle.clap.specs.declared.parser.matches.ArgMatches.{ArgMatches}
 use Rattle.dp_cli.specs.CommandLine.{texts, pbx_app}
 use Rattle.dp_cli.proofs.command_line.read_matches.Goals as goal
 
--- the program's commands are of those whose matches are told
+-- clap's contract covers the matches of the program's commands
 has_simple_rules : is_simple pbx_app ≡ true
 unfolding clap_on_literals
 has_simple_rules = refl
@@ -30,7 +30,7 @@ returns-clause-refused c =
     let P : App → Type 0 = λ app. IfErr c.try_get_matches_from.result (λ error. takes app (texts c.args.words.now) ≡ true → kind_of error ≡ OutOfMemory) in
     subst P c.in_ok-commands.ensures.0 c.try_get_matches_from.ensures.passes
 
--- the program's commands are of those whose faults are told
+-- clap's contract covers the faults of the program's commands
 is_simple_pbx : is_simple_and_free pbx_app ≡ true
 unfolding clap_on_literals
 is_simple_pbx = refl

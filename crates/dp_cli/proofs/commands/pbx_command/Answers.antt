@@ -2,7 +2,7 @@ use Rattle.clap.specs.Simple.{with_subcommand}
 use Rattle.dp_cli.specs.CommandLine.{bare_app, check_app, list_app, match_app, run_app, debug_app, audit_app, reach_app, explain_app}
 use Rattle.dp_cli.proofs.commands.pbx_command.Goals as goal
 
--- each command is added to those before it
+-- each command is added to the earlier ones
 pub returns : goal.returns
 returns c =
     let step_1 = with_subcommand bare_app check_app.top in

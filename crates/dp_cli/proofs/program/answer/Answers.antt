@@ -3,7 +3,7 @@ use Rattle.dp_cli.specs.Status.{explained_status, sink}
 use Rattle.dp_cli.proofs.AnswerLemmas.{fulfils_lacks, mistaken, no_kind}
 use Rattle.dp_cli.proofs.program.answer.Goals as goal
 
--- words that ask for something are refused for want of memory alone
+-- words that are a request are refused only if memory runs out
 pub returns-in-Err-clause-fulfils : goal.returns-in-Err-clause-fulfils
 returns-in-Err-clause-fulfils g c = λ want none is.
     let memory = no_kind _ c.in-Err.error.kind none c.in-Err.ensures.kinds in

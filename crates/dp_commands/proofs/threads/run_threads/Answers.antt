@@ -6,7 +6,7 @@ use Rattle.dp_commands.specs.Threads.{Shares, shared_events}
 use Rattle.dp_commands.proofs.ThreadsLemmas.{shares-concluded}
 use Rattle.dp_commands.proofs.threads.run_threads.Goals as goal
 
--- the history is concluded, with its line written or not
+-- the history is settled, with its line written or not
 pub returns-clause-shares : goal.returns-clause-shares
 returns-clause-shares g c =
     let old = g.W.WriteTold.contents c.args.writer.now in

@@ -4,7 +4,7 @@ use Rattle.dp_commands.specs.Verbose.{first_in_force}
 use Rattle.dp_commands.proofs.VerboseLemmas.{run_refused, verbose_refused}
 use Rattle.dp_commands.proofs.verbose.run_verbose.Goals as goal
 
--- the run is refused for its dialplan
+-- the run is refused because of its dialplan
 pub returns-in-Err-clause-writes : goal.returns-in-Err-clause-writes
 returns-in-Err-clause-writes g c =
     verbose_refused g.E.Explanations.explanation_of

@@ -9,7 +9,7 @@ use Rattle.dp_commands.specs.declared.fault.PbxFault.{PbxFault}
 use Rattle.dp_commands.proofs.VerboseLemmas.{debug_refused, run_refused, verbose_debug_refused}
 use Rattle.dp_commands.proofs.verbose_debug.debug_verbose.Goals as goal
 
--- the run is refused for its dialplan, after its break was read
+-- the run is refused because of its dialplan, after its break was read
 pub returns-in-Err-clause-writes : goal.returns-in-Err-clause-writes
 unfolding debug_of
 returns-in-Err-clause-writes g c =

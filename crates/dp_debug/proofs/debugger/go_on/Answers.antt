@@ -13,7 +13,7 @@ use Rattle.dp_debug.proofs.debugger.go_on.Goals as goal
 
 pub returns-in-Some : goal.returns-in-Some
 returns-in-Some g c =
-    let first = first_at-here (with_functions g.T.AppTable.rows g.T.Functions.Functions.table) c.args.machine.now c.loop-taken.machine c.args.events.now c.args.from c.args.breaks.now c.loop-taken.taken
+    let first = first_at-here (with_functions g.T.AppTable.rows g.T.Functions.Functions.table) c.args.machine.now c.loop-taken.machine c.args.rest.events.now c.args.rest.from c.args.breaks.now c.loop-taken.taken
     c.index-events-taken.result c.loop-taken-test.true c.index-events-taken.is c.loop-taken.invariant.world in
     record {
       begun = c.loop-taken.auto.taken;
@@ -21,7 +21,7 @@ returns-in-Some g c =
       world = c.in-Some.ensures.same_world ∙ c.loop-taken.invariant.world;
       replies = c.in-Some.ensures.same_trace ∙ c.loop-taken.invariant.replies;
       none = c.loop-taken.invariant.none;
-      why = IsWhy-later _ c.args.from c.loop-taken.taken _ c.in-Some.why c.loop-taken.auto.taken
+      why = IsWhy-later _ c.args.rest.from c.loop-taken.taken _ c.in-Some.why c.loop-taken.auto.taken
           (subst (λ f. IsWhy 1 0 0 f c.in-Some.why) (sym first) c.in-Some.ensures.why);
     }
 
@@ -29,8 +29,8 @@ pub loop-taken-preserved : goal.loop-taken-preserved
 loop-taken-preserved g c =
     let meanings = with_functions g.T.AppTable.rows g.T.Functions.Functions.table in
     let w = c.args.machine.now in
-    let events = c.args.events.now in
-    let from = c.args.from in
+    let events = c.args.rest.events.now in
+    let from = c.args.rest.from in
     let n = c.loop-taken.taken in
     let event = c.index-events-taken.result in
     let so_far = slice_range events from n in

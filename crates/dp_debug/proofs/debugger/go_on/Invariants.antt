@@ -7,7 +7,7 @@ use Rattle.dp_debug.proofs.debugger.go_on.Given as goal
 
 abbrev pub invariant-loop-taken : goal.invariant-loop-taken
 invariant-loop-taken g l = record {
-  world : l.machine ≡ world_after (with_functions g.T.AppTable.rows g.T.Functions.Functions.table) l.fn.machine (slice_range l.events l.from l.taken);
-  replies : l.trace.items ≡ l.fn.trace.items ++ replies_to (with_functions g.T.AppTable.rows g.T.Functions.Functions.table) l.fn.machine (slice_range l.events l.from l.taken);
-  none : (number : ℕ) → l.from ≤ number → number < l.taken → first_at (with_functions g.T.AppTable.rows g.T.Functions.Functions.table) l.fn.machine l.events l.from l.breaks number ≡ None;
+  world : l.machine ≡ world_after (with_functions g.T.AppTable.rows g.T.Functions.Functions.table) l.fn.machine (slice_range l.events l.rest.from l.taken);
+  replies : l.trace.items ≡ l.fn.trace.items ++ replies_to (with_functions g.T.AppTable.rows g.T.Functions.Functions.table) l.fn.machine (slice_range l.events l.rest.from l.taken);
+  none : (number : ℕ) → l.rest.from ≤ number → number < l.taken → first_at (with_functions g.T.AppTable.rows g.T.Functions.Functions.table) l.fn.machine l.events l.rest.from l.breaks number ≡ None;
 }

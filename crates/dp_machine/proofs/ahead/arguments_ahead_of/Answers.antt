@@ -11,7 +11,7 @@ prepared_entry-prepared-requires g c =
     subst (λ plan. IsSome (entry_at plan c.in-Some.id)) (sym c.in-Some.ensures.same)
     (ahead_stands c.args.channel.now.phase c.args.exchange.now.plan c.args.channel.now c.in-Some.id c.in-Some.ensures.entry)
 
--- the entry is the one that is located there
+-- the entry is the one that is found there
 pub returns-clause-arguments : goal.returns-clause-arguments
 returns-clause-arguments g c channels =
     ap Some c.in_ok-text.ensures

@@ -4,7 +4,7 @@ use Rattle.dp_machine.specs.Seen.{arguments_seen}
 use Rattle.dp_machine.specs.steps.Templates.{AreTemplate}
 use Rattle.dp_machine.proofs.seen.expand_arguments.Goals as goal
 
--- the pieces are those of the arguments, and are read in what the channel sees
+-- the pieces are those of the arguments, and are expanded with what the channel sees
 pub returns-in_ok-bytes-in-Read : goal.returns-in_ok-bytes-in-Read
 unfolding arguments_seen
 returns-in_ok-bytes-in-Read g c =

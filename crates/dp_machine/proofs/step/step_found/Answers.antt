@@ -16,7 +16,7 @@ run_entry-requires-clause-run g c =
     ready_may_run c.args.exchange.now.shared c.args.number c.args.channel.now c.requires.act c.requires.ready
     (within_most c.args.exchange.now.plan c.args.channel.now.place c.args.id c.prepared_entry-prepared.result.entry.now c.requires.found c.prepared_entry-prepared.ensures.entry c.get.ensures.range)
 
--- its application leaves the channel's place
+-- its application does not change the channel's place
 pub go-requires : goal.go-requires
 go-requires g c =
     subst (λ (p : Place). p.priority ≤ most_priority) (ap (λ (a : Applied). a.channel.place) c.in_ok-going.ensures.ok)

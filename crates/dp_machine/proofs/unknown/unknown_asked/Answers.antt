@@ -3,7 +3,7 @@ use Rattle.dp_vars.specs.Unknown.{any_text}
 use Rattle.dp_machine.specs.Unknown.{unknown_asked}
 use Rattle.dp_machine.proofs.unknown.unknown_asked.Goals as goal
 
--- the table is asked in what the channel sees, with the arguments as they are there
+-- the table is asked what is unknown, given what the channel sees and the expanded arguments
 pub returns : goal.returns
 unfolding unknown_asked
 returns g c =

@@ -4,7 +4,7 @@ use Rattle.dp_machine.specs.Unknown.{unknown_seen}
 use Rattle.dp_machine.specs.steps.Templates.{AreTemplate}
 use Rattle.dp_machine.proofs.unknown.unknown_group.Goals as goal
 
--- the pieces are those of the arguments, and are read in what the channel sees
+-- the pieces are those of the arguments, and are expanded with what the channel sees
 pub returns-in_ok-unknown-in-Read : goal.returns-in_ok-unknown-in-Read
 unfolding unknown_seen
 returns-in_ok-unknown-in-Read g c =

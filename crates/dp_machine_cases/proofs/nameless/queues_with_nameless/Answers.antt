@@ -1,4 +1,4 @@
--- Queues that were loaded are at rest, and so they are with one member more.
+-- Loaded queues are at rest, and so they are with one more member.
 use Rattle.std.proofs.Common.{◌≡◌, ℕ, Bool, true, false, List, [], ◌∷◌, ◌++◌, Option, Some, None, refl, subst, length, nat_lt, if◌then◌else◌, codes}
 use Rattle.std.proofs.lemmas.List.Elements.{All-push}
 use Rattle.std.specs.List.{All}
@@ -13,7 +13,7 @@ use Rattle.dp_queue.specs.declared.change.Added.TheVariants.{MemberAlready, Adde
 use Rattle.dp_queue.proofs.ChangeLemmas.{all-changed_at}
 use Rattle.dp_machine_cases.proofs.nameless.queues_with_nameless.Goals as goal
 
--- each agent is idle, with one that is new too
+-- each agent is idle, and so is a new one
 with_agent-idle : (agents : List Agent) (name : List ℕ) → All (λ agent. agent.state ≡ Idle) agents → All (λ agent. agent.state ≡ Idle) (with_agent agents name)
 with_agent-idle agents name idle = by (nat_lt (agent_number agents name) (length agents))
   where

@@ -1,4 +1,4 @@
-use Rattle.std.proofs.Common.{◌≡◌, ◌++◌, List, ap, ◌∙◌}
+use Rattle.std.proofs.Common.{◌++◌, List, ap, ◌∙◌}
 use Rattle.std.specs.List.{flat_map}
 use Rattle.dp_notices.specs.Loading.{LoadedOf, loading_now, note_at_source}
 use Rattle.dp_notices.specs.declared.line_notices.NoticeAt.{NoticeAt}

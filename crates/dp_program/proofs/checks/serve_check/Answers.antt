@@ -9,7 +9,7 @@ returns-in_err-plan-clause-serves g c =
     rw (p.1, p.2) (report_refused c.args.file.now (g.F.ReadFiles.source_at c.args.files.now c.args.file.now) (check_by c.args.explains c.args.file.now) (g.W.WriteTold.contents c.args.output.now) _
     c.in_err-plan.ensures.path c.in_err-plan.ensures.read)
 
--- the text that was read is the one that is reported on
+-- the report is on the text that was read
 pub returns-clause-serves : goal.returns-clause-serves
 returns-clause-serves g c =
     report_read c.args.file.now (g.F.ReadFiles.source_at c.args.files.now c.args.file.now) (check_by c.args.explains c.args.file.now) (g.W.WriteTold.contents c.args.output.now) (g.W.WriteTold.contents c.check_by.new.output) c.in_ok-plan.plan.items

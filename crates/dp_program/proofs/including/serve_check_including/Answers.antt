@@ -5,4 +5,4 @@ use Rattle.dp_program.proofs.including.serve_check_including.Goals as goal
 pub returns-clause-serves : goal.returns-clause-serves
 returns-clause-serves g c =
     let read = c.read_folder_plan-read.ensures in
-    (read.0, read.1, λ has agrees. c.check_read.ensures.writes (plan_of has c.args.file.now) (read.2 has agrees))
+    (read.0, read.1, λ has agrees. c.check_read.ensures.writes (plan_of c.args.moment has c.args.file.now) (read.2 has agrees))

@@ -16,7 +16,7 @@ returns-in_err-queues-clause-serves g c =
     rw (p.1, p.2) (reach_refused_queues (g.F.ReadFiles.source_at c.args.files.now) (question_of c.args.question.now) c.args.explains (g.W.WriteTold.contents c.args.output.now) _ _
     c.in_err-queues.ensures.path c.in_ok-plan.ensures.read c.in_err-queues.ensures.read)
 
--- the texts that were read are those that are reported on
+-- the report is on the texts that were read
 pub returns-clause-serves : goal.returns-clause-serves
 returns-clause-serves g c =
     reach_read (g.F.ReadFiles.source_at c.args.files.now) (question_of c.args.question.now) c.args.explains (g.W.WriteTold.contents c.args.output.now)

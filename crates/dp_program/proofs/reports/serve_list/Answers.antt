@@ -8,7 +8,7 @@ returns-in_err-plan-clause-serves g c =
     let p = err_from_is_err_and c.from_residual.result c.from_residual.ensures.1 in
     rw (p.1, p.2) (report_refused c.args.file.now (g.F.ReadFiles.source_at c.args.files.now c.args.file.now) list_of (g.W.WriteTold.contents c.args.output.now) _ c.in_err-plan.ensures.path c.in_err-plan.ensures.read)
 
--- the text that was read is the one that is reported on
+-- the listing is of the text that was read
 pub returns-clause-serves : goal.returns-clause-serves
 returns-clause-serves g c =
     report_read c.args.file.now (g.F.ReadFiles.source_at c.args.files.now c.args.file.now) list_of (g.W.WriteTold.contents c.args.output.now) (g.W.WriteTold.contents c.list_plan.new.writer) c.in_ok-plan.plan.items

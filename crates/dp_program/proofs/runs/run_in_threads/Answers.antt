@@ -2,7 +2,7 @@ use Rattle.std.proofs.Common.{Ok, max, subst}
 use Rattle.dp_commands.specs.Threads.{Shares}
 use Rattle.dp_program.proofs.runs.run_in_threads.Goals as goal
 
--- the texts that are lent are those that are held
+-- the borrowed texts are those of the files
 pub returns-clause-shares : goal.returns-clause-shares
 returns-clause-shares g c =
     let old = g.W.WriteTold.contents c.args.output.now in

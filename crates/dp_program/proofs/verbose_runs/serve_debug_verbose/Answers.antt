@@ -9,7 +9,7 @@ returns-in_err-texts-clause-serves g c =
     rw (p.1, p.2) (debug_verbose_refused (paths_of c.args.run.now) (sources_of (g.F.ReadFiles.source_at c.args.files.now) (paths_of c.args.run.now)) c.args.held.now
     (g.W.WriteTold.contents c.args.output.now) _ c.in_err-texts.ensures.read)
 
--- the texts that were read are those that are run
+-- the run is of the texts that were read
 pub returns-clause-serves : goal.returns-clause-serves
 returns-clause-serves g c =
     debug_verbose_read (paths_of c.args.run.now) (sources_of (g.F.ReadFiles.source_at c.args.files.now) (paths_of c.args.run.now)) c.args.held.now (g.W.WriteTold.contents c.args.output.now)

@@ -8,7 +8,7 @@ returns-in_err-texts-clause-serves g c =
     let p = err_from_is_err_and c.from_residual.result c.from_residual.ensures.1 in
     rw (p.1, p.2) (run_verbose_refused (paths_of c.args.run.now) (sources_of (g.F.ReadFiles.source_at c.args.files.now) (paths_of c.args.run.now)) (g.W.WriteTold.contents c.args.output.now) _ c.in_err-texts.ensures.read)
 
--- the texts that were read are those that are run
+-- the run is of the texts that were read
 pub returns-clause-serves : goal.returns-clause-serves
 returns-clause-serves g c =
     run_verbose_read (paths_of c.args.run.now) (sources_of (g.F.ReadFiles.source_at c.args.files.now) (paths_of c.args.run.now)) (g.W.WriteTold.contents c.args.output.now)

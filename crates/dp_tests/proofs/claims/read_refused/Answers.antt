@@ -3,7 +3,7 @@ use Rattle.dp_tests.specs.Expectations.{refused_claim}
 use Rattle.dp_tests.specs.declared.expectation.Claim.{Claim}
 use Rattle.dp_tests.proofs.claims.read_refused.Goals as goal
 
--- two words or more name no refusal
+-- two or more words name no refusal
 too_many : (words : List (Bor (List ℕ))) → 2 ≤ length words → ◌≡◌ {A = Option Claim} None (refused_claim (map (λ word. word.now) words))
 too_many [] many = absurd (omega (arith, many))
 too_many (word ∷ []) many = absurd (omega (arith, many))

@@ -2,7 +2,7 @@ use Rattle.std.proofs.Common.{◌≡◌, ◌<◌, ◌≤◌, ◌-◌, ◌+◌, l
 use Rattle.dp_trie.specs.Tree.{nodes_past}
 use Rattle.dp_trie.proofs.link.end_of.Given as goal
 
--- what the node passes over is what it passes over from here on
+-- what the node skips is what it skips from here on
 abbrev pub invariant-loop-node : goal.invariant-loop-node
 invariant-loop-node l = record {
   later : l.place < l.end;

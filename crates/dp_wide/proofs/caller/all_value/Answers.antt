@@ -1,4 +1,4 @@
--- The text is made of the name and of the number that were found.
+-- The text is made from the name and the number that were found.
 use Rattle.std.proofs.Common.{◌∙◌}
 use Rattle.dp_wide.specs.Caller.{caller_text}
 use Rattle.dp_wide.proofs.caller.all_value.Goals as goal

@@ -5,7 +5,7 @@ use Rattle.dp_wide.specs.Requests.{parts_asked}
 use Rattle.dp_wide.specs.steps.PartsLeft.{parts_left}
 use Rattle.dp_wide.proofs.requests.parts_asked.Given as goal
 
--- the names before ask nothing
+-- the earlier names ask nothing
 abbrev pub invariant-loop-rest : goal.invariant-loop-rest
 invariant-loop-rest l = parts_asked (parts_left l.rest) ≡ parts_asked (parts_of l.fn.names)
 

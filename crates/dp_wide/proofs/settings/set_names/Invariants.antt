@@ -6,7 +6,7 @@ use Rattle.dp_wide.specs.Settings.{settable_of, with_each, with_settable}
 use Rattle.dp_wide.specs.steps.PartsLeft.{parts_left}
 use Rattle.dp_wide.proofs.settings.set_names.Given as goal
 
--- the names that are left, set to the values that are left, give what all of them give at first
+-- setting the remaining names to the remaining values gives what all of them give at first
 abbrev pub invariant-loop-rest : goal.invariant-loop-rest
 invariant-loop-rest l =
     (with_settable (cell_now l.cell) (with_each (settable_of (cell_now l.cell)) (parts_left l.rest) (parts_left l.values))

@@ -7,7 +7,7 @@ use Rattle.dp_wide.specs.Settings.{settable_of, with_settable, with_text}
 use Rattle.dp_wide.specs.steps.PartsLeft.{parts_left}
 use Rattle.dp_wide.proofs.settings.set_texts.Given as goal
 
--- the settings that are left give what all of them give at first
+-- the remaining settings give what all of them give at first
 abbrev pub invariant-loop-rest : goal.invariant-loop-rest
 invariant-loop-rest l =
     (with_settable (cell_now l.cell) (fold with_text (settable_of (cell_now l.cell)) (map trim (parts_left l.rest)))

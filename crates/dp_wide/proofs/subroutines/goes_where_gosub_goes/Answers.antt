@@ -1,4 +1,4 @@
--- Both end the call where there is no target, and else go to the same one.
+-- Both end the call if there is no target, and otherwise go to the same one.
 use Rattle.std.proofs.Common.{◌≡◌, ℕ, ◌-◌, List, Option, Some, None, length, take, refl}
 use Rattle.dp_conf.specs.Levels.{arguments_of}
 use Rattle.dp_app.specs.Cells.{CellOf}

@@ -6,7 +6,7 @@ use Rattle.dp_wide_runs.specs.declared.wide_finding.WideFinding.TheVariants.{NoF
 use Rattle.dp_wide_runs.proofs.FunctionsLemmas.{functions_next}
 use Rattle.dp_wide_runs.proofs.functions_called.push_names.Goals as goal
 
--- a text of no length
+-- an empty text
 nothing : (text : List ℕ) → 0 ≡ length text → [] ≡ text
 nothing [] none = refl
 nothing (byte ∷ text) none = absurd cc

@@ -5,7 +5,7 @@ use Rattle.dp_wide_runs.specs.declared.wide_turn.WideTurn.{WideTurn}
 use Rattle.dp_wide_runs.proofs.BesideLemmas.{begun_beside}
 use Rattle.dp_wide_runs.proofs.run.run_begun.Goals as goal
 
--- the machine and the lines are those of the run that has begun, and nothing has stopped before
+-- the machine and the lines are those of the run that has begun, and nothing has stopped yet
 pub returns-clause-writes : goal.returns-clause-writes
 returns-clause-writes g c =
     let lines : c.deref.result.now ≡ c.args.begun.lines.items = c.deref.ensures.value ∙ ap (λ (kept : Vec (ScriptLine WideTurn)). kept.items) c.into_parts-machine.ensures.lines in

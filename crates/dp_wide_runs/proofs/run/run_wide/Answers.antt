@@ -9,7 +9,7 @@ returns-clause-writes g c =
     writes_plainly _ (run_of_texts c.args.texts) (g.W.WriteTold.contents c.args.writer.now) (g.W.WriteTold.contents c.run_texts.new.writer) c.run_texts.result
     c.run_texts.ensures.writes
 
--- and so a run that ended with status 0 is plain
+-- so a run that ended with status 0 is plain
 pub returns-clause-plain : goal.returns-clause-plain
 returns-clause-plain g c =
     plain_ending (run_of_texts c.args.texts) (g.W.WriteTold.contents c.args.writer.now) (g.W.WriteTold.contents c.run_texts.new.writer) c.run_texts.result

@@ -6,7 +6,7 @@ use Rattle.dp_wide_runs.specs.Verbose.{above_refusal, above_turn, in_force_after
 use Rattle.dp_wide_runs.proofs.BesideLemmas.{plain_by_status, plan_refused}
 use Rattle.dp_wide_runs.proofs.verbose.run_wide_verbose.Goals as goal
 
--- the run is refused for its dialplan
+-- the run is refused because of its dialplan
 pub returns-in-Err-clause-writes : goal.returns-in-Err-clause-writes
 returns-in-Err-clause-writes g c =
     plan_refused in_force_after (above_turn g.E.Explanations.explanation_of) (above_refusal g.E.Explanations.explanation_of)

@@ -20,7 +20,7 @@ returns-in_err-refused-clause-streams g c =
     (g.W.WriteTold.contents c.loop-turn.writer) (g.W.WriteTold.contents c.take_turn.new.writer) c.args.self.now c.loop-turn.self c.take_turn.new.self c.loop-turn.refused
     (replicate left x) c.in_err-refused.field-0.0 whole c.loop-turn.invariant.streams c.in_err-refused.ensures.streams)
 
--- a turn goes on after the others
+-- a turn continues after the others
 pub loop-turn-preserved : goal.loop-turn-preserved
 loop-turn-preserved g c =
     let x = c.args.line.now.turn in

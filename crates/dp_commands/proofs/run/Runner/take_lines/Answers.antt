@@ -28,7 +28,7 @@ returns-in_err-refused-clause-streams g c =
     (g.W.WriteTold.contents c.loop-line.writer) (g.W.WriteTold.contents c.take_line.new.writer) c.args.self.now c.loop-line.self c.take_line.new.self c.loop-line.refused
     rest c.in_err-refused.field-0.0 whole c.loop-line.invariant.streams c.in_err-refused.ensures.streams)
 
--- a line goes on after the others
+-- a line continues after the others
 pub loop-line-preserved : goal.loop-line-preserved
 loop-line-preserved g c =
     let lines = c.args.lines.now in

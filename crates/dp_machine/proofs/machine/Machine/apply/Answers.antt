@@ -18,7 +18,7 @@ returns-clause-good g c =
     (world_in c.apply_to-reply.new.exchange c.apply_to-reply.new.channels.items) c.args.event c.apply_to-reply.result g.T.AppTable.lawful
     c.self.invariant c.apply_to-reply.ensures.makes c.apply_to-reply.ensures.sound c.show_good.ensures
 
--- a refused event leaves the world as it was
+-- a refused event leaves the world unchanged
 pub returns-clause-unchanged : goal.returns-clause-unchanged
 returns-clause-unchanged g c =
     let before : World = world_in c.self.inside.exchange c.self.inside.channels.items in

@@ -1,0 +1,11 @@
+use Rattle.dp_notices.proofs.PlainLemmas.{macros_stand, no_clock, times_stand}
+use Rattle.dp_notices.proofs.preparation.show_plain_lines_stand.Goals as goal
+
+pub returns-clause-times : goal.returns-clause-times
+returns-clause-times c = times_stand
+
+pub returns-clause-clock : goal.returns-clause-clock
+returns-clause-clock c = no_clock
+
+pub returns-clause-macros : goal.returns-clause-macros
+returns-clause-macros c = macros_stand

@@ -1,0 +1,11 @@
+//! The options of a request that many commands have.
+
+/// The options of a request.
+#[derive(Clone, Copy, Debug, PartialEq, Eq)]
+pub struct Options<'a> {
+    /// Whether to explain each fault, and each note of `check`: the flag `--explain`.
+    pub explains: bool,
+    /// The word of `--clock`, such as `fri 2026-11-27 09:30`: the moment by which includes with times are read, and with which a run begins.
+    /// A word that writes no moment has no effect.
+    pub clock: Option<&'a str>,
+}

@@ -1,0 +1,4 @@
+mod CoursesLemmas
+mod ReplaysLemmas
+mod SettlingLemmas
+mod cases

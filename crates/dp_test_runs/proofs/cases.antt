@@ -1,0 +1,3 @@
+-- Worked cases, computed on the definitions themselves.
+mod Tap
+mod Verdicts

@@ -1,0 +1,9 @@
+pub mod Courses
+pub mod Ran
+pub mod Replays
+pub mod Results
+pub mod Settling
+pub mod Shown
+pub mod Tap
+pub mod Tests
+pub mod Verdicts

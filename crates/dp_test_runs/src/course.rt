@@ -1,0 +1,177 @@
+//! The course of a test.
+ghost use Rattle.std.specs.Prelude.{◌≡◌};
+ghost use Rattle.dp_test_runs.specs.Courses as spec;
+
+use crate::items::Items;
+use crate::named_text::{NamedText, text_named};
+use crate::ran::{RanEntries, give};
+use crate::settling::settle;
+use crate::turns::{event_given, refusal_without};
+use dp_commands::ScriptLine;
+use dp_machine::{Event, Machine, NoMemory, Refusal, Reply};
+use dp_wide::WideApps;
+use dp_wide_runs::WideTurn;
+use std::alloc::Global;
+
+/// What is known at a line of a test: the machine, what ran so far, why the last event line was refused if it was, the channel that was last
+/// offered to agents, and whether the steps after an event found no end.
+pub(crate) struct Course {
+    pub(crate) machine: Machine<WideApps>,
+    pub(crate) ran: RanEntries,
+    pub(crate) refusal: Option<Refusal>,
+    pub(crate) offered: Option<u32>,
+    pub(crate) is_endless: bool,
+}
+
+impl Drop for Course {
+    fn drop(self) {
+        let Course {
+            machine: _,
+            ran: _,
+            refusal: _,
+            offered: _,
+            is_endless: _,
+        } = self;
+    }
+}
+
+/// The refusal that a reply is.
+fn refusal_of(reply: Reply) -> Option<Refusal>
+    ensures { result ≡ spec.refusal_of reply }
+{
+    match reply {
+        Reply::Refused(refusal) => Some(refusal),
+        Reply::Started(_)
+        | Reply::Ran(_)
+        | Reply::Invalid
+        | Reply::NoEntry
+        | Reply::Offered { .. }
+        | Reply::Done => None,
+    }
+}
+
+/// The channel that a reply says was offered to agents.
+fn offered_by(reply: Reply) -> Option<u32>
+    ensures { result ≡ spec.offered_by reply }
+{
+    match reply {
+        Reply::Offered { channel, rung: _ } => Some(channel),
+        Reply::Started(_)
+        | Reply::Ran(_)
+        | Reply::Invalid
+        | Reply::NoEntry
+        | Reply::Done
+        | Reply::Refused(_) => None,
+    }
+}
+
+impl Course {
+    ghost use Rattle.std.specs.Prelude.{◌≡◌, OnOk, Some, fold};
+    ghost use Rattle.std.specs.Option.{option_map};
+    ghost use Rattle.dp_commands.specs.Script.{line_turns, turns_of};
+    ghost use Rattle.dp_test_runs.specs.Courses as spec;
+    ghost use Rattle.dp_test_runs.specs.Tests as tests;
+
+    /// The course at the beginning of a test.
+    pub(crate) fn beginning(alloc: Global, machine: Machine<WideApps>) -> Self
+        ensures { result ≡ tests.beginning machine }
+    {
+        Course {
+            machine,
+            ran: Items::none(alloc),
+            refusal: None,
+            offered: None,
+            is_endless: false,
+        }
+    }
+
+    /// The entries that ran.
+    pub(crate) fn into_ran(self) -> RanEntries
+        ensures { result ≡ self.ran }
+    {
+        let Course {
+            machine: _,
+            ran,
+            refusal: _,
+            offered: _,
+            is_endless: _,
+        } = self;
+        ran
+    }
+
+    /// Gives the machine an event, and settles it.
+    fn take_event(&mut self, alloc: Global, event: Event) -> Result<(), NoMemory>
+        ensures { OnOk result (self.new ≡ spec.after_event self.old event) }
+    {
+        let reply = give(alloc, &mut self.machine, event, &mut self.ran)?;
+        let is_endless = settle(alloc, &mut self.machine, &mut self.ran)?;
+        self.refusal = self.refusal.or(refusal_of(reply));
+        self.offered = offered_by(reply).or(self.offered);
+        self.is_endless = self.is_endless || is_endless;
+        Ok(())
+    }
+
+    /// Takes a turn.
+    fn take_turn(&mut self, alloc: Global, turn: &WideTurn) -> Result<(), NoMemory>
+        ensures { OnOk result (self.new ≡ spec.after_turn self.old turn.now) }
+    {
+        let event = event_given(alloc, &mut self.machine, turn)?;
+        match event {
+            Some(event) => self.take_event(alloc, event),
+            None => {
+                self.refusal = self.refusal.or(refusal_without(&self.machine, turn));
+                Ok(())
+            }
+        }
+    }
+
+    /// Takes the turn of a line as often as the line says.
+    fn take_line(&mut self, alloc: Global, line: &ScriptLine<WideTurn>) -> Result<(), NoMemory>
+        ensures { OnOk result (self.new ≡ fold spec.after_turn self.old (line_turns line.now)) }
+    {
+        for _turn in 0..line.count {
+            self.take_turn(alloc, &line.turn)?;
+        }
+        Ok(())
+    }
+
+    /// Takes the turns of lines, one after another.
+    fn take_lines(&mut self, alloc: Global, lines: &[ScriptLine<WideTurn>]) -> Result<(), NoMemory>
+        ensures { OnOk result (self.new ≡ fold spec.after_turn self.old (turns_of lines.now)) }
+    {
+        for line in lines {
+            self.take_line(alloc, line)?;
+        }
+        Ok(())
+    }
+
+    /// Takes an event line with these turns.
+    pub(crate) fn take_turns(
+        &mut self,
+        alloc: Global,
+        lines: &[ScriptLine<WideTurn>],
+    ) -> Result<(), NoMemory>
+        ensures { OnOk result (self.new ≡ spec.after_turns self.old lines.now) }
+    {
+        self.refusal = None;
+        self.take_lines(alloc, lines)
+    }
+
+    /// Takes a `reload` line, given the files that the caller has read.
+    pub(crate) fn take_reload(
+        &mut self,
+        alloc: Global,
+        files: &[NamedText],
+        name: &[u8],
+    ) -> Result<(), NoMemory>
+        ensures { OnOk result (self.new ≡ spec.after_reload self.old (spec.text_named files.now name.now)) }
+    {
+        let Some(text) = text_named(files, name) else {
+            self.refusal = Some(Refusal::BadPlan);
+            return Ok(());
+        };
+        self.refusal = None;
+        let text = text.clone()?;
+        self.take_event(alloc, Event::Reload { text })
+    }
+}

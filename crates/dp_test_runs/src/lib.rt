@@ -1,0 +1,30 @@
+//! Runs of the tests of dialplans: the events that a test gives the machine with the steps that follow each, and whether what it expects
+//! comes true.
+#![tactic(auto)]
+
+mod course;
+mod failure;
+mod items;
+pub mod laws;
+mod lines;
+mod named_text;
+mod queue_claims;
+mod ran;
+mod ran_claims;
+mod settling;
+mod shown;
+mod state_claims;
+mod tap;
+mod test_run;
+mod turns;
+mod value_claims;
+mod verdict;
+
+pub use dp_commands::PbxFault;
+pub use dp_plan::NoMemory;
+pub use failure::{Failure, FailureKind};
+pub use items::Items;
+pub use named_text::NamedText;
+pub use ran::{RanEntries, RanEntry};
+pub use tap::{Point, Report, tap_text};
+pub use test_run::{TestResult, TestTexts, run_test};

@@ -1,0 +1,244 @@
+//! The results of tests as text, in the Test Anything Protocol, version 14.
+ghost use Rattle.std.specs.Prelude.{◌≡◌, ◌++◌, ◌∷◌, [], IfOk, OnOk, Some, codes, map};
+ghost use Rattle.std.specs.List.{flat_map};
+ghost use Rattle.std.specs.Option.{option_map};
+ghost use Rattle.dp_test_runs.specs.Tap as spec;
+
+use crate::items::Items;
+use dp_plan::{NoMemory, Text};
+use itoa::Buffer;
+use std::alloc::Global;
+
+/// What is reported of a test that failed: its place, `FILE:LINE`, what was expected, what came of it, and the last entries that ran.
+#[derive(Drop)]
+pub struct Report {
+    pub at: Text,
+    pub expected: Text,
+    pub got: Text,
+    pub trace: Items<Text>,
+}
+
+/// A test with its name, and its report if it failed.
+#[derive(Drop)]
+pub struct Point {
+    pub name: Text,
+    pub report: Option<Report>,
+}
+
+/// Adds a line with this text.
+fn push_line(out: &mut Vec<u8>, text: &[u8]) -> Result<(), NoMemory>
+    ensures { OnOk result (out.new.items ≡ out.old.items ++ spec.line_of text.now) }
+{
+    out.extend_from_slice(text)?;
+    out.push(b'\n')?;
+    Ok(())
+}
+
+/// Adds a byte between single quotes.
+fn push_quoted_byte(out: &mut Vec<u8>, byte: u8) -> Result<(), NoMemory>
+    ensures { OnOk result (out.new.items ≡ out.old.items ++ spec.quoted_byte byte) }
+{
+    if byte == b'\'' {
+        out.push(b'\'')?;
+    }
+    out.push(byte)?;
+    Ok(())
+}
+
+/// Adds the bytes of a text between single quotes.
+fn push_quoted_bytes(out: &mut Vec<u8>, text: &[u8]) -> Result<(), NoMemory>
+    ensures { OnOk result (out.new.items ≡ out.old.items ++ flat_map spec.quoted_byte text.now) }
+{
+    for byte in text {
+        push_quoted_byte(out, *byte)?;
+    }
+    Ok(())
+}
+
+/// Adds a text in single quotes.
+fn push_quoted(out: &mut Vec<u8>, text: &[u8]) -> Result<(), NoMemory>
+    ensures { OnOk result (out.new.items ≡ out.old.items ++ spec.quoted text.now) }
+{
+    out.push(b'\'')?;
+    push_quoted_bytes(out, text)?;
+    out.push(b'\'')?;
+    Ok(())
+}
+
+/// Adds a byte of a name.
+fn push_name_byte(out: &mut Vec<u8>, byte: u8) -> Result<(), NoMemory>
+    ensures { OnOk result (out.new.items ≡ out.old.items ++ spec.name_byte byte) }
+{
+    if byte == b'#' || byte == b'\\' {
+        out.push(b'\\')?;
+    }
+    out.push(byte)?;
+    Ok(())
+}
+
+/// Adds a name.
+fn push_name(out: &mut Vec<u8>, name: &[u8]) -> Result<(), NoMemory>
+    ensures { OnOk result (out.new.items ≡ out.old.items ++ flat_map spec.name_byte name.now) }
+{
+    for byte in name {
+        push_name_byte(out, *byte)?;
+    }
+    Ok(())
+}
+
+/// Adds a key and its text, on a line of its own.
+fn push_key_line(out: &mut Vec<u8>, key: &[u8], text: &[u8]) -> Result<(), NoMemory>
+    ensures { OnOk result (out.new.items ≡ out.old.items ++ spec.key_line key.now text.now) }
+{
+    out.extend_from_slice(b"  ")?;
+    out.extend_from_slice(key)?;
+    out.extend_from_slice(b": ")?;
+    push_quoted(out, text)?;
+    out.push(b'\n')?;
+    Ok(())
+}
+
+/// Adds a line of a trace.
+fn push_trace_line(out: &mut Vec<u8>, text: &[u8]) -> Result<(), NoMemory>
+    ensures { OnOk result (out.new.items ≡ out.old.items ++ spec.trace_line text.now) }
+{
+    out.extend_from_slice(b"    - ")?;
+    push_quoted(out, text)?;
+    out.push(b'\n')?;
+    Ok(())
+}
+
+/// Adds lines of a trace.
+fn push_each_trace_line(out: &mut Vec<u8>, texts: &[Text]) -> Result<(), NoMemory>
+    ensures { OnOk result (out.new.items ≡ out.old.items ++ flat_map spec.trace_line texts.now) }
+{
+    for text in texts {
+        push_trace_line(out, text.bytes())?;
+    }
+    Ok(())
+}
+
+/// Adds the lines of a trace below their key.
+fn push_trace_lines(out: &mut Vec<u8>, texts: &[Text]) -> Result<(), NoMemory>
+    ensures { OnOk result (out.new.items ≡ out.old.items ++ spec.trace_lines texts.now) }
+{
+    if texts.is_empty() {
+        return push_line(out, b"  trace: []");
+    }
+    push_line(out, b"  trace:")?;
+    push_each_trace_line(out, texts)
+}
+
+/// Adds the place, what was expected, and what came of it.
+fn push_keys(out: &mut Vec<u8>, report: &Report) -> Result<(), NoMemory>
+    ensures { OnOk result (out.new.items ≡ out.old.items ++ spec.keys_text report.now) }
+{
+    push_key_line(out, b"at", report.at.bytes())?;
+    push_key_line(out, b"expected", report.expected.bytes())?;
+    push_key_line(out, b"got", report.got.bytes())?;
+    Ok(())
+}
+
+/// Adds the first lines of the block below a test that failed.
+fn push_block_head(out: &mut Vec<u8>, report: &Report) -> Result<(), NoMemory>
+    ensures { OnOk result (out.new.items ≡ out.old.items ++ spec.block_head report.now) }
+{
+    push_line(out, b"  ---")?;
+    push_keys(out, report)?;
+    Ok(())
+}
+
+/// Adds its last lines.
+fn push_block_end(out: &mut Vec<u8>, report: &Report) -> Result<(), NoMemory>
+    ensures { OnOk result (out.new.items ≡ out.old.items ++ spec.block_end report.now) }
+{
+    push_trace_lines(out, report.trace.as_slice())?;
+    push_line(out, b"  ...")?;
+    Ok(())
+}
+
+/// Adds the block below a test that failed.
+fn push_block(out: &mut Vec<u8>, report: &Report) -> Result<(), NoMemory>
+    ensures { OnOk result (out.new.items ≡ out.old.items ++ spec.block_text report.now) }
+{
+    push_block_head(out, report)?;
+    push_block_end(out, report)?;
+    Ok(())
+}
+
+/// Adds the line of a test with a number, after the word that says whether it passes.
+fn push_point_line(
+    out: &mut Vec<u8>,
+    word: &[u8],
+    number: usize,
+    name: &[u8],
+) -> Result<(), NoMemory>
+    ensures { OnOk result (out.new.items ≡ out.old.items ++ spec.point_line word.now number name.now) }
+{
+    let mut buffer = Buffer::new();
+    out.extend_from_slice(word)?;
+    out.extend_from_slice(b" ")?;
+    out.extend_from_slice(buffer.format(number).as_bytes())?;
+    out.extend_from_slice(b" - ")?;
+    push_name(out, name)?;
+    out.push(b'\n')?;
+    Ok(())
+}
+
+/// Adds the lines of a test with a number.
+fn push_point(out: &mut Vec<u8>, number: usize, point: &Point) -> Result<(), NoMemory>
+    ensures { OnOk result (out.new.items ≡ out.old.items ++ spec.point_by number point.now.name point.now.report) }
+{
+    match &point.report {
+        None => push_point_line(out, b"ok", number, point.name.bytes()),
+        Some(report) => {
+            push_point_line(out, b"not ok", number, point.name.bytes())?;
+            push_block(out, report)
+        }
+    }
+}
+
+/// Adds the lines of tests, numbered from 1.
+fn push_points(out: &mut Vec<u8>, points: &[Point]) -> Result<(), NoMemory>
+    ensures { OnOk result (out.new.items ≡ out.old.items ++ spec.points_from 1 points.now) }
+{
+    let mut number: usize = 0;
+    for point in points {
+        number += 1;
+        push_point(out, number, point)?;
+    }
+    Ok(())
+}
+
+/// Adds how many tests there are.
+fn push_count(out: &mut Vec<u8>, count: usize) -> Result<(), NoMemory>
+    ensures { OnOk result (out.new.items ≡ out.old.items ++ spec.count_text count) }
+{
+    let mut buffer = Buffer::new();
+    out.extend_from_slice(b"1..")?;
+    out.extend_from_slice(buffer.format(count).as_bytes())?;
+    out.push(b'\n')?;
+    Ok(())
+}
+
+/// Adds the version and the plan.
+fn push_plan(out: &mut Vec<u8>, count: usize) -> Result<(), NoMemory>
+    ensures { OnOk result (out.new.items ≡ out.old.items ++ spec.plan_text count) }
+{
+    push_line(out, b"TAP version 14")?;
+    push_count(out, count)?;
+    Ok(())
+}
+
+/// The text of the results: the version, the plan, and the lines of each test.
+///
+/// It fails only if memory runs out.
+#[tactic(auto, unfolding(crate::specs::Tap::tap_text))]
+pub fn tap_text(alloc: Global, points: &[Point]) -> Result<Text, NoMemory>
+    ensures { IfOk result (λ text. text ≡ spec.tap_text points.now) }
+{
+    let mut out = Vec::new(alloc);
+    push_plan(&mut out, points.len())?;
+    push_points(&mut out, points)?;
+    Ok(Text::new(out))
+}
