@@ -10,7 +10,7 @@ use Rattle.dp_conf.specs.Words.{same_text}
 use Rattle.dp_commands.specs.Script.{number_within}
 use Rattle.dp_conf.specs.Numbers.{most_priority}
 use Rattle.dp_program.specs.Entries.{fault_named, fault_numbered}
-use Rattle.dp_program.specs.Requests.{OptionsOf, RequestOf, joined, check, check_files, check_queues, check_both, listing, listing_files, auditing, auditing_by, matching, matching_files, explaining, run, run_wide, debug, reaching, LookupOf, QuestionOf}
+use Rattle.dp_program.specs.Requests.{OptionsOf, RequestOf, joined, check, check_files, check_queues, check_both, listing, listing_files, auditing, auditing_by, matching, matching_files, explaining, run, run_wide, debug, testing, reaching, LookupOf, QuestionOf}
 use Rattle.dp_program.specs.Texts.{OfRun}
 use Rattle.dp_wide.specs.Times.{moment_of}
 use Rattle.dp_wide_runs.specs.Kinds.{KindsTold, all, only, except, are_kinds}
@@ -111,6 +111,12 @@ debug_app =
     with_explain (with_files (with_verbose (with_rule (with_more_files (new_app (codes "debug")))
     (required_named_word (codes "CONTEXT,EXTEN,PRIORITY") (codes "break")))))
 
+-- `test [--trace] [--cover] [--explain] FILE`
+abbrev pub test_app : App
+test_app =
+    with_explain (with_rule (with_rule (with_rule (new_app (codes "test")) (flag (codes "trace") (codes "trace"))) (flag (codes "cover") (codes "cover")))
+    file_word)
+
 -- a command with the words for what may come in: the contexts at which calls do, and the bytes of extensions and of callers' numbers
 abbrev pub with_outside : App → App
 with_outside app =
@@ -134,8 +140,8 @@ bare_app = with_version (new_app (codes "pbx"))
 -- the program's commands
 abbrev pub pbx_app : App
 pbx_app =
-    with_subcommand (with_subcommand (with_subcommand (with_subcommand (with_subcommand (with_subcommand (with_subcommand (with_subcommand bare_app
-    check_app.top) list_app.top) match_app.top) run_app.top) debug_app.top) audit_app.top) reach_app.top) explain_app.top
+    with_subcommand (with_subcommand (with_subcommand (with_subcommand (with_subcommand (with_subcommand (with_subcommand (with_subcommand (with_subcommand
+    bare_app check_app.top) list_app.top) match_app.top) run_app.top) debug_app.top) test_app.top) audit_app.top) reach_app.top) explain_app.top
 
 -- the priority in a word: digits that write a number from 1 to the greatest priority
 abbrev pub priority_in : List ℕ → Option ℕ
@@ -295,6 +301,11 @@ debug_asked words =
     option_and_then (λ paths. option_map (λ held. debug paths held (is_set (codes "verbose") words))
     (first_of (codes "CONTEXT,EXTEN,PRIORITY") words)) (run_paths words)
 
+-- the request of `test`
+abbrev pub test_asked : List Row → Option RequestOf
+test_asked words =
+    option_map (λ file. testing file (is_set (codes "trace") words) (is_set (codes "cover") words)) (first_of (codes "FILE") words)
+
 -- the question of `reach` on a file and a context, given its other words
 abbrev pub reach_at : List Row → List ℕ → List ℕ → QuestionOf
 reach_at words file context = record {
@@ -323,6 +334,7 @@ command_asked name words =
     else if same_text name (codes "match") then match_asked words
     else if same_text name (codes "run") then run_asked words
     else if same_text name (codes "debug") then debug_asked words
+    else if same_text name (codes "test") then test_asked words
     else if same_text name (codes "audit") then audit_asked words
     else if same_text name (codes "reach") then reach_asked words
     else if same_text name (codes "explain") then explain_asked words

@@ -345,6 +345,17 @@ fn debug_request<'a>(given: &ArgMatches<'a>) -> Option<Request<'a>>
     })
 }
 
+/// The request of `test`.
+fn test_request<'a>(given: &ArgMatches<'a>) -> Option<Request<'a>>
+    ensures { option_map request_asked result ≡ spec.test_asked (rows_of (found_of given.now)) }
+{
+    Some(Request::Test {
+        file: word_of(given, "FILE")?,
+        is_traced: is_set(given, "trace"),
+        is_covered: is_set(given, "cover"),
+    })
+}
+
 /// The request of `reach`.
 fn reach_request<'a>(given: &ArgMatches<'a>) -> Option<Request<'a>>
     ensures { option_map request_asked result ≡ spec.reach_asked (rows_of (found_of given.now)) }
@@ -377,6 +388,7 @@ fn command_request<'a>(
         "match" => match_request(alloc, given),
         "run" => run_request(alloc, given),
         "debug" => Ok(debug_request(given)),
+        "test" => Ok(test_request(given)),
         "audit" => audit_request(alloc, given),
         "reach" => Ok(reach_request(given)),
         "explain" => explain_request(alloc, given),

@@ -9,7 +9,7 @@ ghost use Rattle.dp_cli.specs.steps.Made.{Makes};
 
 use crate::help::{
     AUDIT_NOTES, CHECK_NOTES, DEBUG_NOTES, EXPLAIN_NOTES, LIST_NOTES, MATCH_NOTES, PBX_NOTES,
-    REACH_NOTES, RUN_NOTES, VERSION,
+    REACH_NOTES, RUN_NOTES, TEST_NOTES, VERSION,
 };
 use clap::{Arg, ArgAction, Command};
 use dp_plan::NoMemory;
@@ -440,6 +440,30 @@ fn debug_command<'a>(alloc: Global) -> Result<Command<'a>, NoMemory>
     with_explain(alloc, debug)
 }
 
+/// The command `test`.
+fn test_command<'a>(alloc: Global) -> Result<Command<'a>, NoMemory>
+    ensures { Makes spec.test_app result }
+{
+    let test = command_of(alloc, "test", "Run the tests of a dialplan", TEST_NOTES);
+    let trace = flag(
+        alloc,
+        "trace",
+        "trace",
+        "Print above the result of each test what ran in it, as lines that begin with `#`",
+    );
+    let test = with_word(test, trace);
+    let cover = flag(
+        alloc,
+        "cover",
+        "cover",
+        "Print at the end how many entries of the dialplan ran in a test, and each entry that did not",
+    );
+    let test = with_word(test, cover);
+    let file = required_word(alloc, "FILE", "The test file, such as office.test");
+    let test = with_word(test, file);
+    with_explain(alloc, test)
+}
+
 /// The command with the words for what may come in.
 fn with_outside<'a>(
     alloc: Global,
@@ -523,6 +547,7 @@ pub(crate) fn pbx_command<'a>(alloc: Global) -> Result<Command<'a>, NoMemory>
     let pbx = with_command(pbx, match_command(alloc));
     let pbx = with_command(pbx, run_command(alloc));
     let pbx = with_command(pbx, debug_command(alloc));
+    let pbx = with_command(pbx, test_command(alloc));
     let pbx = with_command(pbx, audit_command(alloc));
     let pbx = with_command(pbx, reach_command(alloc));
     with_command(pbx, explain_command(alloc))

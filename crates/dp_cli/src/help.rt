@@ -14,13 +14,14 @@ Examples:
   pbx match extensions.conf main 555-1234
   pbx run extensions.conf calls.script
   pbx debug --break main,100,2 extensions.conf calls.script
+  pbx test office.test
   pbx audit extensions.conf
   pbx reach extensions.conf from-carrier --to international
   pbx explain 20
   pbx < joined.conf
 
-Status: 0; 1 if a fault was printed, an event was refused, an audit found something or a context may be reached; 2 if the command
-line was refused; 4 if a run with --asterisk stopped because something is unknown.";
+Status: 0; 1 if a fault was printed, an event was refused, a test failed, an audit found something or a context may be reached; 2 if
+the command line was refused; 4 if a run with --asterisk stopped because something is unknown.";
 
 /// What the help of `check` says below its words.
 pub(crate) const CHECK_NOTES: &str = "\
@@ -68,6 +69,25 @@ With --asterisk the files that the dialplan includes are read. If a line has a f
 Example:
   $ pbx match extensions.conf main 555-1234 3
   main,_NXXXXXX,3 Queue";
+
+/// What the help of `test` says below its words.
+pub(crate) const TEST_NOTES: &str = "\
+Runs each test of FILE in a world of its own, on the dialplan that the file names, which is read as `check --asterisk` reads it.
+Each event is followed by all steps that are possible. A test passes if no event is refused, nothing stays unknown, and each
+`expect` line comes true. The results are in the Test Anything Protocol, version 14. A test that fails has its line, what was
+expected, what came instead, and the last entries that ran. If the test file or a file that it names has faults, each is printed
+on standard error with its file and line, no test runs, and the status is 1.
+
+Example:
+  $ cat office.test
+  dialplan extensions.conf
+  test a call to the help desk waits in its queue
+  call main 555-1234
+  expect 1 queued helpdesk
+  $ pbx test office.test
+  TAP version 14
+  1..1
+  ok 1 - a call to the help desk waits in its queue";
 
 /// What the help of `audit` says below its words.
 pub(crate) const AUDIT_NOTES: &str = "\

@@ -1,8 +1,9 @@
 -- The history with which a line of a context is read: what the lines before it in the section say.
-use Rattle.std.specs.Prelude.{ℕ, Bool, true, false, ◌&&◌, ◌==◌, List, [], ◌∷◌, Option, Some, None, Result, Ok, Err, if◌then◌else◌}
+use Rattle.std.specs.Prelude.{ℕ, Bool, true, false, not, ◌&&◌, ◌||◌, ◌==◌, List, [], ◌∷◌, Option, Some, None, Result, Ok, Err, if◌then◌else◌}
 use Rattle.std.specs.List.{list_any}
-use Rattle.std.specs.Option.{option_or, unwrap_or}
+use Rattle.std.specs.Option.{is_some, option_or, unwrap_or}
 use Rattle.std.specs.Str.{byte}
+use Rattle.dp_conf.specs.Groups.{opening}
 use Rattle.dp_conf.specs.Words.{same_text}
 use Rattle.dp_pattern.specs.Name.{Meaning, meaning_of}
 use Rattle.dp_pattern.specs.Spelling.{spelling}
@@ -11,18 +12,31 @@ use Rattle.dp_files.specs.declared.extension.Extension.{Extension}
 
 -- ---- extensions
 
--- there is a caller's number after the name
+-- a group opens in the text: it contains `${` or `$[`
+abbrev pub has_group : List ℕ → Bool
+has_group [] = false
+has_group (b ∷ bs) = is_some (opening b bs) || has_group bs
+
+-- the text contains a `/`
+abbrev pub has_slash : List ℕ → Bool
+has_slash text = list_any (λ b. b == byte "/") text
+
+-- there is a caller's number after the name; in a name with a group, this is not known before the group is expanded
 abbrev pub has_caller : List ℕ → Bool
-has_caller name = list_any (λ b. b == byte "/") name
+has_caller name = not (has_group name) && has_slash name
+
+-- only the text of the name is known: it has a group, or a caller's number
+abbrev pub is_known_by_text : List ℕ → Bool
+is_known_by_text name = has_group name || has_caller name
 
 -- a name that was read has the canonical spelling of its meaning: names with one meaning are one extension
 abbrev pub spelled : List ℕ → Result Meaning NameFault → Option Extension
 spelled name (Err fault) = None
 spelled name (Ok meaning) = Some (record { name = name; spelling = spelling meaning })
 
--- the extension of a name, if it is valid; one with a caller's number is distinguished from others only by its text
+-- the extension of a name, if it is valid; one with a group or with a caller's number is distinguished from others only by its text
 unfoldable pub extension_of : List ℕ → Option Extension
-extension_of name = if has_caller name then Some (record { name = name; spelling = name }) else spelled name (meaning_of name)
+extension_of name = if is_known_by_text name then Some (record { name = name; spelling = name }) else spelled name (meaning_of name)
 
 -- ---- what a line says to those after it
 

@@ -1,4 +1,5 @@
 pub mod Comments
+pub mod Configuration
 pub mod ContextHistory
 pub mod ContextLines
 pub mod ContextSteps

@@ -51,7 +51,9 @@ impl ContextReader {
 /// It takes the lines of all files, and the places of the section's lines among them, in order; a place after the last line is skipped.
 /// Priorities become numbers, after the Asterisk documentation's page on contexts, extensions and priorities. Hints, lines of other
 /// switches, `ignorepat` and extensions with a caller's number are left out with a note, and applications of the old form `NAME,ARGUMENTS`
-/// with a fault. A line that the loader refuses is unchanged, so that the loader reports the fault. It fails only if memory runs out.
+/// with a fault. A name with a group stays as it is written: it is expanded later, and only then is it known whether it is valid and whether
+/// it has a caller's number. A line that the loader refuses is unchanged, so that the loader reports the fault. It fails only if memory runs
+/// out.
 pub fn read_context(
     alloc: Global,
     lines: &[SourceLine],

@@ -45,7 +45,7 @@ fn push_header_at(
 }
 
 /// Adds the line of the header of a section, if it has one.
-fn push_header(
+pub(crate) fn push_header(
     alloc: Global,
     made: &mut Vec<MadeLine>,
     lines: &[SourceLine],
@@ -79,7 +79,7 @@ fn push_standing(
 }
 
 /// Adds the lines at some places unchanged.
-fn push_all_standing(
+pub(crate) fn push_all_standing(
     alloc: Global,
     made: &mut Vec<MadeLine>,
     lines: &[SourceLine],

@@ -7,11 +7,13 @@ ghost use Rattle.std.specs.Str.{is_utf8};
 ghost use Rattle.dp_conf.specs.Answers.{Answers};
 ghost use Rattle.dp_conf.specs.Cut.{begins_with};
 ghost use Rattle.dp_conf.specs.Words.{same_text};
+ghost use Rattle.dp_files.specs.Configuration.{configuration_now, configuration_of};
 ghost use Rattle.dp_files.specs.Dialplan.{dialplan_now, dialplan_of};
 ghost use Rattle.dp_files.specs.FolderFiles as spec;
 ghost use Rattle.dp_files.specs.Reading.{first_fault};
 ghost use Rattle.dp_files.specs.Sources.{NamesOf, text_now};
 
+use crate::configuration::{ConfigurationFiles, read_configuration};
 use crate::dialplan::{DialplanFiles, read_dialplan};
 use crate::known_text::{KnownText, NameList, known_text, read_known};
 use crate::paths::Paths;
@@ -110,8 +112,8 @@ pub fn path_of(alloc: Global, first: &[u8], name: &[u8]) -> Result<Text, NoMemor
     beside(alloc, before_last(first, b'/'), name)
 }
 
-/// The path, if it is a text.
-fn text_path(path: &[u8]) -> Option<&str>
+/// The path, if it is UTF-8; files with other paths are not read.
+pub fn text_path(path: &[u8]) -> Option<&str>
     ensures { MatchOption result (is_utf8 path.now ≡ false) (λ text. (is_utf8 path.now ≡ true) × (text.now ≡ path.now)) }
 {
     match std::str::from_utf8(path) {
@@ -275,6 +277,25 @@ pub fn read_folder_dialplan<P: Paths>(
 {
     let mut source = FolderFiles::new(alloc, paths, first);
     let read = read_dialplan(alloc, &mut source, first.as_bytes());
+    source.show_known();
+    read
+}
+
+/// The text of the file with a path and the files that it includes, which are looked for in its folder: [`read_configuration`] of
+/// [`FolderFiles`].
+///
+/// For all files that are as they were when requested, it is that of the definition. What is known of them is something that the system may
+/// give.
+pub fn read_folder_configuration<P: Paths>(
+    alloc: Global,
+    paths: &P,
+    first: &str,
+) -> Result<ConfigurationFiles, ReadingFault>
+    ensures { spec.ReadsFolder (spec.MayTell (P.may_be paths.now) (P.may_list paths.now) first.now)
+        (λ has. Answers configuration_now first_fault result (configuration_of has first.now)) }
+{
+    let mut source = FolderFiles::new(alloc, paths, first);
+    let read = read_configuration(alloc, &mut source, first.as_bytes());
     source.show_known();
     read
 }

@@ -3,6 +3,7 @@
 #![tactic(auto)]
 
 mod comments;
+mod configuration;
 mod context_line;
 mod context_text;
 mod dialplan;
@@ -30,13 +31,17 @@ mod source;
 mod source_line;
 mod wildcard;
 
+pub use configuration::{ConfigurationFiles, read_configuration};
 pub use context_text::{plain_lines_stand, read_context};
 pub use dialplan::{DialplanFiles, read_dialplan};
 pub use dialplan_text::{make_dialplan, text_of};
 pub use directive::included_name;
 pub use dp_conf::NoMemory;
+pub use extension::has_group;
 pub use file_map::{FileMap, NamedText};
-pub use folder_files::{FolderFiles, path_of, read_folder_dialplan};
+pub use folder_files::{
+    FolderFiles, path_of, read_folder_configuration, read_folder_dialplan, text_path,
+};
 pub use general_text::read_general;
 pub use header::{SectionHeader, header_text, read_header};
 pub use known_text::{KnownText, NameList};

@@ -47,3 +47,7 @@ unknown_in meanings knowledge w number c =
 -- what is unknown ahead of the channel with a number
 abbrev pub unknown_ahead : Meanings → Knowledge → World → ℕ → Option Unknown
 unknown_ahead meanings knowledge w number = option_and_then (λ c. unknown_in meanings knowledge w number c) (channel_at w.channels number)
+
+-- the first group in a text that the functions do not know in the channel with a number; nothing if there is no such channel
+abbrev pub unknown_in_text : FunctionTable → World → ℕ → List ℕ → Option (List ℕ)
+unknown_in_text functions w number text = option_and_then (λ c. unknown_seen functions w.shared number c text) (channel_at w.channels number)

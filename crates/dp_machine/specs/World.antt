@@ -1,10 +1,11 @@
 -- The world of a machine: the dialplan, the channels, and what all channels share.
+use Rattle.std.specs.Option.{option_map}
 use Rattle.std.specs.Prelude.{ℕ, ◌-◌, ◌==◌, List, [], Option, None, slice_get, slice_set, if◌then◌else◌}
 use Rattle.dp_plan.specs.Plan.{PlanOf}
 use Rattle.dp_queue.specs.Queues.{QueuesOf}
 use Rattle.dp_vars.specs.Functions.{FunctionTable}
 use Rattle.dp_vars.specs.Values.{standard_functions}
-use Rattle.dp_machine.specs.Seen.{globals_of, value_seen}
+use Rattle.dp_machine.specs.Seen.{arguments_seen, globals_of, value_seen}
 use Rattle.dp_machine.specs.declared.channel.Channel.{Channel}
 use Rattle.dp_machine.specs.declared.exchange.Exchange.{Exchange}
 use Rattle.dp_machine.specs.declared.shared_state.SharedState.{SharedState}
@@ -46,3 +47,7 @@ with_channel channels number channel = slice_set channels (number - 1) channel
 -- the value of a name in the channel with a number; empty if there is no such channel
 abbrev pub value_in : World → ℕ → List ℕ → List ℕ
 value_in w number name = value_seen w.shared number (channel_at w.channels number) name
+
+-- a text, expanded by these functions in the channel with a number; None if there is no such channel
+abbrev pub text_in : FunctionTable → World → ℕ → List ℕ → Option (List ℕ)
+text_in functions w number text = option_map (λ c. arguments_seen functions w.shared number c text) (channel_at w.channels number)

@@ -1,8 +1,9 @@
 //! The machine: a world that events change one after another.
-ghost use Rattle.std.specs.Prelude.{◌≡◌, ◌≤◌, ◌++◌, IfOk, OnOk, OnErr, Some, false, length, true};
-ghost use Rattle.std.specs.Option.{option_copied, option_map};
+ghost use Rattle.std.specs.Prelude.{◌≡◌, ◌≤◌, ◌++◌, ◌∷◌, [], IfOk, OnOk, OnErr, Some, false, length, true};
+ghost use Rattle.std.specs.Option.{option_and_then, option_copied, option_map};
 ghost use Rattle.dp_queue.specs.Rest.{IsAtRest};
 ghost use Rattle.dp_app.specs.Rows.{with_functions};
+ghost use Rattle.dp_vars.specs.Variables.{value_or_empty};
 ghost use Rattle.dp_machine.specs.Events as spec;
 ghost use Rattle.dp_machine.specs.steps.Follows.{Follows, Makes};
 ghost use Rattle.dp_machine.specs.GoodWorld as good;
@@ -23,7 +24,7 @@ use crate::redirect::redirect;
 use crate::refusal::Refusal;
 use crate::reload::reload;
 use crate::reply::Reply;
-use crate::seen::channel_value;
+use crate::seen::{channel_value, expand_text_in};
 use crate::starting::{start, start_kept};
 use crate::step::step_channel;
 use crate::unknown::{Unknown, unknown_ahead_of};
@@ -31,6 +32,7 @@ use crate::waiting::{dial, end_time, hang_up_channel, poll};
 use dp_app::{AppTable, KnownTable, Phase, Place};
 use dp_plan::{Dialplan, EntryId, NoMemory, Text};
 use dp_queue::Queues;
+use dp_vars::Expanded;
 use std::alloc::Global;
 use std::marker::{Model, PhantomData};
 
@@ -331,6 +333,43 @@ impl<T: AppTable> Machine<T> {
         match channel_at(&self.channels, channel) {
             Some(found) => channel_value(alloc, &self.exchange.shared, channel, found, name),
             None => Ok(Vec::new(alloc)),
+        }
+    }
+
+    /// The value of the global with this name, or the empty text if there is none. It never allocates.
+    pub fn global(&self, name: &[u8]) -> &[u8]
+        ensures { result.now ≡ value_or_empty (self.now.shared.globals ∷ []) name.now }
+    {
+        self.exchange.shared.globals.at(name)
+    }
+
+    /// A text, expanded by the table's functions as the arguments of an entry of the channel with this number would be, and the first group
+    /// in it that these functions do not know. It is None if no channel has the number.
+    ///
+    /// It fails only if memory runs out.
+    pub fn expand(
+        &self,
+        alloc: Global,
+        channel: u32,
+        text: &[u8],
+    ) -> Result<Option<Expanded>, NoMemory>
+        ensures bytes { IfOk result (λ expanded. option_map (λ known. known.bytes.items) expanded
+            ≡ worlds.text_in T.Functions.table self.now channel text.now) }
+        ensures unknown { IfOk result (λ expanded. option_and_then (λ known. option_map (λ group. group.items) known.unknown) expanded
+            ≡ unknowns.unknown_in_text T.Functions.table self.now channel text.now) }
+    {
+        match channel_at(&self.channels, channel) {
+            Some(found) => {
+                let expanded = expand_text_in::<T::Functions>(
+                    alloc,
+                    &self.exchange.shared,
+                    channel,
+                    found,
+                    text,
+                )?;
+                Ok(Some(expanded))
+            }
+            None => Ok(None),
         }
     }
 

@@ -1,8 +1,10 @@
 //! The values that the texts of a channel read.
 ghost use Rattle.std.specs.Prelude.{◌≡◌, IfOk, Some};
+ghost use Rattle.std.specs.Option.{option_map};
 ghost use Rattle.dp_queue.specs.Counted.{counts_of};
 ghost use Rattle.dp_vars.specs.Sights.{maps_of, sight_of};
 ghost use Rattle.dp_machine.specs.Seen as spec;
+ghost use Rattle.dp_machine.specs.Unknown.{unknown_seen};
 ghost use Rattle.dp_machine.specs.steps.Templates.{IsOf};
 
 use crate::channel::Channel;
@@ -11,7 +13,7 @@ use crate::templates::{Arguments, PreparedEntry};
 use dp_app::Place;
 use dp_plan::NoMemory;
 use dp_queue::Queues;
-use dp_vars::{ChannelSeen, Functions, Scope, value_of};
+use dp_vars::{ChannelSeen, Expanded, Functions, Pieces, Scope, value_of};
 use std::alloc::Global;
 
 /// What the texts of the channel with this number see.
@@ -74,4 +76,23 @@ pub(crate) fn channel_value(
 {
     let scope = scope_of(shared, number, channel);
     value_of(alloc, &scope, name)
+}
+
+/// A text, expanded by these functions with what the channel with this number sees, and the first group in it that is unknown.
+#[tactic(auto, unfolding(crate::specs::Seen::arguments_seen, crate::specs::Unknown::unknown_seen))]
+pub(crate) fn expand_text_in<F: Functions>(
+    alloc: Global,
+    shared: &SharedState,
+    number: u32,
+    channel: &Channel,
+    text: &[u8],
+) -> Result<Expanded, NoMemory>
+    ensures bytes { IfOk result (λ expanded. expanded.bytes.items ≡ spec.arguments_seen F.table shared.now number channel.now text.now) }
+    ensures unknown { IfOk result (λ expanded. option_map (λ group. group.items) expanded.unknown
+        ≡ unknown_seen F.table shared.now number channel.now text.now) }
+{
+    let pieces = Pieces::read(alloc, text)?;
+    let scope = scope_of(shared, number, channel);
+    let expanded = pieces.expand_checked::<F, Place, Queues>(alloc, text, &scope)?;
+    Ok(expanded)
 }

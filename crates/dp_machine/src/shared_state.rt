@@ -1,12 +1,15 @@
 //! What all channels share.
 ghost use Rattle.std.specs.Prelude.{◌≡◌, IfOk, OnOk};
+ghost use Rattle.std.specs.Option.{option_map};
 ghost use Rattle.dp_vars.specs.Sights.{sight_of};
+ghost use Rattle.dp_vars.specs.Unknown.{first_unknown};
 ghost use Rattle.dp_machine.specs.Seen as seen;
 
+use crate::queues::NoQueues;
 use dp_app::Place;
 use dp_plan::{GlobalVariable, NoMemory};
 use dp_queue::Queues;
-use dp_vars::{Counts, Functions, Globals, Scope, expand_text_with};
+use dp_vars::{Counts, Expanded, Functions, Globals, Pieces, Scope, expand_text_with};
 use std::alloc::Global;
 
 /// What all channels share: the global variables, and the queues.
@@ -70,4 +73,23 @@ pub(crate) fn set_globals<F: Functions, C: Counts>(
         set_global::<F, C>(alloc, globals, counts, variable)?;
     }
     Ok(())
+}
+
+/// A text, expanded by these functions with these globals, without a channel and without queues, and the first group in it that is unknown.
+///
+/// It fails only if memory runs out.
+#[tactic(auto, unfolding(crate::specs::Seen::global_value))]
+pub fn expand_by_globals<F: Functions>(
+    alloc: Global,
+    globals: &Globals,
+    text: &[u8],
+) -> Result<Expanded, NoMemory>
+    ensures bytes { IfOk result (λ expanded. expanded.bytes.items ≡ seen.global_value F.table seen.no_queues globals.now text.now) }
+    ensures unknown { IfOk result (λ expanded. option_map (λ group. group.items) expanded.unknown
+        ≡ first_unknown F.table (seen.sight_of_globals seen.no_queues globals.now) text.now) }
+{
+    let pieces = Pieces::read(alloc, text)?;
+    let scope = scope_of_globals(globals, &NoQueues);
+    let expanded = pieces.expand_checked::<F, Place, NoQueues>(alloc, text, &scope)?;
+    Ok(expanded)
 }

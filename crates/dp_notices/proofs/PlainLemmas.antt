@@ -1,15 +1,21 @@
--- If no include has times and no context is a macro, the lines stay as they are.
-use Rattle.std.proofs.Common.{◌≡◌, ℕ, zero, suc, ◌-◌, Bool, true, false, ◌||◌, List, [], ◌∷◌, ◌++◌, length, slice_get, Option, Some, None, Result, Ok, Err, refl, ap, ◌∙◌, if◌then◌else◌}
+-- If no name has a group, no include has times and no context is a macro, the lines stay as they are.
+use Rattle.std.proofs.Common.{◌≡◌, ℕ, zero, suc, ◌-◌, Bool, true, false, ◌||◌, List, [], ◌∷◌, ◌++◌, length, slice_get, Option, Some, None, Result, Ok, Err, codes, refl, ap, ◌∙◌, if◌then◌else◌}
 use Rattle.std.proofs.lemmas.List.{append-nil}
 use Rattle.std.specs.List.{flat_map, list_any, range_with_len}
 use Rattle.std.specs.Option.{option_map_or}
 use Rattle.dp_conf.specs.Changes.{changed_at}
+use Rattle.dp_conf.specs.Cut.{cut_once}
+use Rattle.dp_conf.specs.Lines.{LineOf, Header, Pair}
+use Rattle.dp_conf.specs.Words.{same_word}
 use Rattle.dp_files.specs.DialplanText.{text_of}
 use Rattle.dp_files.specs.declared.source_line.MadeLine.{MadeLine}
+use Rattle.dp_notices.specs.GroupNames.{any_grouped, extension_after, globals_of_lines, has_grouped, is_grouped, items_in, line_by, lines_after, name_notices, named_lines, naming_of, naming_of_cut, naming_of_same, notice_by, notice_in, notices_after, within_after}
 use Rattle.dp_notices.specs.Loading.{faults_in_text}
 use Rattle.dp_notices.specs.MacroEnds.{ends_at, ends_by, ends_in, ends_of, ends_of_context, faultless, is_macro, made_ends, with_ends, with_header}
 use Rattle.dp_notices.specs.Preparation.{has_macro, has_macros, has_times, loads_macro}
 use Rattle.dp_notices.specs.TimedIncludes.{is_timed, line_at, with_times, with_times_of}
+use Rattle.dp_notices.specs.declared.group_names.Naming.{Naming}
+use Rattle.dp_notices.specs.declared.group_names.Naming.TheVariants.{Stands}
 use Rattle.dp_notices.specs.declared.loading.NumberedNotice.{NumberedNotice}
 use Rattle.dp_notices.specs.declared.macro_ends.AddedLine.{AddedLine}
 use Rattle.dp_plan.specs.Contexts.{PlanContext}
@@ -17,11 +23,77 @@ use Rattle.dp_plan.specs.Loaded.{lines_loaded, plan_and_notes}
 use Rattle.dp_plan.specs.Plan.{PlanOf}
 use Rattle.dp_plan.specs.declared.fault.LoadFault.{LoadFault}
 use Rattle.dp_plan.specs.declared.note.Note.{Note}
+use Rattle.dp_vars.specs.Variables.{Named}
 use Rattle.dp_wide.specs.declared.times.Moment.{Moment}
 
 -- true is not false
 impossible : true ≡ false → {P : Type 0} → P
 impossible is = absurd (cc)
+
+-- if an `or` is false, both of its parts are false
+first_of : (a b : Bool) → (a || b) ≡ false → a ≡ false
+first_of true b none = impossible none
+first_of false b none = refl
+
+rest_of : (a b : Bool) → (a || b) ≡ false → b ≡ false
+rest_of true b none = impossible none
+rest_of false b none = none
+
+-- ---- names with groups
+
+-- a pair stands if it is not a line `same` and its name has no group
+stands_without : (naming : Naming) (same is : Bool) → is ≡ false → (if same then naming_of_same None else (if is then naming else Stands)) ≡ Stands
+stands_without naming true is none = refl
+stands_without naming false true none = impossible none
+stands_without naming false false none = refl
+
+-- so does the line of an item, if the last extension before it is not left out
+stands : (globals : Option Named) (within : Bool) (items : List LineOf) → has_grouped within items ≡ false → naming_of globals within None items ≡ Stands
+stands globals within [] none = refl
+stands globals within (Header line name ∷ items) none = refl
+stands globals true (Pair line key value ∷ items) none =
+    stands_without (naming_of_cut globals key value (cut_once 44 value)) (same_word key (codes "same")) (is_grouped key value) none
+stands globals false (Pair line key value ∷ items) none = refl
+
+-- and the extension after a line that stands is not left out
+kept_by : (is : Bool) → (if is then notice_in Stands else None) ≡ None
+kept_by true = refl
+kept_by false = refl
+
+kept : (items : List LineOf) → extension_after None Stands items ≡ None
+kept [] = refl
+kept (Header line name ∷ items) = refl
+kept (Pair line key value ∷ items) = kept_by (same_word key (codes "exten"))
+
+kept_after : (naming : Naming) (items : List LineOf) → naming ≡ Stands → extension_after None naming items ≡ None
+kept_after naming items is = ap (λ (n : Naming). extension_after None n items) is ∙ kept items
+
+-- if no name has a group, the lines stay as they are
+lines_stand : (globals : Option Named) (within : Bool) (lines : List MadeLine) → any_grouped within lines ≡ false → lines_after globals within None lines ≡ lines
+lines_stand globals within [] none = refl
+lines_stand globals within (line ∷ lines) none =
+    let one : naming_of globals within None (items_in line.text) ≡ Stands = stands globals within (items_in line.text) (first_of (has_grouped within (items_in line.text)) _ none) in
+    let next : extension_after None (naming_of globals within None (items_in line.text)) (items_in line.text) ≡ None = kept_after (naming_of globals within None (items_in line.text)) (items_in line.text) one in
+    let rest : lines_after globals (within_after within (items_in line.text)) None lines ≡ lines = lines_stand globals (within_after within (items_in line.text)) lines (rest_of (has_grouped within (items_in line.text)) _ none) in
+    (λ i. line_by (one i) line ∷ lines_after globals (within_after within (items_in line.text)) (next i) lines) ∙ ap (λ (more : List MadeLine). line ∷ more) rest
+
+-- and there are no notices on names
+names_unnoticed : (globals : Option Named) (within : Bool) (lines : List MadeLine) → any_grouped within lines ≡ false → notices_after globals within None lines ≡ []
+names_unnoticed globals within [] none = refl
+names_unnoticed globals within (line ∷ lines) none =
+    let one : naming_of globals within None (items_in line.text) ≡ Stands = stands globals within (items_in line.text) (first_of (has_grouped within (items_in line.text)) _ none) in
+    let next : extension_after None (naming_of globals within None (items_in line.text)) (items_in line.text) ≡ None = kept_after (naming_of globals within None (items_in line.text)) (items_in line.text) one in
+    let rest : notices_after globals (within_after within (items_in line.text)) None lines ≡ [] = names_unnoticed globals (within_after within (items_in line.text)) lines (rest_of (has_grouped within (items_in line.text)) _ none) in
+    (λ i. notice_by (one i) line.source ++ notices_after globals (within_after within (items_in line.text)) (next i) lines) ∙ rest
+
+-- the same for the lines of a text
+pub names_stand : (lines : List MadeLine) → any_grouped false lines ≡ false → named_lines lines ≡ lines
+unfolding named_lines
+names_stand lines none = lines_stand (globals_of_lines lines) false lines none
+
+pub no_name_notices : (lines : List MadeLine) → any_grouped false lines ≡ false → name_notices lines ≡ []
+unfolding name_notices
+no_name_notices lines none = names_unnoticed (globals_of_lines lines) false lines none
 
 -- ---- includes with times
 
@@ -60,15 +132,6 @@ no_ends : (plan : PlanOf) (lines : List (List ℕ)) (number : ℕ) (context : Pl
     → (if is then with_header context.name (ends_in plan lines number context) else []) ≡ []
 no_ends plan lines number context true is = impossible is
 no_ends plan lines number context false is = refl
-
--- if an `or` is false, both of its parts are false
-first_of : (a b : Bool) → (a || b) ≡ false → a ≡ false
-first_of true b none = impossible none
-first_of false b none = refl
-
-rest_of : (a b : Bool) → (a || b) ≡ false → b ≡ false
-rest_of true b none = impossible none
-rest_of false b none = none
 
 -- the same for the context at a place
 no_ends_at : (plan : PlanOf) (lines : List (List ℕ)) (number : ℕ) (contexts : List PlanContext) (place : ℕ) → has_macro contexts ≡ false

@@ -1,4 +1,5 @@
 pub mod Checks
+pub mod GroupNames
 pub mod LineNotices
 pub mod Loading
 pub mod MacroEnds
@@ -6,4 +7,6 @@ pub mod Notices
 pub mod PlanFiles
 pub mod Preparation
 pub mod Printing
+pub mod QueueFiles
+pub mod QueueLines
 pub mod TimedIncludes

@@ -15,9 +15,12 @@ use Rattle.dp_plan.specs.declared.fault.PlanKind.TheVariants.{LeftOut}
 use Rattle.dp_plan.specs.declared.fault.Word.{Word}
 use Rattle.dp_plan.specs.declared.fault.Word.TheVariants.{Switch, IgnorePat, CallerId, IncludeTimes, Variable, Hint, OldForm, PriorityWord}
 use Rattle.dp_notices.specs.declared.notice.NoticeFault.{NoticeFault}
-use Rattle.dp_notices.specs.declared.notice.NoticeFault.TheVariants.{Reading, Name, Plan}
+use Rattle.dp_notices.specs.declared.notice.NoticeFault.TheVariants.{Reading, Name, Plan, Queue as queue_fault}
 use Rattle.dp_notices.specs.declared.notice.Notice.{Notice}
-use Rattle.dp_notices.specs.declared.notice.Notice.TheVariants.{Read, Loaded, Fault as fault_notice}
+use Rattle.dp_notices.specs.declared.notice.Notice.TheVariants.{Read, Loaded, Queue as queue_note, Fault as fault_notice}
+use Rattle.dp_notices.specs.declared.notice.QueueNote.{QueueNote}
+use Rattle.dp_notices.specs.declared.notice.QueueNote.TheVariants.{Random, InUse}
+use Rattle.dp_queue.specs.Codes.{queue_code, queue_name}
 
 -- the name of a note of the file reader
 abbrev pub reading_note_name : Note → List ℕ
@@ -73,22 +76,30 @@ reading_wording (Line kind) = line_wording kind
 reading_wording old_form = named (codes "OldForm")
 reading_wording NoClock = named (codes "NoClock")
 
+-- the name of a note on a line of a file of queues
+abbrev pub queue_note_name : QueueNote → List ℕ
+queue_note_name Random = codes "Random"
+queue_note_name InUse = codes "InUse"
+
 -- the wording of a fault
 abbrev pub fault_wording : NoticeFault → Wording
 fault_wording (Reading fault) = reading_wording fault
 fault_wording (Name fault) = numbered (name_code fault) (fault_name fault)
 fault_wording (Plan kind) = numbered (plan_code kind) (loader_name kind)
+fault_wording (queue_fault kind) = numbered (queue_code kind) (queue_name kind)
 
 -- the wording of a notice; a note has no number
 abbrev pub wording : Notice → Wording
 wording (Read note) = named (reading_note_name note)
 wording (Loaded kind) = named (note_name kind)
+wording (queue_note note) = named (queue_note_name note)
 wording (fault_notice fault) = fault_wording fault
 
 -- whether a notice is a fault
 abbrev pub is_fault : Notice → Bool
 is_fault (Read note) = false
 is_fault (Loaded kind) = false
+is_fault (queue_note note) = false
 is_fault (fault_notice fault) = true
 
 -- the notice of a remark of the file reader

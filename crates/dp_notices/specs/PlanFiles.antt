@@ -8,9 +8,9 @@ use Rattle.dp_files.specs.declared.remark.Remark.{Remark}
 use Rattle.dp_files.specs.declared.source_line.MadeLine.{MadeLine}
 use Rattle.dp_files.specs.declared.source_line.SourceFile.{SourceFile}
 use Rattle.dp_notices.specs.LineNotices.{noted_lines}
-use Rattle.dp_notices.specs.Loading.{LoadedOf, loaded_lines}
+use Rattle.dp_notices.specs.Loading.{LoadedOf}
 use Rattle.dp_notices.specs.Notices.{of_reading}
-use Rattle.dp_notices.specs.Preparation.{prepared_lines}
+use Rattle.dp_notices.specs.Preparation.{prepared}
 use Rattle.dp_notices.specs.declared.line_notices.NotedLine.{NotedLine}
 use Rattle.dp_notices.specs.declared.line_notices.NoticeAt.{NoticeAt}
 use Rattle.dp_notices.specs.declared.loading.PlanCounts.{PlanCounts}
@@ -39,7 +39,7 @@ plan_with read loaded = record {
 
 -- the dialplan of files that were read, at a moment if one is given
 abbrev pub plan_by : Option Moment → DialplanOf → PlanFilesOf
-plan_by clock read = plan_with read (loaded_lines (prepared_lines clock read.made))
+plan_by clock read = plan_with read (prepared clock read.made)
 
 -- the dialplan of the file with this name
 abbrev pub plan_of : Option Moment → Files → List ℕ → Result PlanFilesOf ReadingFault

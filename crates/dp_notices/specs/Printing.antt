@@ -15,9 +15,9 @@ use Rattle.dp_notices.specs.Notices.{is_fault, wording}
 use Rattle.dp_notices.specs.PlanFiles.{PlanFilesOf}
 use Rattle.dp_notices.specs.declared.line_notices.NotedLine.{NotedLine}
 use Rattle.dp_notices.specs.declared.notice.Notice.{Notice}
-use Rattle.dp_notices.specs.declared.notice.Notice.TheVariants.{Read, Loaded, Fault as fault_notice}
+use Rattle.dp_notices.specs.declared.notice.Notice.TheVariants.{Read, Loaded, Queue as queue_note, Fault as fault_notice}
 use Rattle.dp_notices.specs.declared.notice.NoticeFault.{NoticeFault}
-use Rattle.dp_notices.specs.declared.notice.NoticeFault.TheVariants.{Reading, Name, Plan}
+use Rattle.dp_notices.specs.declared.notice.NoticeFault.TheVariants.{Reading, Name, Plan, Queue as queue_fault}
 use Rattle.dp_notices.specs.declared.printing.Shown.{Shown}
 use Rattle.dp_notices.specs.declared.printing.Shown.TheVariants.{All, Faults, Unfollowed}
 
@@ -60,11 +60,13 @@ abbrev pub is_missing_fault : NoticeFault → Bool
 is_missing_fault (Reading fault) = is_not_found fault
 is_missing_fault (Name fault) = false
 is_missing_fault (Plan kind) = false
+is_missing_fault (queue_fault kind) = false
 
 -- whether a notice says that a file is not there
 abbrev pub is_missing_file : Notice → Bool
 is_missing_file (Read note) = false
 is_missing_file (Loaded kind) = false
+is_missing_file (queue_note note) = false
 is_missing_file (fault_notice fault) = is_missing_fault fault
 
 -- a blank, and the name of the file that a line asks for
@@ -96,6 +98,7 @@ is_unfollowed_note CallerId = true
 abbrev pub is_unfollowed : Notice → Bool
 is_unfollowed (Read note) = is_unfollowed_note note
 is_unfollowed (Loaded kind) = false
+is_unfollowed (queue_note note) = false
 is_unfollowed (fault_notice fault) = false
 
 -- whether a notice is printed
@@ -113,6 +116,10 @@ notice_lines shown file line notices =
 abbrev pub noted_text : Shown → List SourceFile → NotedLine → List ℕ
 noted_text shown files noted = notice_lines shown (file_path files noted.line.file) noted.line noted.notices
 
--- the same for all lines
+-- the same for some lines of these files
+abbrev pub lines_text : Shown → List SourceFile → List NotedLine → List ℕ
+lines_text shown files lines = flat_map (noted_text shown files) lines
+
+-- the same for all lines of a dialplan
 unfoldable pub notices_text : Shown → PlanFilesOf → List ℕ
-notices_text shown plan = flat_map (noted_text shown plan.files) plan.lines
+notices_text shown plan = lines_text shown plan.files plan.lines

@@ -15,9 +15,9 @@ use Rattle.dp_files.specs.declared.source_line.MadeLine.{MadeLine}
 use Rattle.dp_notices.specs.Loading.{faults_in_text}
 use Rattle.dp_notices.specs.declared.loading.NumberedNotice.{NumberedNotice}
 use Rattle.dp_notices.specs.declared.notice.Notice.{Notice}
-use Rattle.dp_notices.specs.declared.notice.Notice.TheVariants.{Read, Loaded, Fault as fault_notice}
+use Rattle.dp_notices.specs.declared.notice.Notice.TheVariants.{Read, Loaded, Queue as queue_note, Fault as fault_notice}
 use Rattle.dp_notices.specs.declared.notice.NoticeFault.{NoticeFault}
-use Rattle.dp_notices.specs.declared.notice.NoticeFault.TheVariants.{Reading, Name, Plan}
+use Rattle.dp_notices.specs.declared.notice.NoticeFault.TheVariants.{Reading, Name, Plan, Queue as queue_fault}
 use Rattle.dp_wide.specs.TimeChoice.{lies_in_parts}
 use Rattle.dp_wide.specs.declared.times.Moment.{Moment}
 
@@ -64,11 +64,13 @@ abbrev pub is_timed_fault : NoticeFault → Bool
 is_timed_fault (Reading fault) = is_no_clock fault
 is_timed_fault (Name fault) = false
 is_timed_fault (Plan kind) = false
+is_timed_fault (queue_fault kind) = false
 
 -- the same for a notice: its line is an include with times
 abbrev pub is_timed : Notice → Bool
 is_timed (Read note) = false
 is_timed (Loaded kind) = false
+is_timed (queue_note note) = false
 is_timed (fault_notice fault) = is_timed_fault fault
 
 -- the line of a fault is read at a moment, if it is an include with times

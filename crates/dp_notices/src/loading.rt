@@ -4,7 +4,7 @@ ghost use Rattle.std.specs.List.{flat_map};
 ghost use Rattle.std.specs.Option.{option_map};
 ghost use Rattle.dp_files.specs.DialplanText.{text_of};
 ghost use Rattle.dp_notices.specs.Loading as spec;
-ghost use Rattle.dp_notices.specs.MacroEnds.{ends_of, ends_of_text};
+ghost use Rattle.dp_notices.specs.MacroEnds.{ends_of, ends_of_text, faultless};
 ghost use Rattle.dp_plan.specs.Loaded.{plan_and_notes};
 
 use crate::line_notices::NoticeAt;
@@ -145,7 +145,7 @@ fn push_notice(
 }
 
 /// Adds notices on lines of the text. Each is put at the line of a file from which its line is made.
-fn push_notices(
+pub(crate) fn push_notices(
     notices: &mut Vec<NoticeAt>,
     lines: &[MadeLine],
     numbered: &[NumberedNotice],
@@ -199,6 +199,36 @@ pub(crate) fn empty_lines(
         empty_line(alloc, lines, fault.line.saturating_sub(1))?;
     }
     Ok(())
+}
+
+/// Copies some lines.
+fn copy_lines(alloc: Global, lines: &[MadeLine]) -> Result<Vec<MadeLine>, NoMemory>
+    ensures { IfOk result (λ copies. copies.items ≡ lines.now) }
+{
+    let mut copies = Vec::new(alloc);
+    for line in lines {
+        let text = Text::copy_of(alloc, line.text.bytes())?;
+        copies.push(MadeLine {
+            source: line.source,
+            text,
+        })?;
+    }
+    Ok(copies)
+}
+
+/// A copy of lines in which each line with a fault is empty, given their text.
+pub(crate) fn copy_faultless(
+    alloc: Global,
+    lines: &[MadeLine],
+    text: &[u8],
+) -> Result<Vec<MadeLine>, NoMemory>
+    requires { text.now ≡ text_of lines.now }
+    ensures { IfOk result (λ copies. copies.items ≡ faultless lines.now) }
+{
+    let faults = faults_in_text(alloc, text)?;
+    let mut copies = copy_lines(alloc, lines)?;
+    empty_lines(alloc, &mut copies, &faults)?;
+    Ok(copies)
 }
 
 /// How many entries the contexts have in total. The length of each list fits a `usize`, so the sum fits 128 bits.

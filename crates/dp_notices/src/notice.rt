@@ -5,6 +5,7 @@ ghost use Rattle.dp_notices.specs.Notices as spec;
 use dp_files::{Fault, Note, RemarkKind};
 use dp_pattern::NameFault;
 use dp_plan::{NoteKind, PlanKind, Word};
+use dp_queue::QueueKind;
 
 /// Why a line is left out.
 #[derive(Clone, Copy, Debug, PartialEq, Eq)]
@@ -15,6 +16,17 @@ pub enum NoticeFault {
     Name(NameFault),
     /// The loader refuses the line.
     Plan(PlanKind),
+    /// The reader of queues refuses the line.
+    Queue(QueueKind),
+}
+
+/// A note on a line of a file of queues, which is read as another line.
+#[derive(Clone, Copy, Debug, PartialEq, Eq)]
+pub enum QueueNote {
+    /// A strategy that chooses at random is read as `ringall`.
+    Random,
+    /// A list of words has `inuse`: an agent that talks counts as a member here, and does not in Asterisk.
+    InUse,
 }
 
 /// A notice on a line: a note, or a fault.
@@ -24,6 +36,8 @@ pub enum Notice {
     Read(Note),
     /// A note of the loader.
     Loaded(NoteKind),
+    /// A note on a line of a file of queues.
+    Queue(QueueNote),
     /// A fault: the reason why the line is left out.
     Fault(NoticeFault),
 }
@@ -42,6 +56,16 @@ fn note_name(note: Note) -> &'static str
         Note::Switch => "Switch",
         Note::AutoFallThrough => "AutoFallThrough",
         Note::CallerId => "CallerId",
+    }
+}
+
+/// The name of a note on a line of a file of queues.
+fn queue_note_name(note: QueueNote) -> &'static str
+    ensures { result.now ≡ spec.queue_note_name note }
+{
+    match note {
+        QueueNote::Random => "Random",
+        QueueNote::InUse => "InUse",
     }
 }
 
@@ -109,6 +133,7 @@ impl NoticeFault {
             NoticeFault::Reading(fault) => reading_name(fault),
             NoticeFault::Name(fault) => fault.name(),
             NoticeFault::Plan(kind) => loader_name(kind),
+            NoticeFault::Queue(kind) => kind.name(),
         }
     }
 
@@ -120,6 +145,7 @@ impl NoticeFault {
             NoticeFault::Reading(fault) => reading_number(fault),
             NoticeFault::Name(fault) => Some(fault.code()),
             NoticeFault::Plan(kind) => Some(kind.code()),
+            NoticeFault::Queue(kind) => Some(kind.code()),
         }
     }
 }
@@ -135,6 +161,7 @@ impl Notice {
         match self {
             Notice::Read(note) => note_name(note),
             Notice::Loaded(kind) => kind.name(),
+            Notice::Queue(note) => queue_note_name(note),
             Notice::Fault(fault) => fault.name(),
         }
     }
@@ -144,7 +171,7 @@ impl Notice {
         ensures { result ≡ (wording self).number }
     {
         match self {
-            Notice::Read(_) | Notice::Loaded(_) => None,
+            Notice::Read(_) | Notice::Loaded(_) | Notice::Queue(_) => None,
             Notice::Fault(fault) => fault.number(),
         }
     }
@@ -154,7 +181,7 @@ impl Notice {
         ensures { result ≡ is_fault self }
     {
         match self {
-            Notice::Read(_) | Notice::Loaded(_) => false,
+            Notice::Read(_) | Notice::Loaded(_) | Notice::Queue(_) => false,
             Notice::Fault(_) => true,
         }
     }

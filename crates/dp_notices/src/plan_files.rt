@@ -54,7 +54,7 @@ impl PlanFiles {
 }
 
 /// Adds the notices of remarks of the file reader.
-fn push_remarks(notices: &mut Vec<NoticeAt>, remarks: &[Remark]) -> Result<(), NoMemory>
+pub(crate) fn push_remarks(notices: &mut Vec<NoticeAt>, remarks: &[Remark]) -> Result<(), NoMemory>
     ensures { OnOk result (notices.new.items ≡ notices.old.items ++ map spec.reading_notice remarks.now) }
 {
     for remark in remarks {
@@ -109,6 +109,11 @@ fn load_files(
 }
 
 /// Reads a dialplan from the file with a name and from the files that it includes, and loads it without the lines that have a fault.
+///
+/// The name of an extension or of an include may have groups. It is expanded by the global variables of the text, without a channel. The
+/// line has the fault `LeftOut Variable` if something in the name, or in the value of any of these variables, is unknown. It has the same
+/// fault if the expanded name has a comma, a line feed, or a blank at an end, since no line can say such a name. An extension whose expanded
+/// name has a `/` is left out with the note `CallerId`. The lines `same` of an extension that is left out are left out with it.
 ///
 /// An include with times is read as an include at all times if the moment lies in them, by the rule of `GotoIfTime`. At other moments it is
 /// read as an empty line. Without a moment it is the fault `NoClock`.

@@ -1,7 +1,9 @@
-//! Prepares the lines of a dialplan for loading: reads includes with times at a moment, and adds the ends of macros.
+//! Prepares the lines of a dialplan for loading: expands names with groups, reads includes with times at a moment, and adds the ends of
+//! macros.
 ghost use Rattle.std.specs.Prelude.{◌≡◌, ◌++◌, List, [], Option, Some, None, false, IfOk};
 ghost use Rattle.dp_files.specs.DialplanText.{text_of};
 ghost use Rattle.dp_files.specs.declared.source_line.MadeLine.{MadeLine};
+ghost use Rattle.dp_notices.specs.GroupNames as names;
 ghost use Rattle.dp_notices.specs.Loading as loader;
 ghost use Rattle.dp_notices.specs.MacroEnds as macros;
 ghost use Rattle.dp_notices.specs.Preparation as spec;
@@ -9,13 +11,15 @@ ghost use Rattle.dp_notices.specs.TimedIncludes as times;
 ghost use Rattle.dp_plan.specs.Loaded.{plan_and_notes};
 ghost use Rattle.dp_wide.specs.declared.times.Moment.{Moment};
 
+use crate::group_names::{NamedLines, expand_names};
+use crate::line_notices::NoticeAt;
 use crate::loading::{
-    LoadedLines, Loading, empty_lines, faults_in_text, load_faultless, load_lines, load_or_nothing,
-    load_text,
+    LoadedLines, Loading, copy_faultless, faults_in_text, load_faultless, load_lines,
+    load_or_nothing, load_text,
 };
 use crate::macro_ends::{AddedLine, made_ends};
 use crate::timed_includes::set_times_of;
-use dp_conf::{NoMemory, Text};
+use dp_conf::NoMemory;
 use dp_files::{MadeLine, text_of};
 use dp_plan::show_faults_decide_loading;
 use dp_wide::Moment;
@@ -39,30 +43,13 @@ fn set_times(
     Ok(lines)
 }
 
-/// Copies some lines.
-fn copy_lines(alloc: Global, lines: &[MadeLine]) -> Result<Vec<MadeLine>, NoMemory>
-    ensures { IfOk result (λ copies. copies.items ≡ lines.now) }
-{
-    let mut copies = Vec::new(alloc);
-    for line in lines {
-        let text = Text::copy_of(alloc, line.text.bytes())?;
-        copies.push(MadeLine {
-            source: line.source,
-            text,
-        })?;
-    }
-    Ok(copies)
-}
-
 /// Adds the lines that end macros to lines of which some have a fault, given their text.
 #[tactic(auto, unfolding(crate::specs::MacroEnds::with_ends))]
 fn add_ends(alloc: Global, mut lines: Vec<MadeLine>, text: &[u8]) -> Result<Vec<MadeLine>, NoMemory>
     requires { text.now ≡ text_of lines.items }
     ensures { IfOk result (λ ended. ended.items ≡ macros.with_ends lines.items) }
 {
-    let faults = faults_in_text(alloc, text)?;
-    let mut faultless = copy_lines(alloc, &lines)?;
-    empty_lines(alloc, &mut faultless, &faults)?;
+    let faultless = copy_faultless(alloc, &lines, text)?;
     let text = text_of(alloc, &faultless)?;
     let Loading {
         counts: _,
@@ -141,21 +128,42 @@ fn load_ended(alloc: Global, lines: Vec<MadeLine>) -> Result<LoadedLines, NoMemo
     }
 }
 
+/// Puts notices before those of the loader.
+fn with_notices(mut notices: Vec<NoticeAt>, loaded: LoadedLines) -> Result<LoadedLines, NoMemory>
+    ensures { IfOk result (λ all. loader.loaded_now all ≡ spec.with_notices notices.items (loader.loaded_now loaded)) }
+{
+    let LoadedLines {
+        lines,
+        notices: mut more,
+        counts,
+    } = loaded;
+    notices.append(&mut more)?;
+    Ok(LoadedLines {
+        lines,
+        notices,
+        counts,
+    })
+}
+
 /// Prepares lines for a moment and loads them without those that have a fault.
 pub(crate) fn load_prepared(
     alloc: Global,
     clock: Option<Moment>,
     lines: Vec<MadeLine>,
 ) -> Result<LoadedLines, NoMemory>
-    ensures { IfOk result (λ loaded. loader.loaded_now loaded ≡ loader.loaded_lines (spec.prepared_lines clock lines.items)) }
+    ensures { IfOk result (λ loaded. loader.loaded_now loaded ≡ spec.prepared clock lines.items) }
 {
+    let NamedLines { lines, notices } = expand_names(alloc, lines)?;
     let lines = set_times(alloc, clock, lines)?;
-    load_ended(alloc, lines)
+    let loaded = load_ended(alloc, lines)?;
+    with_notices(notices, loaded)
 }
 
-/// States which lines are loaded as they are. Without a moment, or if no include has times, times change nothing. If no context is a macro,
-/// no line is added. The function does nothing.
+/// States which lines are loaded as they are. If no name has a group, no name changes, and there are no notices on names. Without a moment,
+/// or if no include has times, times change nothing. If no context is a macro, no line is added. The function does nothing.
 pub fn show_plain_lines_stand()
+    ensures names { (lines : List MadeLine) → names.any_grouped false lines ≡ false → names.named_lines lines ≡ lines }
+    ensures unnoticed { (lines : List MadeLine) → names.any_grouped false lines ≡ false → names.name_notices lines ≡ [] }
     ensures times { (clock : Option Moment) (lines : List MadeLine) → spec.has_times lines ≡ false → times.with_times clock lines ≡ lines }
     ensures clock { (lines : List MadeLine) → times.with_times None lines ≡ lines }
     ensures macros { (lines : List MadeLine) → spec.has_macros lines ≡ false → macros.with_ends lines ≡ lines }

@@ -1,11 +1,13 @@
 //! The printed lines of notices.
 ghost use Rattle.std.specs.Prelude.{◌≡◌, ◌++◌, IfOk, OnOk};
 ghost use Rattle.dp_notices.specs.Printing as spec;
+ghost use Rattle.dp_notices.specs.QueueFiles.{queue_notices_text, queues_now};
 ghost use Rattle.dp_notices.specs.PlanFiles.{plan_now};
 
 use crate::line_notices::NotedLine;
 use crate::notice::{Notice, NoticeFault};
 use crate::plan_files::PlanFiles;
+use crate::queue_files::QueueFiles;
 use dp_conf::{NoMemory, line_content};
 use dp_files::{Fault, Note, SourceFile, SourceLine, included_name, path_of};
 use itoa::Buffer;
@@ -199,18 +201,18 @@ fn push_noted(
     push_line(alloc, out, shown, named, notices)
 }
 
-/// Adds the printed lines of the notices on all lines, without those that are not shown.
-#[tactic(auto, unfolding(crate::specs::Printing::notices_text))]
+/// Adds the printed lines of the notices on some lines of these files, without those that are not shown.
 fn push_lines(
     alloc: Global,
     out: &mut Vec<u8>,
     shown: Shown,
-    plan: &PlanFiles,
+    files: &[SourceFile],
+    lines: &[NotedLine],
 ) -> Result<(), NoMemory>
-    ensures { OnOk result (out.new.items ≡ out.old.items ++ spec.notices_text shown (plan_now plan.now)) }
+    ensures { OnOk result (out.new.items ≡ out.old.items ++ spec.lines_text shown files.now lines.now) }
 {
-    for noted in &plan.lines {
-        push_noted(alloc, out, shown, &plan.files, noted)?;
+    for noted in lines {
+        push_noted(alloc, out, shown, files, noted)?;
     }
     Ok(())
 }
@@ -219,10 +221,25 @@ fn push_lines(
 /// `FILE:LINE: note KIND`, as `FILE:LINE: fault CODE NAME`, or as `FILE:LINE: fault NAME` if the fault has no number. FILE is the path at
 /// which the file was opened. `ReadFailed` is followed by the name of the file that is not there, and `LeftOut` by the kind of what this
 /// program leaves out. The error comes only if a growth was refused.
+#[tactic(auto, unfolding(crate::specs::Printing::notices_text))]
 pub fn print_notices(alloc: Global, shown: Shown, plan: &PlanFiles) -> Result<Vec<u8>, NoMemory>
     ensures { IfOk result (λ text. text.items ≡ spec.notices_text shown (plan_now plan.now)) }
 {
     let mut out = Vec::new(alloc);
-    push_lines(alloc, &mut out, shown, plan)?;
+    push_lines(alloc, &mut out, shown, &plan.files, &plan.lines)?;
+    Ok(out)
+}
+
+/// Prints the notices on a file of queues in the same way.
+#[tactic(auto, unfolding(crate::specs::QueueFiles::queue_notices_text))]
+pub fn print_queue_notices(
+    alloc: Global,
+    shown: Shown,
+    queues: &QueueFiles,
+) -> Result<Vec<u8>, NoMemory>
+    ensures { IfOk result (λ text. text.items ≡ queue_notices_text shown (queues_now queues.now)) }
+{
+    let mut out = Vec::new(alloc);
+    push_lines(alloc, &mut out, shown, &queues.files, &queues.lines)?;
     Ok(out)
 }

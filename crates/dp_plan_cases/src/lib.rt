@@ -15,4 +15,6 @@ mod notices;
 #[cfg(test)]
 mod plan;
 #[cfg(test)]
+mod queue_files;
+#[cfg(test)]
 mod readers;

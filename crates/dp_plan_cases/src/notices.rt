@@ -14,7 +14,7 @@ a:[m]\nexten => 1,1,NoOp()\n same => n,Hangup()\n[n]→ok 2 contexts 2 entries\n
 # Each fault is reported at its line, and the lines after it are read as if that line were empty.
 a:[m]\nexten => 1,0,A()\nexten => 2,1,B(\nexten => _[],1,C()\nexten => 3,1,D()→a:2: fault 20 BadPriority\na:3: fault 23 BadApplication\na:4: fault 11 EmptySet\n3 faults\n
 a:exten => 1,1,A()\n[m]\nexten 1\n[]\nexten => 1→a:1: fault 2 NoSection\na:3: fault 4 NoEquals\na:4: fault 3 BadHeader\na:5: fault 28 ShortLine\n4 faults\n
-a:[m]\nexten => 1,1,Dial,x\ninclude => day,8:00-18:00,*,*,*\nexten => ${X},1,A()→a:2: fault OldForm\na:3: fault NoClock\na:4: fault 24 LeftOut Variable\n3 faults\n
+a:[m]\nexten => 1,1,Dial,x\ninclude => day,8:00-18:00,*,*,*\nexten => ${X}/,1,A()\nexten => _[{$],1,A()→a:2: fault OldForm\na:3: fault NoClock\na:4: note CallerId\na:5: fault 24 LeftOut Variable\n3 faults\n
 # A fault in a line of a template is reported once, however many sections copy the line.
 a:[t](!)\nexten => 1,0,A()\n[m](t)\n[n](t)→a:2: fault 20 BadPriority\n1 faults\n
 # Notices have the names of their files. The fault of a file that is not there is followed by its name.
@@ -25,6 +25,8 @@ a:[m]\nexten => 1,hint,SIP/1\nexten => 1,1,A()\nexten => 1,1,B()\ninclude => q\n
 # A note on a line among faulty lines.
 a:[m]\nexten => 1,0,A()\ninclude => q→a:2: fault 20 BadPriority\na:3: note UnknownContext\n1 faults\n
 b:[m]→no file
+# Expanded names may be those of other lines.
+a:[globals]\nN=1\n[m]\nexten => 1,1(x),A()\nexten => ${N},2(x),B()\nexten => ${N},1,C()\ninclude => ${M}→a:5: note DoubleLabel\na:6: note DoublePriority\na:7: note UnknownContext\nok 1 contexts 1 entries\n
 # The times of an include begin after a comma. A bar belongs to the name.
 a:[m]\ninclude => day|8:00-18:00|*|*|*→a:2: note UnknownContext\nok 1 contexts 0 entries\n
 # The entries that end macros are counted, and a note is at the line of its file.
@@ -42,6 +44,7 @@ a:[m]\nexten => 1,1,A()\nexten => 1,n,B()→#[m]\nexten => 1,1,A()\nexten => 1,2
 const UNFOLLOWED: &str = r"
 a:[m]\n#exec /bin/date\nswitch => x\nexten => 1,hint,S\nexten => 1,1,A()→a:2: note Exec\na:3: note Switch\n
 a:[general]\nautofallthrough=no\n[m]\nexten => 1/20,1,A()\nexten => 1,0,A()→a:2: note AutoFallThrough\na:4: note CallerId\na:5: fault 20 BadPriority\n
+a:[globals]\nX=1/2\n[m]\nexten => ${X},1,A()\nexten => ${X:0:1}/2,1,A()\n same => n,B()→a:4: note CallerId\na:5: note CallerId\na:6: note CallerId\n
 ";
 
 /// A moment or nothing, then a `¦` and files, and the faults and the text that loads as in `FAULTS`.
@@ -69,6 +72,55 @@ wed 2024-01-03 19:00¦a:[t](!)\ninclude => day,8:00-18:00\n[m](t)\n[n](t)→#[m]
 # A macro that includes its next priority at some times ends at other times.
 wed 2024-01-03 09:00¦a:[macro-x]\nexten => s,1,A()\ninclude => more,8:00-18:00\n[more]\nexten => s,2,B()→#[macro-x]\nexten => s,1,A()\ninclude => more\n[more]\nexten => s,2,B()\n
 wed 2024-01-03 19:00¦a:[macro-x]\nexten => s,1,A()\ninclude => more,8:00-18:00\n[more]\nexten => s,2,B()→#[macro-x]\nexten => s,1,A()\n\n[more]\nexten => s,2,B()\n[macro-x]\nexten => s,2,MacroExit()\n
+";
+
+/// Files with names that have groups, written as in `TIMES`, and the faults and the text that loads.
+const NAMES: &str = r"
+# The name of an entry is expanded by the global variables. The lines `same` after it belong to its extension.
+¦a:[globals]\nNUM=100\n[m]\nexten => ${NUM},1,A(${NUM})\n same => n(go),B()→#[globals]\nNUM=100\n[m]\nexten => 100,1,A(${NUM})\nsame => 2(go),B()\n
+¦a:[globals]\nP=9\n[m]\nexten => 1,1,A()\nexten => _${P}XX-${P},n,B() ; last→#[globals]\nP=9\n[m]\nexten => 1,1,A()\nexten => _9XX-9,2,B()\n
+# The global variables may come later. Each is expanded by those before it, and the last value counts.
+¦a:[m]\nexten => ${B},1,A()\n[globals]\nA=1\nB=${A}2\nA=3→#[m]\nexten => 12,1,A()\n[globals]\nA=1\nB=${A}2\nA=3\n
+¦a:[globals]\nA=1\nA=2\n[m]\nexten => ${A},1,A()→#[globals]\nA=1\nA=2\n[m]\nexten => 2,1,A()\n
+# Expressions and functions of texts.
+¦a:[m]\nexten => $[1+1],1,A()→#[m]\nexten => 2,1,A()\n
+¦a:[globals]\nA=3\n[m]\nexten => 7,5,A()\nexten => _$[${A}-1]X,1,A()\n same => n,B()→#[globals]\nA=3\n[m]\nexten => 7,5,A()\nexten => _2X,1,A()\nsame => 2,B()\n
+¦a:[m]\nexten => $[6/2],1,A()→#[m]\nexten => 3,1,A()\n
+¦a:[globals]\nA=12345\n[m]\nexten => ${A:1:2},1,A()\nexten => ${LEN(${A})},1,A()→#[globals]\nA=12345\n[m]\nexten => 23,1,A()\nexten => 5,1,A()\n
+# A variable that is not set is empty. A name of nothing has the fault of any such name.
+¦a:[m]\nexten => ${P}100,1,A()\nexten => ${P},1,B()\nexten => _${P},1,C()→a:3: fault 10 EmptyName\na:4: fault 10 EmptyName\n#[m]\nexten => 100,1,A()\n\n\n
+# An expanded name may be faulty.
+¦a:[globals]\nA=1 2\nB=[\n[m]\nexten => ${A},1,A()\nexten => _${B},1,B()→a:5: fault 15 BadByte\na:6: fault 13 OpenSet\n#[globals]\nA=1 2\nB=[\n[m]\n\n\n
+# Includes, with their keys as they are written.
+¦a:[globals]\nC=day\n[m]\nInclude = ${C}\ninclude => ${C}2\n[day]→#[globals]\nC=day\n[m]\nInclude => day\ninclude => day2\n[day]\n
+¦a:[m]\ninclude => ${C}→#[m]\ninclude => \n
+# An include may have both a group and times.
+wed 2024-01-03 09:00¦a:[globals]\nC=day\n[m]\ninclude => ${C},8:00-18:00,*,*,*\n[day]→#[globals]\nC=day\n[m]\ninclude => day\n[day]\n
+wed 2024-01-03 19:00¦a:[globals]\nC=day\n[m]\ninclude => ${C},8:00-18:00,*,*,*\n[day]→#[globals]\nC=day\n[m]\n\n[day]\n
+¦a:[globals]\nC=day\n[m]\ninclude => ${C},8:00-18:00,*,*,*\n[day]→a:4: fault NoClock\n#[globals]\nC=day\n[m]\n\n[day]\n
+# What comes of a group is not cut at a comma, and no blank at its end is lost.
+¦a:[globals]\nX=1,2\n[m]\nexten => ${X},1,A()\ninclude => ${X}→a:4: fault 24 LeftOut Variable\na:5: fault 24 LeftOut Variable\n#[globals]\nX=1,2\n[m]\n\n\n
+¦a:[globals]\nX=a b\n[m]\ninclude => ${X:0:2}\ninclude => ${X:1}\ninclude => ${X}→a:4: fault 24 LeftOut Variable\na:5: fault 24 LeftOut Variable\n#[globals]\nX=a b\n[m]\n\n\ninclude => a b\n
+# A semicolon is written as in any line.
+¦a:[globals]\nX=1\\;2\n[m]\nexten => ${X},1,A(\\;)→#[globals]\nX=1\\;2\n[m]\nexten => 1\\;2,1,A(\\;)\n
+# An entry for one caller is left out, whether or not its `/` comes of a group.
+¦a:[globals]\nX=1\nY=1/2\n[m]\nexten => ${X}/20,1,A()\nexten => ${Y},1,B()\nexten => 3,n,C()→#[globals]\nX=1\nY=1/2\n[m]\n\n\nexten => 3,2,C()\n
+# Lines `same` are left out with their extension.
+¦a:[globals]\nX=1/2\n[m]\nexten => 1,1,A()\nexten => ${X},1,B()\n same => n,C()\ninclude => d\n same => n,D()\nexten => 3,n,E()\n same => n,F()→#[globals]\nX=1/2\n[m]\nexten => 1,1,A()\n\n\ninclude => d\n\nexten => 3,4,E()\nsame => 5,F()\n
+¦a:[m]\nexten => ${DB(a)},1,A()\n same => n,B()\n[n]\n same => 1,C()→a:2: fault 24 LeftOut Variable\na:3: fault 24 LeftOut Variable\na:5: fault 26 NoExten\n#[m]\n\n\n[n]\n\n
+# What is not known before a call is a fault.
+¦a:[m]\nexten => ${DB(a/b)},1,A()\nexten => ${UNIQUEID},1,B()\nexten => _$[${EPOCH} - 1]X,1,C()\ninclude => ${DB(a/b)}\ninclude => ${UNIQUEID},8:00-18:00\nexten => 3,n,D()→a:2: fault 24 LeftOut Variable\na:3: fault 24 LeftOut Variable\na:4: fault 24 LeftOut Variable\na:5: fault 24 LeftOut Variable\na:6: fault 24 LeftOut Variable\n#[m]\n\n\n\n\n\nexten => 3,2,D()\n
+¦a:[m]\nexten => ${FILTER(0-9,a1)},1,A()\nexten => _[{$],1,B()\nexten => ${A,1,C()→a:2: fault 24 LeftOut Variable\na:3: fault 24 LeftOut Variable\na:4: fault 24 LeftOut Variable\n#[m]\n\n\n\n
+# If the value of a global variable is not known, no name with a group is.
+¦a:[globals]\nX=${UNIQUEID}\nN=5\n[m]\nexten => ${N},1,A()\nexten => 6,1,B()→a:5: fault 24 LeftOut Variable\n#[globals]\nX=${UNIQUEID}\nN=5\n[m]\n\nexten => 6,1,B()\n
+# Only lines of contexts have such names. Hints are left out as before.
+¦a:[globals]\nX=1\nexten=${X}\n[general]\ninclude=${X}\n[m]\nother=${X}\nexten => ${X},hint,SIP/1→#[globals]\nX=1\nexten=${X}\n[general]\ninclude=${X}\n[m]\nother=${X}\n
+# Faulty lines set no variables.
+¦a:X=1\n[globals]\nY=2\n[m]\nexten => 0${X}${Y},1,A()\nexten => 1,0,B()→a:1: fault 2 NoSection\na:6: fault 20 BadPriority\n#[globals]\nY=2\n[m]\nexten => 02,1,A()\n\n
+# The copies of a template have one notice.
+¦a:[t](!)\nexten => ${DB(a/b)},1,A()\n[m](t)\n[n](t)→a:2: fault 24 LeftOut Variable\n#[m]\n\n[n]\n\n
+# A macro ends after its expanded name.
+¦a:[globals]\nS=s\n[macro-x]\nexten => ${S},1,A()\nexten => s,2,B()→#[globals]\nS=s\n[macro-x]\nexten => s,1,A()\nexten => s,2,B()\n[macro-x]\nexten => s,3,MacroExit()\n
 ";
 
 /// Files, and each line of the text that loads, after the line of a file from which it is made.
@@ -103,12 +155,18 @@ fn add_file(alloc: Global, map: &mut FileMap, file: &str) -> Result<(), Fail> {
     Ok(())
 }
 
-/// Reads the file `a` and the files that it includes, at a moment if one is given. The result is `None` if the file is not there.
-fn read_at(alloc: Global, clock: Option<Moment>, files: &str) -> Result<Option<PlanFiles>, Fail> {
+/// The files of a question.
+pub(crate) fn file_map(alloc: Global, files: &str) -> Result<FileMap, Fail> {
     let mut map = FileMap::new(alloc);
     for file in files.split('‖') {
         add_file(alloc, &mut map, file)?;
     }
+    Ok(map)
+}
+
+/// Reads the file `a` and the files that it includes, at a moment if one is given. The result is `None` if the file is not there.
+fn read_at(alloc: Global, clock: Option<Moment>, files: &str) -> Result<Option<PlanFiles>, Fail> {
+    let mut map = file_map(alloc, files)?;
     Ok(read_plan(alloc, &mut map, b"a", clock).ok())
 }
 
@@ -234,6 +292,11 @@ fn notes_on_what_is_not_followed_are_printed_with_the_faults(rt: HostRuntime) ->
 #[test]
 fn includes_with_times_are_read_at_a_moment(rt: HostRuntime) -> Result<(), Fail> {
     check::<Times>(rt.alloc(), TIMES)
+}
+
+#[test]
+fn names_are_expanded_by_the_global_variables(rt: HostRuntime) -> Result<(), Fail> {
+    check::<Times>(rt.alloc(), NAMES)
 }
 
 #[test]

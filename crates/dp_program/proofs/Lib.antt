@@ -8,3 +8,4 @@ mod ReachesLemmas
 mod ReadsLemmas
 mod RunLemmas
 pub mod ServesLemmas
+mod TestLemmas

@@ -21,9 +21,10 @@ use Rattle.dp_program.specs.Faulted.{StandsIn, in_none, nowhere, place_by, place
 use Rattle.dp_program.specs.Files.{Source, Reads}
 use Rattle.dp_program.specs.Hints.{Tells, audit_hint_of, match_hint_of, status_in}
 use Rattle.dp_program.specs.Reaches.{Reaches, place_of_files}
-use Rattle.dp_program.specs.Requests.{OptionsOf, RequestOf, LookupOf, QuestionOf, joined, check, check_files, check_queues, check_both, listing, listing_files, auditing, auditing_by, matching, matching_files, explaining, run, run_wide, debug, reaching}
+use Rattle.dp_program.specs.Requests.{OptionsOf, RequestOf, LookupOf, QuestionOf, joined, check, check_files, check_queues, check_both, listing, listing_files, auditing, auditing_by, matching, matching_files, explaining, run, run_wide, debug, testing, reaching}
 use Rattle.dp_program.specs.Entries.{explanation_of}
 use Rattle.dp_program.specs.Serves.{AuditsAsked, AuditsFile, AuditsFileBy, AuditsText, ChecksBoth, DebugsAsked, DebugsFiles, DebugsFilesVerbosely, DebugsVerbosely, ListsText, LooksUp, LooksUpText, PlacesOf, ReportsOn, Runs, RunsBeside, RunsPlan, RunsPlans, RunsSecond, RunsAsked, RunsFiles, RunsFilesVerbosely, RunsFilesWide, RunsVerbosely, RunsWide, Serves, SharesSome, debug_of_texts, files_read, in_force_at, in_force_at_first, look_up, places_read, run_of_texts, wide_run_of_texts, RunsFilesWideVerbosely, RunsTextsWideVerbosely, RunsWideAsked, RunsWideVerbosely}
+use Rattle.dp_program.specs.TestFiles.{manner_of}
 use Rattle.dp_program.specs.Texts.{OfRun, ReadsTexts, all_texts, some_text, sources_of}
 use Rattle.dp_program.specs.declared.dialplans.PlanUse.TheVariants.{Report, LookUp, Run as to_run}
 use Rattle.dp_program.specs.declared.faulted.Faulted.{Faulted}
@@ -34,6 +35,7 @@ use Rattle.dp_wide_runs.specs.Kinds.{ChoiceOf}
 use Rattle.dp_wide_runs.specs.Runs.{WideRun}
 use Rattle.dp_wide_runs.specs.WideAudits.{WritesChoice, plan_of}
 use Rattle.dp_program.proofs.DialplanLemmas.{dialplan_lacks}
+use Rattle.dp_program.proofs.TestLemmas.{tests_lack}
 use Rattle.dp_program.proofs.ReadsLemmas.{IsUnread, by_reason, Reads-any, Reads-weaker, ReadsSome-any, ReadsTexts-any, ReadsTexts-weaker}
 
 -- if memory runs out before anything was written
@@ -571,6 +573,7 @@ Serves-lacks files input (run_wide paths is_verbose) options old =
     dialplan_lacks (RunsPlan options.clock paths files is_verbose old old) paths.plan old (plan_lacks options.clock paths files is_verbose old) to_run
     options.clock files
 Serves-lacks files input (debug paths held is_verbose) options old = (debug_asked_lacks paths (sources_of files paths) held is_verbose old, tt)
+Serves-lacks files input (testing file is_traced is_covered) options old = Reads-any (files file) _ (tests_lack (manner_of is_traced is_covered) files file old)
 Serves-lacks files input (reaching question) options old =
     Reads-any (files question.file) _ (λ plan. ReadsSome-any (option_map files question.queues) _ (λ queues. (
       reaches_lacks question options.explains old (plan >>= λ plan. some_text queues >>= λ queues. files_of plan queues),

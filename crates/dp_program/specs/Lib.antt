@@ -10,5 +10,6 @@ pub mod Reaches
 pub mod Requests
 pub mod Serves
 pub mod Status
+pub mod TestFiles
 pub mod Texts
 pub mod WideRuns

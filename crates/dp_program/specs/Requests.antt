@@ -8,7 +8,7 @@ use Rattle.dp_program.specs.declared.options.Options.{Options}
 use Rattle.dp_program.specs.declared.request.Lookup.{Lookup}
 use Rattle.dp_program.specs.declared.request.ReachQuestion.{ReachQuestion}
 use Rattle.dp_program.specs.declared.request.Request.{Request}
-use Rattle.dp_program.specs.declared.request.Request.TheVariants.{Joined, Check, CheckIncluding, CheckQueues, CheckBoth, Listing, ListIncluding, Audit, AuditBy, Match, MatchIncluding, Explain, Run, RunWide, Debug, Reach}
+use Rattle.dp_program.specs.declared.request.Request.TheVariants.{Joined, Check, CheckIncluding, CheckQueues, CheckBoth, Listing, ListIncluding, Audit, AuditBy, Match, MatchIncluding, Explain, Run, RunWide, Debug, Test, Reach}
 
 -- what is looked up in the dialplan of a file, with its texts
 pub record LookupOf : Type 0 where
@@ -67,6 +67,7 @@ pub data RequestOf : Type 0 where
   run : OfRun (List ℕ) → Option ℕ → Bool → RequestOf
   run_wide : OfRun (List ℕ) → Bool → RequestOf
   debug : OfRun (List ℕ) → List ℕ → Bool → RequestOf
+  testing : List ℕ → Bool → Bool → RequestOf
   reaching : QuestionOf → RequestOf
 
 -- what a request asks for
@@ -86,4 +87,5 @@ request_asked (Explain fault) = explaining fault
 request_asked (Run files threads is_verbose) = run (paths_of files) threads is_verbose
 request_asked (RunWide files is_verbose) = run_wide (paths_of files) is_verbose
 request_asked (Debug files held is_verbose) = debug (paths_of files) held.now is_verbose
+request_asked (Test file is_traced is_covered) = testing file.now is_traced is_covered
 request_asked (Reach question) = reaching (question_of question)

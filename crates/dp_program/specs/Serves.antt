@@ -21,7 +21,8 @@ use Rattle.dp_program.specs.Files.{Source, Reads, has_read_failed}
 use Rattle.dp_program.specs.Hints.{Tells, TellsNothing, audit_hint_of, match_hint_of, status_in}
 use Rattle.dp_program.specs.Including.{ChecksIncluding}
 use Rattle.dp_program.specs.Reaches.{ReachesFiles}
-use Rattle.dp_program.specs.Requests.{OptionsOf, RequestOf, LookupOf, joined, check, check_files, check_queues, check_both, listing, listing_files, auditing, auditing_by, matching, matching_files, explaining, run, run_wide, debug, reaching}
+use Rattle.dp_program.specs.Requests.{OptionsOf, RequestOf, LookupOf, joined, check, check_files, check_queues, check_both, listing, listing_files, auditing, auditing_by, matching, matching_files, explaining, run, run_wide, debug, testing, reaching}
+use Rattle.dp_program.specs.TestFiles.{TestsFile, manner_of}
 use Rattle.dp_program.specs.Texts.{OfRun, ReadsTexts, all_texts, sources_of}
 use Rattle.dp_program.specs.declared.dialplans.PlanUse.TheVariants.{Report, LookUp, Run as to_run}
 use Rattle.dp_program.specs.declared.faulted.Faulted.{Faulted}
@@ -279,6 +280,8 @@ Serves files input (run paths threads is_verbose) options old new answered =
 Serves files input (run_wide paths is_verbose) options old new answered = RunsIncluding options.clock paths files is_verbose old new answered
 Serves files input (debug paths held is_verbose) options old new answered =
     Quietly (DebugsAsked paths (sources_of files paths) held is_verbose old new) answered
+Serves files input (testing file is_traced is_covered) options old new answered =
+    TestsFile (manner_of is_traced is_covered) files file old new answered
 Serves files input (reaching question) options old new answered = ReachesFiles files question options.explains old new answered
 
 -- whether a read of the input failed, given the result: only a request without a command reads the input
@@ -298,4 +301,5 @@ fails_on_input (explaining fault) result = false
 fails_on_input (run paths threads is_verbose) result = false
 fails_on_input (run_wide paths is_verbose) result = false
 fails_on_input (debug paths held is_verbose) result = false
+fails_on_input (testing file is_traced is_covered) result = false
 fails_on_input (reaching question) result = false

@@ -32,9 +32,9 @@ pub(crate) struct PlanText {
     /// The text.
     pub(crate) text: Vec<u8>,
     /// The paths of the files that were read.
-    names: Vec<Text>,
+    pub(crate) names: Vec<Text>,
     /// For each line of the text, the line of a file from which it is made.
-    lines: Vec<LinePosition>,
+    pub(crate) lines: Vec<LinePosition>,
 }
 
 impl PlanText {
@@ -224,7 +224,7 @@ fn plan_text(
 }
 
 /// The result for a command of a dialplan that was read, given what the command reads it for and the word of `--clock`.
-fn dialplan_of(
+pub(crate) fn dialplan_of(
     alloc: Global,
     purpose: PlanUse,
     clock: Option<&str>,

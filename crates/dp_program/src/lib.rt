@@ -19,6 +19,8 @@ mod reports;
 mod request;
 mod runs;
 mod system_paths;
+mod test_inputs;
+mod test_reports;
 mod texts;
 mod verbose_runs;
 mod wide_audits;

@@ -20,6 +20,7 @@ use crate::reaches::serve_reach;
 use crate::reports::{Manner, serve_audit, serve_explain, serve_list, serve_match};
 use crate::request::Request;
 use crate::runs::{PlainRun, serve_debug, serve_joined, serve_run};
+use crate::test_reports::{TestManner, serve_test};
 use crate::verbose_runs::{serve_debug_verbose, serve_run_verbose};
 use crate::wide_audits::serve_audit_by;
 use crate::wide_runs::{WideRun, serve_run_including};
@@ -145,6 +146,17 @@ pub fn serve<'a, F: ReadFiles, I: ReadTold, W: WriteTold, R: Threads + Wait + Sy
             held,
             is_verbose: false,
         } => without_hint(alloc, serve_debug(files, alloc, run, held, output)),
+        Request::Test {
+            file,
+            is_traced,
+            is_covered,
+        } => {
+            let manner = TestManner {
+                traces: *is_traced,
+                covers: *is_covered,
+            };
+            serve_test(files, alloc, manner, file, output)
+        }
         Request::Reach { question } => serve_reach(
             files,
             alloc,

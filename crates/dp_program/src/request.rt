@@ -151,6 +151,13 @@ pub enum Request<'a> {
         held: &'a str,
         is_verbose: bool,
     },
+    /// `test [--trace] [--cover] FILE`: runs the tests of a file on the dialplan and the queues that its head names, over the wide table.
+    /// The report has what ran in each test if it is asked for, and the entries that ran in none.
+    Test {
+        file: &'a str,
+        is_traced: bool,
+        is_covered: bool,
+    },
     /// `reach [--queues QUEUES] [--start CONTEXTS] [--exten BYTES] [--caller NUMBERS] [--to TARGET] FILE CONTEXT`: reports what a call that
     /// comes in at a context may run, or whether it may reach another context.
     Reach {

@@ -4,6 +4,7 @@ mod dialplans;
 mod entries;
 mod examples;
 mod faults;
+mod office;
 mod reaches;
 mod shelf;
 mod values;

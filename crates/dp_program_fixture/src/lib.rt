@@ -96,6 +96,20 @@ pieces→[main]¶#include \"inner.piece\"¶exten => s,1,Goto(100,1)¶
 inner.piece→;-- a note¶ over lines --;¶exten => 100,1,NoOp(hello)¶ same => n,Hangup()¶
 pieces.script→start main s¶step 1 3¶
 dashed→[-in-]¶exten => 1,1,NoOp¶
+# Tests of some of these dialplans, and test files with faults, or that name files with faults.
+first.test→dialplan first¶test one¶call main 100¶expect 1 ended¶
+changes.test→dialplan changing¶test a dialplan is reloaded¶reload changed¶expect global X=12¶expect global Y=5¶
+fails.test→dialplan first¶test one¶call main 100¶expect 1 ran NoOp¶test two¶call main 100¶hangup 1¶
+none.test→dialplan first¶
+timed.test→dialplan timed¶clock mon 2026-11-30 09:30¶
+unclocked.test→dialplan timed¶
+faulty.test→dialplan first¶test one¶jump 1¶expect x¶
+lost.test→dialplan nowhere.conf¶queues nowhere.queues¶test one¶reload nowhere.plan¶
+parted.test→dialplan parted¶test one¶
+strategy.test→dialplan first¶queues strategy¶test one¶
+switched.test→dialplan switched¶
+random→[help]¶strategy = random¶
+random.test→dialplan first¶queues random¶
 ";
 
 /// The text with each character of one kind replaced by the other.

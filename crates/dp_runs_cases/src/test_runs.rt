@@ -1,4 +1,6 @@
 //! Tests that run, with what comes of them, worked out by hand from the rules of tests.
+mod reports;
+
 use dp_case_tables::{Question, bytes_of, check, check_all, check_same};
 use dp_commands::{PbxFault, RunTexts};
 use dp_commands_fixture::read_texts;
@@ -70,6 +72,12 @@ exten => _1XX,1,Set(A=${EXTEN})\nexten => _1XX,2,Hangup()¦¦call main 123\nexpe
 exten => _1XX,1,Set(A=${EXTEN})\nexten => _1XX,2,Hangup()¦¦call main 123\nexpect 1 passed SET\nexpect 1 passed Set(A=123)\nexpect not 1 passed Set(A=${EXTEN})\nexpect not 1 passed Set(a=123)\nexpect not 2 passed Set→ok
 exten => _1XX,1,Set(A=${EXTEN})\nexten => _1XX,2,Hangup()¦¦call main 123\nexpect 1 at main,_1XX,2\nexpect 1 at main,_1-X[0-9]\nexpect not 1 at main,_1XX,1\nexpect not 1 at main,123\nexpect not 1 at other,_1XX→ok
 exten => s,1,Hangup()¦¦call main s\nexpect 2 ran Hangup→4 Unmet
+# What an `ExecIf` runs counts, after the `ExecIf` itself.
+exten => s,1,ExecIf($[1]?Set(X=1):NoOp())¦¦call main s\nexpect 1 ran Set(X=1)\nexpect not 1 ran ExecIf\nexpect 1 passed execif\nexpect 1 passed ExecIf(1?Set(X=1):NoOp())\nexpect not 1 passed NoOp\nexpect 1 at main,s,1→ok
+exten => s,1,ExecIf($[0]?Set(X=1))¦¦call main s\nexpect 1 ran ExecIf(0?Set(X=1))\nexpect not 1 passed Set→ok
+exten => s,1,ExecIf(1,NoOp,a,b)¦¦call main s\nexpect 1 ran NoOp(a,b)\nexpect 1 passed ExecIf(1,NoOp,a,b)→ok
+exten => s,1,execif(1?ExecIf(1?NoOp(b)))¦¦call main s\nexpect 1 ran NoOp(b)\nexpect 1 passed ExecIf(1?NoOp(b))\nexpect 1 passed ExecIf(1?ExecIf(1?NoOp(b)))\nexpect not 1 passed NoOp→7 Unmet
+exten => s,1,ExecIf(1?ExecIf(0?NoOp(b)))\nexten => s,2,Hangup()¦¦call main s\nexpect 1 passed ExecIf(0?NoOp(b))\nexpect 1 ran Hangup\nexpect not 1 passed NoOp→ok
 # The least channel goes first, and each to its end.
 exten => s,1,Set(A=${DB(x)})\nexten => s,2,NoOp(${GLOBAL(G)})\nexten => s,3,Set(GLOBAL(G)=1)\nexten => s,4,Hangup()¦¦call main s\ncall main s\nglobal DB(x)=5\nexpect 1 passed NoOp()\nexpect 2 passed NoOp(1)→ok
 ";
@@ -86,6 +94,22 @@ exten => s,1,Read(PIN)¦¦call main s\nexpect 1 PAN=→ok
 exten => s,1,Wait(1)¦¦call main s\nexpect 2 A=→4 Unmet
 exten => s,1,Wait(1)¦¦call main s\nlet 1 CDR(x)=5\nexpect 1 CDR(x)=5\nexpect not 1 CDR(x)=6→ok
 exten => s,1,Wait(1)¦¦call main s\nglobal DB(x)=a b\nexpect 1 DB(x)=a b→ok
+exten => s,1,Wait(1)¦¦call main s\nglobal DB(x)=\nexpect 1 DB(x)=→ok
+exten => s,1,Wait(1)¦¦call main s\nexpect 1 CDR(x)=\nassume CDR→4 Unmet
+exten => s,1,Wait(1)¦¦call main s\nassume CDR\nexpect 1 CDR(x)=→ok
+exten => s,1,Wait(1)¦¦call main s\nexpect not 1 TOUPPER(${CDR(x)})=5→4 Unmet
+# A name is read as the dialplan reads it, with its function or its substring.
+exten => s,1,Set(X=a-b-c)\nexten => s,2,Wait(1)¦¦call main s\nexpect 1 CUT(X,-,2)=b\nexpect 1 LEN(${X})=5\nexpect 1 X:2=b-c\nexpect not 1 CUT(X,-,1)=b→ok
+exten => s,1,Set(DB(a/b)=1)\nexten => s,2,Wait(1)¦¦call main s 200\nexpect 1 DB(a/b)=1\nexpect not 1 DB(a/b)=\nexpect 1 CALLERID(num)=200→ok
+exten => s,1,Set(CALLERID(num)=7)\nexten => s,2,Wait(1)¦¦call main s 200\nexpect 1 CALLERID(num)=7→ok
+# A global, also one that a dialplan has set.
+exten => s,1,Set(GLOBAL(G)=2)\nexten => s,2,Wait(1)¦¦global X=5\nexpect global X=5\nexpect not global X=6\nexpect global G=\ncall main s\nexpect global G=2\nexpect not global g=2→ok
+exten => s,1,Set(A=2)\nexten => s,2,Wait(1)¦¦call main s\nexpect not global A=2→ok
+exten => s,1,Wait(1)¦¦global DB(x)=7\nexpect global DB(x)=7\nexpect not global DB(x)=→ok
+exten => s,1,Wait(1)¦¦expect not global DB(x)=7→3 Unmet
+exten => s,1,Wait(1)¦¦assume DB\nexpect global DB(x)=→ok
+exten => s,1,Wait(1)¦¦assume CDR\nexpect global DB(x)=→4 Unmet
+exten => s,1,Wait(1)¦¦expect global SYSTEMNAME=→3 Unmet
 ";
 
 /// The same of queues.
@@ -104,6 +128,9 @@ exten => s,1,Set(A=5)\nexten => s,2,Wait(1)¦¦call main s\nexpect 1 passed NoOp
 exten => s,1,Set(A=5)\nexten => s,2,Wait(1)¦¦call main s\nexpect 1 at main,s,1→4 Unmet got main,s,2
 exten => s,1,Set(A=5)\nexten => s,2,Wait(1)¦¦call main s\nexpect 1 A=6→4 Unmet got 5
 exten => s,1,Wait(1)¦¦call main s\nexpect 1 CDR(x)=→4 Unmet got unknown
+exten => s,1,Set(X=a-b)\nexten => s,2,Wait(1)¦¦call main s\nexpect 1 CUT(X,-,2)=a→4 Unmet got b
+exten => s,1,Wait(1)¦¦global X=5\nexpect global X=6→4 Unmet got 5
+exten => s,1,Wait(1)¦¦expect global DB(x)=5→3 Unmet got unknown
 exten => s,1,Wait(1)¦¦call main s\nexpect 2 ran Wait→4 Unmet got nothing
 exten => s,1,Queue(q)¦[q]\nmember => Line/1\nmember => Line/2¦call main s\nexpect rings Line/1→4 Unmet got rings
 exten => s,1,Queue(q)¦[q]\nmember => Line/1\nmember => Line/2¦call main s\noffer q\nexpect rings Line/3→5 Unmet got rings Line/1 Line/2
@@ -145,6 +172,14 @@ fn verdict_text(alloc: Global, failure: Option<Failure>) -> Result<String, Fail>
     Ok(out)
 }
 
+/// A fault that a case does not expect.
+fn failed_by(fault: PbxFault) -> Fail {
+    match fault {
+        PbxFault::Coded { code, .. } => Fail::new(format_args!("{}", code.name())),
+        PbxFault::NoMemory => Fail::new(format_args!("out of memory")),
+    }
+}
+
 /// The result of a test of a file on the texts of a case.
 fn run_case(
     alloc: Global,
@@ -160,8 +195,7 @@ fn run_case(
     };
     match run_test(alloc, given, file, test) {
         Ok(result) => Ok(result),
-        Err(PbxFault::Coded { code, .. }) => Err(Fail::new(format_args!("{}", code.name()))),
-        Err(PbxFault::NoMemory) => Err(Fail::new(format_args!("out of memory"))),
+        Err(fault) => Err(failed_by(fault)),
     }
 }
 
@@ -204,11 +238,17 @@ impl Question for WithGot {
     }
 }
 
-/// The report of a test that failed.
-fn report(alloc: Global) -> Result<Report, Fail> {
+/// A trace of two lines.
+fn trace(alloc: Global) -> Result<Items<Text>, Fail> {
     let mut trace = Items::none(alloc);
     trace.push(Text::copy_of(alloc, b"Set(A='5')")?)?;
     trace.push(Text::copy_of(alloc, b"Wait(1)")?)?;
+    Ok(trace)
+}
+
+/// The report of a test that failed.
+fn report(alloc: Global) -> Result<Report, Fail> {
+    let trace = trace(alloc)?;
     let at = Text::copy_of(alloc, b"a.test:4")?;
     let expected = Text::copy_of(alloc, b"1 A='6'")?;
     let got = Text::copy_of(alloc, b"'5'")?;
@@ -224,12 +264,19 @@ fn report(alloc: Global) -> Result<Report, Fail> {
 fn points(alloc: Global) -> Result<Vec<Point>, Fail> {
     let mut points = Vec::new(alloc);
     let name = Text::copy_of(alloc, b"A call is answered")?;
-    points.push(Point { name, report: None })?;
+    points.push(Point {
+        name,
+        report: None,
+        trace: trace(alloc)?,
+        entered: Items::none(alloc),
+    })?;
     let name = Text::copy_of(alloc, b"A #2 call \\ it's lost")?;
     let failed = report(alloc)?;
     points.push(Point {
         name,
         report: Some(failed),
+        trace: trace(alloc)?,
+        entered: Items::none(alloc),
     })?;
     let name = Text::copy_of(alloc, b"x")?;
     let mut failed = report(alloc)?;
@@ -237,6 +284,8 @@ fn points(alloc: Global) -> Result<Vec<Point>, Fail> {
     points.push(Point {
         name,
         report: Some(failed),
+        trace: Items::none(alloc),
+        entered: Items::none(alloc),
     })?;
     Ok(points)
 }
@@ -263,15 +312,46 @@ not ok 3 - x
   ...
 ";
 
+/// The text of the same results, below the traces of the tests.
+const TRACED: &str = r"TAP version 14
+1..3
+# Set(A='5')
+# Wait(1)
+ok 1 - A call is answered
+# Set(A='5')
+# Wait(1)
+not ok 2 - A \#2 call \\ it's lost
+  ---
+  at: 'a.test:4'
+  expected: '1 A=''6'''
+  got: '''5'''
+  trace:
+    - 'Set(A=''5'')'
+    - 'Wait(1)'
+  ...
+not ok 3 - x
+  ---
+  at: 'a.test:4'
+  expected: '1 A=''6'''
+  got: '''5'''
+  trace: []
+  ...
+";
+
+/// Whether results are written so.
+fn check_tap(alloc: Global, shows_traces: bool, want: &str) -> Result<(), Fail> {
+    let points = points(alloc)?;
+    let text = tap_text(alloc, shows_traces, &points)?;
+    let mut out = String::new(alloc);
+    write!(out, "{text}")?;
+    check_same("the text of the results", &out, want)
+}
+
 /// Results are written as the protocol says, and names and texts stay what they are.
 #[test]
 fn results_are_written_as_the_protocol_says(rt: HostRuntime) -> Result<(), Fail> {
-    let alloc = rt.alloc();
-    let points = points(alloc)?;
-    let text = tap_text(alloc, &points)?;
-    let mut out = String::new(alloc);
-    write!(out, "{text}")?;
-    check_same("the text of the results", &out, TAP)
+    check_tap(rt.alloc(), false, TAP)?;
+    check_tap(rt.alloc(), true, TRACED)
 }
 
 /// What came of a test is shown in place of what it expected.

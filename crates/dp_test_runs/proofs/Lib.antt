@@ -1,4 +1,6 @@
 mod CoursesLemmas
+mod PointsLemmas
+mod RanLemmas
 mod ReplaysLemmas
 mod SettlingLemmas
 mod cases

@@ -14,7 +14,7 @@ use Rattle.dp_tests.specs.declared.file.HeadLine.{HeadLine}
 use Rattle.dp_tests.specs.declared.file.Test.{Test}
 use Rattle.dp_tests.specs.declared.file.TestFile.{TestFile}
 use Rattle.dp_tests.specs.declared.file.TestLine.{TestLine}
-use Rattle.dp_test_runs.specs.Courses.{after_given, after_reload, after_turn, at_line, event_given, text_named}
+use Rattle.dp_test_runs.specs.Courses.{after_given, after_reload, after_turn, at_line, event_given, number_named, text_named}
 use Rattle.dp_test_runs.specs.Ran.{ran_after, ran_by}
 use Rattle.dp_test_runs.specs.Replays.{Replays, events_by, events_of_act, events_of_fact, events_of_head, events_of_lines, events_of_test, events_of_turns, given_unless, reload_of}
 use Rattle.dp_test_runs.specs.Tests.{Ended, after_act, after_fact, after_head, ended, ended_after, ended_in, ended_test, failure_at_end, failure_of, go_on}
@@ -65,16 +65,17 @@ turns_replay course (turn ∷ turns) =
 from_line : (course after : Course) (events : List Event) → Replays (at_line course) after events → Replays course after events
 from_line course after events line = record { world = line.world; ran = line.ran }
 
-reload_replays : (course : Course) (text : Option (List ℕ)) → Replays course (after_reload course text) (events_by course.machine (reload_of text))
-reload_replays course None = replays-none course (after_reload course None) refl refl
-reload_replays course (Some text) = record { world = refl; ran = refl }
+reload_replays : (course : Course) (file : Option ℕ) (text : Option (List ℕ))
+    → Replays course (after_reload course file text) (events_by course.machine (reload_of text))
+reload_replays course file None = replays-none course (after_reload course file None) refl refl
+reload_replays course file (Some text) = record { world = refl; ran = refl }
 
 -- what a line does
 act_replays : (files : List NamedText) (course : Course) (act : Act) → Replays course (after_act files course act) (events_of_act files course act)
 act_replays files course (acts.Turns turns) =
     from_line course (fold after_turn (at_line course) (turns_of turns)) (events_of_turns (at_line course) (turns_of turns))
     (turns_replay (at_line course) (turns_of turns))
-act_replays files course (acts.Reload name) = reload_replays course (text_named files name)
+act_replays files course (acts.Reload name) = reload_replays course (number_named files name) (text_named files name)
 act_replays files course (acts.Expect expectation) = replays-none course course refl refl
 
 -- what follows unless something has failed

@@ -1,3 +1,4 @@
 -- Worked cases, computed on the definitions themselves.
 mod Tap
+mod Traces
 mod Verdicts

@@ -1,5 +1,5 @@
 -- The course of a test: what is known at a line of it, and how its event lines change that.
-use Rattle.std.specs.Prelude.{ℕ, ◌||◌, List, ◌∷◌, ◌++◌, fold, Option, Some, None}
+use Rattle.std.specs.Prelude.{ℕ, ◌||◌, List, [], ◌∷◌, ◌++◌, length, position, fold, Option, Some, None}
 use Rattle.std.specs.List.{find}
 use Rattle.std.specs.Option.{option_map, option_or}
 use Rattle.dp_conf.specs.Words.{same_text}
@@ -24,6 +24,7 @@ use Rattle.dp_wide_runs.specs.declared.wide_turn.WideTurn.TheVariants.{Plain, Fu
 use Rattle.dp_test_runs.specs.Ran.{ran_after}
 use Rattle.dp_test_runs.specs.Settling.{is_endless, steps_of}
 use Rattle.dp_test_runs.specs.declared.course.Course.{Course}
+use Rattle.dp_test_runs.specs.declared.course.PlanChange.{PlanChange}
 use Rattle.dp_test_runs.specs.declared.named_text.NamedText.{NamedText}
 
 -- ---- the event of a turn
@@ -79,6 +80,7 @@ after_event course event =
       refusal = option_or course.refusal (refusal_of (event_row wide_meanings course.machine event).1);
       offered = option_or (offered_by (event_row wide_meanings course.machine event).1) course.offered;
       is_endless = course.is_endless || is_endless (final_world wide_meanings course.machine event);
+      changes = course.changes;
     }
 
 -- ---- event lines
@@ -107,7 +109,21 @@ after_turns course lines = fold after_turn (at_line course) (turns_of lines)
 abbrev pub text_named : List NamedText → List ℕ → Option (List ℕ)
 text_named files name = option_map (λ file. file.text) (find (λ file. same_text file.name name) files)
 
--- the course after a `reload` line, given the text of its file; without a text it is refused as a faulty one is
-abbrev pub after_reload : Course → Option (List ℕ) → Course
-after_reload course None = with_refusal (at_line course) (Some BadPlan)
-after_reload course (Some text) = after_event (at_line course) (Reload text)
+-- the number of that file
+abbrev pub number_named : List NamedText → List ℕ → Option ℕ
+number_named files name = position (λ file. same_text file.name name) files
+
+-- the dialplan of the file with a number is put in force after so many entries ran, unless this is refused
+abbrev pub changes_by : Option Refusal → ℕ → Option ℕ → List PlanChange
+changes_by (Some refusal) after file = []
+changes_by None after None = []
+changes_by None after (Some file) = (record { after = after; file = file }) ∷ []
+
+-- the course with this change, given how many entries ran before the reload
+abbrev pub with_change : ℕ → Option ℕ → Course → Course
+with_change after file course = record course { changes = course.changes ++ changes_by course.refusal after file }
+
+-- the course after a `reload` line, given the number and the text of its file; without a text it is refused as a faulty one is
+abbrev pub after_reload : Course → Option ℕ → Option (List ℕ) → Course
+after_reload course file None = with_refusal (at_line course) (Some BadPlan)
+after_reload course file (Some text) = with_change (length course.ran) file (after_event (at_line course) (Reload text))

@@ -1,4 +1,6 @@
 pub mod Courses
+pub mod Coverage
+pub mod Points
 pub mod Ran
 pub mod Replays
 pub mod Results
@@ -6,4 +8,5 @@ pub mod Settling
 pub mod Shown
 pub mod Tap
 pub mod Tests
+pub mod Traces
 pub mod Verdicts

@@ -16,7 +16,7 @@ use Rattle.dp_test_runs.specs.declared.test_run.TestTexts.{TestTexts}
 
 -- the result of a test that ended so
 abbrev pub result_by : Test → Ended → TestResult
-result_by test end = record { failure = end.failure; got = got end.course test.lines end.failure; ran = end.course.ran }
+result_by test end = record { failure = end.failure; got = got end.course test.lines end.failure; ran = end.course.ran; changes = end.course.changes }
 
 -- the result of a test of a file in a machine with this world
 abbrev pub result_on : List NamedText → TestFile → Test → World → TestResult

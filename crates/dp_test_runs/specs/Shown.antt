@@ -1,12 +1,12 @@
 -- What came of a test, shown in place of what it expected.
-use Rattle.std.specs.Prelude.{ℕ, ◌==◌, List, [], ◌++◌, Option, Some, None, codes, decimal, if◌then◌else◌}
+use Rattle.std.specs.Prelude.{ℕ, ◌==◌, List, [], ◌++◌, Option, Some, None, codes, decimal, unwrap_or, if◌then◌else◌}
 use Rattle.std.specs.List.{find, flat_map}
 use Rattle.std.specs.Option.{option_map_or}
 use Rattle.dp_pattern.specs.Spelling.{spelling}
 use Rattle.dp_queue.specs.Agents.{rings_for}
 use Rattle.dp_queue.specs.Joining.{waiting_count}
 use Rattle.dp_queue.specs.declared.agent.Agent.{Agent}
-use Rattle.dp_machine.specs.World.{World, value_in}
+use Rattle.dp_machine.specs.World.{World}
 use Rattle.dp_machine.specs.declared.refusal.Refusal.{Refusal}
 use Rattle.dp_machine.specs.declared.unknown.Unknown.{Unknown}
 use Rattle.dp_commands.specs.Trace.{place_text, refusal_text, state_text}
@@ -16,7 +16,7 @@ use Rattle.dp_tests.specs.declared.expectation.Claim.TheVariants as claims
 use Rattle.dp_tests.specs.declared.file.Act.{Act}
 use Rattle.dp_tests.specs.declared.file.Act.TheVariants as acts
 use Rattle.dp_tests.specs.declared.file.TestLine.{TestLine}
-use Rattle.dp_test_runs.specs.Verdicts.{knows_value, last_of, unknown_state}
+use Rattle.dp_test_runs.specs.Verdicts.{last_of, unknown_state, value_of}
 use Rattle.dp_test_runs.specs.declared.course.Course.{Course}
 use Rattle.dp_test_runs.specs.declared.failure.Failure.{Failure}
 use Rattle.dp_test_runs.specs.declared.failure.FailureKind.{FailureKind}
@@ -43,9 +43,9 @@ place_shown ran = place_text ran.context (spelling ran.name) ran.priority
 abbrev pub last_shown : (RanEntry → List ℕ) → Option RanEntry → List ℕ
 last_shown show last = option_map_or show last (codes "nothing")
 
--- the value of a name in a channel
-abbrev pub value_shown : World → ℕ → List ℕ → List ℕ
-value_shown w channel name = if knows_value w channel name then value_in w channel name else codes "unknown"
+-- the value of a name in a channel or, without one, of a global
+abbrev pub value_shown : World → Option ℕ → List ℕ → List ℕ
+value_shown w channel name = unwrap_or (value_of w channel name) (codes "unknown")
 
 -- the name of an agent that rings for a channel, with a blank before it
 abbrev pub agent_shown : ℕ → Agent → List ℕ
@@ -65,8 +65,7 @@ claim_shown course (claims.State channel text) = state_shown course.machine chan
 claim_shown course (claims.Ran channel call) = last_shown call_shown (last_of channel course.ran)
 claim_shown course (claims.Passed channel call) = last_shown call_shown (last_of channel course.ran)
 claim_shown course (claims.At channel place) = last_shown place_shown (last_of channel course.ran)
-claim_shown course (claims.Value (Some channel) name value) = value_shown course.machine channel name
-claim_shown course (claims.Value None name value) = codes "unknown"
+claim_shown course (claims.Value channel name value) = value_shown course.machine channel name
 claim_shown course (claims.Rings agents) = ringing_shown course.machine.shared.queues.agents course.offered
 claim_shown course (claims.Waiting queue count) = decimal (waiting_count course.machine.shared.queues.queues queue)
 claim_shown course (claims.Refused refusal) = refusal_shown course.refusal

@@ -1,5 +1,5 @@
 -- The text of results in the Test Anything Protocol, version 14.
-use Rattle.std.specs.Prelude.{ℕ, ◌+◌, ◌||◌, ◌==◌, List, [], ◌∷◌, ◌++◌, length, Option, Some, None, codes, decimal, if◌then◌else◌}
+use Rattle.std.specs.Prelude.{ℕ, ◌+◌, Bool, ◌||◌, ◌==◌, List, [], ◌∷◌, ◌++◌, length, Option, Some, None, codes, decimal, if◌then◌else◌}
 use Rattle.std.specs.List.{flat_map}
 use Rattle.dp_test_runs.specs.declared.tap.Point.{Point}
 use Rattle.dp_test_runs.specs.declared.tap.Report.{Report}
@@ -59,10 +59,22 @@ abbrev pub point_by : ℕ → List ℕ → Option Report → List ℕ
 point_by number name None = point_line (codes "ok") number name
 point_by number name (Some report) = point_line (codes "not ok") number name ++ block_text report
 
+-- a line of a comment
+abbrev pub comment_line : List ℕ → List ℕ
+comment_line text = codes "# " ++ line_of text
+
+-- the trace of a test as comments, if traces are shown
+abbrev pub whole_trace : Bool → List (List ℕ) → List ℕ
+whole_trace shows_traces texts = if shows_traces then flat_map comment_line texts else []
+
+-- the lines of a test with a number, below its trace if traces are shown
+abbrev pub told_point : Bool → ℕ → Point → List ℕ
+told_point shows_traces number point = whole_trace shows_traces point.trace ++ point_by number point.name point.report
+
 -- the lines of tests, of which the first has this number
-abbrev pub points_from : ℕ → List Point → List ℕ
-points_from number [] = []
-points_from number (point ∷ points) = point_by number point.name point.report ++ points_from (number + 1) points
+abbrev pub points_from : Bool → ℕ → List Point → List ℕ
+points_from shows_traces number [] = []
+points_from shows_traces number (point ∷ points) = told_point shows_traces number point ++ points_from shows_traces (number + 1) points
 
 -- how many tests there are
 abbrev pub count_text : ℕ → List ℕ
@@ -73,5 +85,5 @@ abbrev pub plan_text : ℕ → List ℕ
 plan_text count = line_of (codes "TAP version 14") ++ count_text count
 
 -- the version and the plan, and the lines of all tests
-unfoldable pub tap_text : List Point → List ℕ
-tap_text points = plan_text (length points) ++ points_from 1 points
+unfoldable pub tap_text : Bool → List Point → List ℕ
+tap_text shows_traces points = plan_text (length points) ++ points_from shows_traces 1 points

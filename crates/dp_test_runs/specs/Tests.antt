@@ -14,7 +14,7 @@ use Rattle.dp_tests.specs.declared.file.HeadLine.{HeadLine}
 use Rattle.dp_tests.specs.declared.file.Test.{Test}
 use Rattle.dp_tests.specs.declared.file.TestFile.{TestFile}
 use Rattle.dp_tests.specs.declared.file.TestLine.{TestLine}
-use Rattle.dp_test_runs.specs.Courses.{after_reload, after_turns, text_named}
+use Rattle.dp_test_runs.specs.Courses.{after_reload, after_turns, number_named, text_named}
 use Rattle.dp_test_runs.specs.Settling.{numbers_of}
 use Rattle.dp_test_runs.specs.Verdicts.{is_met}
 use Rattle.dp_test_runs.specs.declared.course.Course.{Course}
@@ -28,7 +28,7 @@ use Rattle.dp_test_runs.specs.declared.named_text.NamedText.{NamedText}
 -- the course after what a line does
 abbrev pub after_act : List NamedText → Course → Act → Course
 after_act files course (Turns turns) = after_turns course turns
-after_act files course (Reload name) = after_reload course (text_named files name)
+after_act files course (Reload name) = after_reload course (number_named files name) (text_named files name)
 after_act files course (Expect expectation) = course
 
 -- ---- failures
@@ -167,4 +167,4 @@ ended_in files file test course =
 
 -- the course at the beginning of a test
 abbrev pub beginning : World → Course
-beginning w = record { machine = w; ran = []; refusal = None; offered = None; is_endless = false }
+beginning w = record { machine = w; ran = []; refusal = None; offered = None; is_endless = false; changes = [] }

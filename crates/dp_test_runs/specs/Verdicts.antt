@@ -1,17 +1,23 @@
 -- Whether what a test expects comes true: each claim about the course of the test is true or false, or it is about a value that is unknown.
-use Rattle.std.specs.Prelude.{ℕ, Bool, true, false, not, ◌&&◌, ◌||◌, ◌==◌, List, [], ◌∷◌, ◌++◌, take, drop, length, fold, Option, Some, None, is_some, codes, if◌then◌else◌}
-use Rattle.std.specs.List.{list_all, list_any, slice_split}
+use Rattle.std.specs.Prelude.{ℕ, Bool, true, false, not, ◌&&◌, ◌||◌, ◌==◌, List, [], ◌∷◌, ◌++◌, take, drop, length, fold, Option, Some, None, codes, if◌then◌else◌}
+use Rattle.std.specs.List.{list_all, list_any}
 use Rattle.std.specs.Option.{option_map, option_map_or}
+use Rattle.std.specs.Str.{byte}
+use Rattle.dp_conf.specs.Cut.{cut_once}
 use Rattle.dp_conf.specs.Words.{same_text, same_word}
 use Rattle.dp_plan.specs.Extensions.{same_name}
 use Rattle.dp_queue.specs.Agents.{rings_for}
 use Rattle.dp_queue.specs.Joining.{waiting_count}
 use Rattle.dp_queue.specs.declared.agent.Agent.{Agent}
+use Rattle.dp_vars.specs.Variables.{value_or_empty}
 use Rattle.dp_machine.specs.Codes.{refusal_code}
-use Rattle.dp_machine.specs.World.{World, value_in}
+use Rattle.dp_machine.specs.Unknown.{unknown_in_text}
+use Rattle.dp_machine.specs.World.{World, text_in}
 use Rattle.dp_machine.specs.declared.refusal.Refusal.{Refusal}
 use Rattle.dp_machine.specs.declared.unknown.Unknown.{Unknown}
-use Rattle.dp_commands.specs.Trace.{phase_at, state_text}
+use Rattle.dp_commands.specs.Trace.{state_text}
+use Rattle.dp_wide.specs.CellValues.{assumed_name}
+use Rattle.dp_wide.specs.Functions.{wide_functions}
 use Rattle.dp_wide.specs.Names.{is_given_by_asterisk, is_status}
 use Rattle.dp_wide_runs.specs.Turns.{unknown_at, unknown_name}
 use Rattle.dp_tests.specs.declared.expectation.Call.{Call}
@@ -78,31 +84,53 @@ has_passed channel call ran = list_any (λ entry. entry.channel == channel && is
 
 -- ---- values
 
--- whether a name is that of a function or of its cells, with an argument
-abbrev pub has_argument : List ℕ → Bool
-has_argument name = list_any (λ byte. byte == 40) name
+-- the group that reads a name in a channel, `${NAME}`
+abbrev pub group_of : List ℕ → List ℕ
+group_of name = codes "${" ++ name ++ codes "}"
 
--- whether the value of a name in a channel may come from outside: of a cell, of a name with a value from Asterisk, or of one that `Read` was
--- given
-abbrev pub may_be_outside : World → ℕ → List ℕ → Bool
-may_be_outside w channel name =
-    has_argument name || (is_status name || (is_given_by_asterisk name
-    || list_any (same_text name) (slice_split (λ byte. byte == 44) (value_in w channel (codes "READ()")))))
+-- a value, unless something in it is unknown
+abbrev pub unless_unknown : Option (List ℕ) → Option (List ℕ) → Option (List ℕ)
+unless_unknown None value = value
+unless_unknown (Some group) value = None
+
+-- the value of a name in a channel, if there is such a channel and the value is known: what the group of the name expands to
+abbrev pub known_value : World → ℕ → List ℕ → Option (List ℕ)
+known_value w channel name =
+    unless_unknown (unknown_in_text wide_functions w channel (group_of name)) (text_in wide_functions w channel (group_of name))
 
 abbrev pub is_empty : List ℕ → Bool
 is_empty text = length text == 0
 
--- whether the value of a name in a channel is known: there is such a channel, and the value is not empty or does not come from outside
-abbrev pub knows_value : World → ℕ → List ℕ → Bool
-knows_value w channel name = is_some (phase_at w channel) && (not (is_empty (value_in w channel name)) || not (may_be_outside w channel name))
+-- the value of a global; one that is not set is empty
+abbrev pub global_in : World → List ℕ → List ℕ
+global_in w name = value_or_empty (w.shared.globals ∷ []) name
 
--- the value of a name in a channel, if it is known
-abbrev pub known_value : World → ℕ → List ℕ → Option (List ℕ)
-known_value w channel name = if knows_value w channel name then Some (value_in w channel name) else None
+-- whether a script has said that the unwritten cells of a function are empty
+abbrev pub is_assumed : World → List ℕ → Bool
+is_assumed w function = not (is_empty (global_in w (assumed_name function)))
 
--- whether a name has a value in a channel; None if the value is unknown
-abbrev pub has_value : World → ℕ → List ℕ → List ℕ → Option Bool
-has_value w channel name value = option_map (λ held. same_text held value) (known_value w channel name)
+-- whether an empty global may have a value that is unknown, given its name cut at the first `(`: a cell may, unless the script has said that
+-- it is empty, and so may a name with a value from Asterisk
+abbrev pub may_be_outside : World → List ℕ → Option (List ℕ × List ℕ) → Bool
+may_be_outside w name None = is_status name || is_given_by_asterisk name
+may_be_outside w name (Some cut) = not (is_assumed w cut.0)
+
+-- whether the value of a global is known
+abbrev pub knows_global : World → List ℕ → Bool
+knows_global w name = not (is_empty (global_in w name)) || not (may_be_outside w name (cut_once (byte "(") name))
+
+-- the value of a global, if it is known
+abbrev pub known_global : World → List ℕ → Option (List ℕ)
+known_global w name = if knows_global w name then Some (global_in w name) else None
+
+-- the value of a name in a channel or, without one, of a global, if it is known
+abbrev pub value_of : World → Option ℕ → List ℕ → Option (List ℕ)
+value_of w None name = known_global w name
+value_of w (Some channel) name = known_value w channel name
+
+-- whether a name has a value in a channel or, without one, among the globals; None if the value is unknown
+abbrev pub has_value : World → Option ℕ → List ℕ → List ℕ → Option Bool
+has_value w channel name value = option_map (λ held. same_text held value) (value_of w channel name)
 
 -- ---- queues
 
@@ -142,8 +170,7 @@ truth_of course (State channel text) = Some (shows course.machine channel text)
 truth_of course (Ran channel call) = Some (option_map_or (is_call call) (last_of channel course.ran) false)
 truth_of course (Passed channel call) = Some (has_passed channel call course.ran)
 truth_of course (At channel place) = Some (option_map_or (stands_at place) (last_of channel course.ran) false)
-truth_of course (Value (Some channel) name value) = has_value course.machine channel name value
-truth_of course (Value None name value) = None
+truth_of course (Value channel name value) = has_value course.machine channel name value
 truth_of course (Rings agents) = Some (ring_after course.machine.shared.queues.agents course.offered agents)
 truth_of course (Waiting queue count) = Some (waiting_count course.machine.shared.queues.queues queue == count)
 truth_of course (Refused refusal) = Some (was_refused refusal course.refusal)

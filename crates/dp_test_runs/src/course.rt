@@ -3,7 +3,7 @@ ghost use Rattle.std.specs.Prelude.{◌≡◌};
 ghost use Rattle.dp_test_runs.specs.Courses as spec;
 
 use crate::items::Items;
-use crate::named_text::{NamedText, text_named};
+use crate::named_text::{NamedText, number_named, text_named};
 use crate::ran::{RanEntries, give};
 use crate::settling::settle;
 use crate::turns::{event_given, refusal_without};
@@ -13,14 +13,22 @@ use dp_wide::WideApps;
 use dp_wide_runs::WideTurn;
 use std::alloc::Global;
 
+/// After so many entries ran, a `reload` line put the dialplan in force of the file with this number, counted from 0.
+#[derive(Clone, Copy, Debug, PartialEq, Eq)]
+pub struct PlanChange {
+    pub after: usize,
+    pub file: usize,
+}
+
 /// What is known at a line of a test: the machine, what ran so far, why the last event line was refused if it was, the channel that was last
-/// offered to agents, and whether the steps after an event found no end.
+/// offered to agents, whether the steps after an event found no end, and the dialplans that `reload` lines put in force, in order.
 pub(crate) struct Course {
     pub(crate) machine: Machine<WideApps>,
     pub(crate) ran: RanEntries,
     pub(crate) refusal: Option<Refusal>,
     pub(crate) offered: Option<u32>,
     pub(crate) is_endless: bool,
+    pub(crate) changes: Items<PlanChange>,
 }
 
 impl Drop for Course {
@@ -31,6 +39,7 @@ impl Drop for Course {
             refusal: _,
             offered: _,
             is_endless: _,
+            changes: _,
         } = self;
     }
 }
@@ -82,12 +91,13 @@ impl Course {
             refusal: None,
             offered: None,
             is_endless: false,
+            changes: Items::none(alloc),
         }
     }
 
-    /// The entries that ran.
-    pub(crate) fn into_ran(self) -> RanEntries
-        ensures { result ≡ self.ran }
+    /// The entries that ran, and the dialplans that were put in force.
+    pub(crate) fn into_ran(self) -> (RanEntries, Items<PlanChange>)
+        ensures { result ≡ (self.ran, self.changes) }
     {
         let Course {
             machine: _,
@@ -95,8 +105,9 @@ impl Course {
             refusal: _,
             offered: _,
             is_endless: _,
+            changes,
         } = self;
-        ran
+        (ran, changes)
     }
 
     /// Gives the machine an event, and settles it.
@@ -157,6 +168,16 @@ impl Course {
         self.take_lines(alloc, lines)
     }
 
+    /// Keeps that the dialplan of a file was put in force after so many entries ran, unless this was refused.
+    fn keep_change(&mut self, after: usize, file: Option<usize>) -> Result<(), NoMemory>
+        ensures { OnOk result (self.new ≡ spec.with_change after file self.old) }
+    {
+        match (self.refusal, file) {
+            (None, Some(file)) => self.changes.push(PlanChange { after, file }),
+            (None, None) | (Some(_), _) => Ok(()),
+        }
+    }
+
     /// Takes a `reload` line, given the files that the caller has read.
     pub(crate) fn take_reload(
         &mut self,
@@ -164,14 +185,17 @@ impl Course {
         files: &[NamedText],
         name: &[u8],
     ) -> Result<(), NoMemory>
-        ensures { OnOk result (self.new ≡ spec.after_reload self.old (spec.text_named files.now name.now)) }
+        ensures { OnOk result (self.new
+            ≡ spec.after_reload self.old (spec.number_named files.now name.now) (spec.text_named files.now name.now)) }
     {
         let Some(text) = text_named(files, name) else {
             self.refusal = Some(Refusal::BadPlan);
             return Ok(());
         };
+        let after = self.ran.as_slice().len();
         self.refusal = None;
         let text = text.clone()?;
-        self.take_event(alloc, Event::Reload { text })
+        self.take_event(alloc, Event::Reload { text })?;
+        self.keep_change(after, number_named(files, name))
     }
 }

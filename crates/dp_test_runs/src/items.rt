@@ -46,4 +46,14 @@ impl<T: Drop> Items<T> {
         self.kept.push(item)?;
         Ok(())
     }
+
+    /// Adds other items after these. After a refused growth all is as before.
+    pub fn append(&mut self, other: Self) -> Result<(), NoMemory>
+        ensures ok { OnOk result (self.new ≡ self.old ++ other) }
+        ensures err { OnErr result (self.new ≡ self.old) }
+    {
+        let Items { mut kept } = other;
+        self.kept.append(&mut kept)?;
+        Ok(())
+    }
 }

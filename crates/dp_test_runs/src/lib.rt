@@ -3,28 +3,35 @@
 #![tactic(auto)]
 
 mod course;
+mod coverage;
 mod failure;
 mod items;
 pub mod laws;
 mod lines;
 mod named_text;
+mod points;
 mod queue_claims;
 mod ran;
 mod ran_claims;
 mod settling;
 mod shown;
+mod sources;
 mod state_claims;
 mod tap;
 mod test_run;
+mod traces;
 mod turns;
 mod value_claims;
 mod verdict;
 
+pub use course::PlanChange;
+pub use coverage::{CoveredPlan, coverage_text};
 pub use dp_commands::PbxFault;
 pub use dp_plan::NoMemory;
 pub use failure::{Failure, FailureKind};
 pub use items::Items;
 pub use named_text::NamedText;
+pub use points::{TestedFile, add_entered, has_failed, run_tests};
 pub use ran::{RanEntries, RanEntry};
 pub use tap::{Point, Report, tap_text};
 pub use test_run::{TestResult, TestTexts, run_test};

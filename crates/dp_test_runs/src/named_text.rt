@@ -30,3 +30,10 @@ pub(crate) fn text_named<'a>(files: &'a [NamedText], name: &[u8]) -> Option<&'a 
         None => None,
     }
 }
+
+/// The number of the first file with this name, counted from 0.
+pub(crate) fn number_named(files: &[NamedText], name: &[u8]) -> Option<usize>
+    ensures { result ≡ spec.number_named files.now name.now }
+{
+    files.iter().position(|file| file.name.bytes() == name)
+}

@@ -1,5 +1,6 @@
 //! What events run.
-ghost use Rattle.std.specs.Prelude.{◌≡◌, ◌++◌, IfOk, OnOk};
+ghost use Rattle.std.specs.Prelude.{◌≡◌, ◌∷◌, ◌++◌, [], IfOk, OnOk};
+ghost use Rattle.std.specs.Option.{option_map};
 ghost use Rattle.dp_machine.specs.Events.{event_row};
 ghost use Rattle.dp_machine.specs.Replay.{final_world};
 ghost use Rattle.dp_commands.specs.Verbose.{arguments_of_by};
@@ -7,13 +8,20 @@ ghost use Rattle.dp_wide_runs.specs.Turns.{wide_meanings};
 ghost use Rattle.dp_test_runs.specs.Ran as spec;
 
 use crate::items::Items;
+use dp_conf::same_word;
 use dp_machine::{Event, Machine, Reply};
 use dp_plan::{Dialplan, Entry, EntryId, NoMemory, SharedName, SharedText, Text};
-use dp_wide::WideApps;
+use dp_wide::{WideApps, exec_if_application};
 use std::alloc::Global;
+
+/// The greatest number of calls that run one inside the other in that of an entry.
+const MOST_SIDES: u32 = 8;
 
 /// An entry that a channel ran: its numbers, its context, its name by its meaning, its priority, its application as written, and its
 /// arguments as they were expanded.
+///
+/// After an entry that runs `ExecIf` comes the call that this runs, as a side of the entry: the same entry with the application and the
+/// arguments of that call. After one that is an `ExecIf` again comes its own call, and so on.
 #[derive(Drop)]
 pub struct RanEntry {
     pub channel: u32,
@@ -23,6 +31,7 @@ pub struct RanEntry {
     pub priority: u32,
     pub application: SharedText,
     pub arguments: Text,
+    pub is_side: bool,
 }
 
 /// Entries that were run, in order.
@@ -48,20 +57,93 @@ fn context_name(alloc: Global, plan: &Dialplan, number: usize) -> Result<Text, N
     }
 }
 
-/// Adds an entry of a context that a channel ran.
-fn push_entry(
-    ran: &mut RanEntries,
-    asked: Asked,
-    id: EntryId,
-    context: Text,
-    entry: &Entry,
+/// The call that an application runs in turn with these arguments.
+#[tactic(auto, unfolding(crate::specs::Ran::call_in))]
+fn call_in<'a>(application: &[u8], arguments: &'a [u8]) -> Option<(&'a [u8], &'a [u8])>
+    ensures { option_map (λ call. (call.0.now, call.1.now)) result ≡ spec.call_in (application.now, arguments.now) }
+{
+    if !same_word(application, b"ExecIf") {
+        return None;
+    }
+    exec_if_application(arguments)
+}
+
+/// Adds a call that an entry ran inside its own.
+fn push_side(
+    alloc: Global,
+    sides: &mut RanEntries,
+    ran: &RanEntry,
+    application: &[u8],
+    arguments: &[u8],
 ) -> Result<(), NoMemory>
-    ensures { OnOk result (ran.new ≡ ran.old ++ spec.ran_of asked.channel id context asked.arguments (Some entry.now)) }
+    ensures { OnOk result (sides.new ≡ sides.old ++ spec.side_ran ran.now (application.now, arguments.now) ∷ []) }
+{
+    let application = Text::copy_of(alloc, application)?;
+    let application = SharedText::new(alloc, application)?;
+    let arguments = Text::copy_of(alloc, arguments)?;
+    let context = ran.context.clone()?;
+    let name = ran.name.clone()?;
+    sides.push(RanEntry {
+        channel: ran.channel,
+        id: ran.id,
+        context,
+        name,
+        priority: ran.priority,
+        application,
+        arguments,
+        is_side: true,
+    })
+}
+
+/// Adds the calls that an entry ran inside its own, if so many may run inside each other.
+fn push_sides_within(
+    alloc: Global,
+    sides: &mut RanEntries,
+    ran: &RanEntry,
+    left: u32,
+) -> Result<(), NoMemory>
+    ensures { OnOk result (sides.new ≡ sides.old ++ spec.sides_within left ran.now (ran.now.application, ran.now.arguments)) }
+{
+    let mut application = ran.application.bytes();
+    let mut arguments = ran.arguments.bytes();
+    for _depth in 0..left {
+        let Some((inner, given)) = call_in(application, arguments) else {
+            return Ok(());
+        };
+        push_side(alloc, sides, ran, inner, given)?;
+        application = inner;
+        arguments = given;
+    }
+    Ok(())
+}
+
+/// The calls that an entry ran inside its own.
+#[tactic(auto, unfolding(crate::specs::Ran::sides_of))]
+fn sides_of(alloc: Global, ran: &RanEntry) -> Result<RanEntries, NoMemory>
+    ensures { IfOk result (λ sides. sides ≡ spec.sides_of ran.now) }
+{
+    let mut sides = Items::none(alloc);
+    push_sides_within(alloc, &mut sides, ran, MOST_SIDES)?;
+    Ok(sides)
+}
+
+/// Adds an entry that ran, and the calls inside its own.
+fn push_with_sides(alloc: Global, ran: &mut RanEntries, entry: RanEntry) -> Result<(), NoMemory>
+    ensures { OnOk result (ran.new ≡ ran.old ++ spec.with_sides entry) }
+{
+    let sides = sides_of(alloc, &entry)?;
+    ran.push(entry)?;
+    ran.append(sides)
+}
+
+/// An entry of a context that a channel ran.
+fn entry_ran(asked: Asked, id: EntryId, context: Text, entry: &Entry) -> Result<RanEntry, NoMemory>
+    ensures { IfOk result (λ ran. ran ≡ spec.entry_ran asked.channel id context asked.arguments entry.now) }
 {
     let Asked { channel, arguments } = asked;
     let name = entry.name.clone()?;
     let application = entry.application.clone()?;
-    ran.push(RanEntry {
+    Ok(RanEntry {
         channel,
         id,
         context,
@@ -69,10 +151,11 @@ fn push_entry(
         priority: entry.priority.get(),
         application,
         arguments,
+        is_side: false,
     })
 }
 
-/// Adds the entry of a dialplan with these numbers, which a channel ran.
+/// Adds the entry of a dialplan with these numbers, which a channel ran, and the calls inside its own.
 #[tactic(auto, unfolding(crate::specs::Ran::ran_at))]
 fn push_ran_at(
     alloc: Global,
@@ -86,7 +169,8 @@ fn push_ran_at(
     match plan.entry(id) {
         Some(entry) => {
             let context = context_name(alloc, plan, id.context)?;
-            push_entry(ran, asked, id, context, entry)
+            let first = entry_ran(asked, id, context, entry)?;
+            push_with_sides(alloc, ran, first)
         }
         None => Ok(()),
     }

@@ -12,7 +12,7 @@ use crate::queue_claims::rings_for;
 use crate::ran::RanEntry;
 use crate::ran_claims::last_of;
 use crate::state_claims::{push_state, unknown_state};
-use crate::value_claims::known_value;
+use crate::value_claims::value_of;
 use dp_machine::{Machine, NoMemory, Refusal};
 use dp_queue::Agent;
 use dp_tests::{Act, Claim, TestLine};
@@ -22,7 +22,7 @@ use itoa::{Buffer, Integer};
 use std::alloc::Global;
 
 /// Adds a number in decimal.
-fn push_decimal<I: Integer>(out: &mut Vec<u8>, number: I) -> Result<(), NoMemory>
+pub(crate) fn push_decimal<I: Integer>(out: &mut Vec<u8>, number: I) -> Result<(), NoMemory>
     ensures { OnOk result (out.new.items ≡ out.old.items ++ I.text number) }
 {
     let mut buffer = Buffer::new();
@@ -49,7 +49,7 @@ fn push_shown_state(
 }
 
 /// Adds an entry that ran, `APP(ARGS)`.
-fn push_call(out: &mut Vec<u8>, ran: &RanEntry) -> Result<(), NoMemory>
+pub(crate) fn push_call(out: &mut Vec<u8>, ran: &RanEntry) -> Result<(), NoMemory>
     ensures { OnOk result (out.new.items ≡ out.old.items ++ spec.call_shown ran.now) }
 {
     out.extend_from_slice(ran.application.bytes())?;
@@ -59,7 +59,7 @@ fn push_call(out: &mut Vec<u8>, ran: &RanEntry) -> Result<(), NoMemory>
 }
 
 /// Adds the place of an entry that ran.
-fn push_place(out: &mut Vec<u8>, ran: &RanEntry) -> Result<(), NoMemory>
+pub(crate) fn push_place(out: &mut Vec<u8>, ran: &RanEntry) -> Result<(), NoMemory>
     ensures { OnOk result (out.new.items ≡ out.old.items ++ spec.place_shown ran.now) }
 {
     out.extend_from_slice(ran.context.bytes())?;
@@ -89,17 +89,17 @@ fn push_last_place(out: &mut Vec<u8>, ran: &[RanEntry], channel: u32) -> Result<
     }
 }
 
-/// Adds the value of a name in a channel.
+/// Adds the value of a name in a channel or, without one, of a global.
 fn push_value(
     alloc: Global,
     out: &mut Vec<u8>,
     machine: &Machine<WideApps>,
-    channel: u32,
+    channel: Option<u32>,
     name: &[u8],
 ) -> Result<(), NoMemory>
     ensures { OnOk result (out.new.items ≡ out.old.items ++ spec.value_shown machine.now channel name.now) }
 {
-    match known_value(alloc, machine, channel, name)? {
+    match value_of(alloc, machine, channel, name)? {
         Some(value) => out.extend_from_slice(&value),
         None => out.extend_from_slice(b"unknown"),
     }
@@ -175,12 +175,9 @@ fn push_claim(
             push_last_call(out, course.ran.as_slice(), *channel)
         }
         Claim::At { channel, .. } => push_last_place(out, course.ran.as_slice(), *channel),
-        Claim::Value {
-            channel: Some(channel),
-            name,
-            ..
-        } => push_value(alloc, out, &course.machine, *channel, name.bytes()),
-        Claim::Value { channel: None, .. } => out.extend_from_slice(b"unknown"),
+        Claim::Value { channel, name, .. } => {
+            push_value(alloc, out, &course.machine, *channel, name.bytes())
+        }
         Claim::Rings { .. } => {
             push_ringing(out, course.machine.queues().agents(), course.offered)
         }

@@ -5,7 +5,7 @@ ghost use Rattle.std.specs.Option.{option_map};
 ghost use Rattle.dp_test_runs.specs.Tap as spec;
 
 use crate::items::Items;
-use dp_plan::{NoMemory, Text};
+use dp_plan::{EntryId, NoMemory, Text};
 use itoa::Buffer;
 use std::alloc::Global;
 
@@ -18,11 +18,14 @@ pub struct Report {
     pub trace: Items<Text>,
 }
 
-/// A test with its name, and its report if it failed.
+/// A test with its name, its report if it failed, the lines of its trace, one for each entry that ran, and the entries of the test file's
+/// dialplan that it ran, in the order in which they ran.
 #[derive(Drop)]
 pub struct Point {
     pub name: Text,
     pub report: Option<Report>,
+    pub trace: Items<Text>,
+    pub entered: Items<EntryId>,
 }
 
 /// Adds a line with this text.
@@ -198,14 +201,55 @@ fn push_point(out: &mut Vec<u8>, number: usize, point: &Point) -> Result<(), NoM
     }
 }
 
+/// Adds a line of a comment.
+fn push_comment(out: &mut Vec<u8>, text: &[u8]) -> Result<(), NoMemory>
+    ensures { OnOk result (out.new.items ≡ out.old.items ++ spec.comment_line text.now) }
+{
+    out.extend_from_slice(b"# ")?;
+    push_line(out, text)
+}
+
+/// Adds lines of a comment.
+fn push_comments(out: &mut Vec<u8>, texts: &[Text]) -> Result<(), NoMemory>
+    ensures { OnOk result (out.new.items ≡ out.old.items ++ flat_map spec.comment_line texts.now) }
+{
+    for text in texts {
+        push_comment(out, text.bytes())?;
+    }
+    Ok(())
+}
+
+/// Adds the trace of a test, if traces are shown.
+fn push_whole_trace(out: &mut Vec<u8>, shows_traces: bool, texts: &[Text]) -> Result<(), NoMemory>
+    ensures { OnOk result (out.new.items ≡ out.old.items ++ spec.whole_trace shows_traces texts.now) }
+{
+    if shows_traces {
+        return push_comments(out, texts);
+    }
+    Ok(())
+}
+
+/// Adds the lines of a test with a number, below its trace if traces are shown.
+fn push_told(
+    out: &mut Vec<u8>,
+    shows_traces: bool,
+    number: usize,
+    point: &Point,
+) -> Result<(), NoMemory>
+    ensures { OnOk result (out.new.items ≡ out.old.items ++ spec.told_point shows_traces number point.now) }
+{
+    push_whole_trace(out, shows_traces, point.trace.as_slice())?;
+    push_point(out, number, point)
+}
+
 /// Adds the lines of tests, numbered from 1.
-fn push_points(out: &mut Vec<u8>, points: &[Point]) -> Result<(), NoMemory>
-    ensures { OnOk result (out.new.items ≡ out.old.items ++ spec.points_from 1 points.now) }
+fn push_points(out: &mut Vec<u8>, shows_traces: bool, points: &[Point]) -> Result<(), NoMemory>
+    ensures { OnOk result (out.new.items ≡ out.old.items ++ spec.points_from shows_traces 1 points.now) }
 {
     let mut number: usize = 0;
     for point in points {
         number += 1;
-        push_point(out, number, point)?;
+        push_told(out, shows_traces, number, point)?;
     }
     Ok(())
 }
@@ -230,15 +274,16 @@ fn push_plan(out: &mut Vec<u8>, count: usize) -> Result<(), NoMemory>
     Ok(())
 }
 
-/// The text of the results: the version, the plan, and the lines of each test.
+/// The text of the results: the version, the plan, and the lines of each test. With `shows_traces` the whole trace of each test comes before its
+/// lines, as comments.
 ///
 /// It fails only if memory runs out.
 #[tactic(auto, unfolding(crate::specs::Tap::tap_text))]
-pub fn tap_text(alloc: Global, points: &[Point]) -> Result<Text, NoMemory>
-    ensures { IfOk result (λ text. text ≡ spec.tap_text points.now) }
+pub fn tap_text(alloc: Global, shows_traces: bool, points: &[Point]) -> Result<Text, NoMemory>
+    ensures { IfOk result (λ text. text ≡ spec.tap_text shows_traces points.now) }
 {
     let mut out = Vec::new(alloc);
     push_plan(&mut out, points.len())?;
-    push_points(&mut out, points)?;
+    push_points(&mut out, shows_traces, points)?;
     Ok(Text::new(out))
 }

@@ -8,8 +8,9 @@ ghost use Rattle.dp_test_runs.specs.Results as results;
 ghost use Rattle.dp_test_runs.specs.Settling.{numbers_of};
 ghost use Rattle.dp_test_runs.specs.Tests as spec;
 
-use crate::course::Course;
+use crate::course::{Course, PlanChange};
 use crate::failure::{Failure, FailureKind};
+use crate::items::Items;
 use crate::lines::run_test_lines;
 use crate::named_text::NamedText;
 use crate::ran::RanEntries;
@@ -34,12 +35,13 @@ pub struct TestTexts<'a> {
 }
 
 /// The result of a test: its first failure, or None if it passes; what came of it in place of what was expected, which is empty if it passes;
-/// and the entries that ran up to its end, in order.
+/// the entries that ran up to its end, in order, with the calls inside theirs; and the dialplans that `reload` lines put in force.
 #[derive(Drop)]
 pub struct TestResult {
     pub failure: Option<Failure>,
     pub got: Text,
     pub ran: RanEntries,
+    pub changes: Items<PlanChange>,
 }
 
 /// The channel that a claim is about.
@@ -196,7 +198,7 @@ fn run_in(
 }
 
 /// Runs a test of a file in a machine in which nothing has happened.
-fn run_on(
+pub(crate) fn run_on(
     alloc: Global,
     files: &[NamedText],
     file: &TestFile,
@@ -208,16 +210,22 @@ fn run_on(
     let mut course = Course::beginning(alloc, machine);
     let failure = run_in(alloc, files, file, test, &mut course)?;
     let got = got(alloc, &mut course, test.lines.as_slice(), failure)?;
+    let (ran, changes) = course.into_ran();
     Ok(TestResult {
         failure,
         got: Text::new(got),
-        ran: course.into_ran(),
+        ran,
+        changes,
     })
 }
 
 /// The machine in which a test begins.
 #[tactic(auto, unfolding(crate::specs::Results::opening_of))]
-fn begin(alloc: Global, plan: &[u8], queues: Option<&[u8]>) -> Result<Machine<WideApps>, PbxFault>
+pub(crate) fn begin(
+    alloc: Global,
+    plan: &[u8],
+    queues: Option<&[u8]>,
+) -> Result<Machine<WideApps>, PbxFault>
     ensures { Answers (λ machine. machine) reason_of result
         (results.opening_of plan.now (option_map (λ text. text.now) queues.entry)) }
 {

@@ -31,7 +31,7 @@ fn truth_of(alloc: Global, course: &mut Course, claim: &Claim) -> Result<Option<
             Ok(Some(last_stands_at(course.ran.as_slice(), *channel, place)))
         }
         Claim::Value {
-            channel: Some(channel),
+            channel,
             name,
             value,
         } => has_value(
@@ -41,7 +41,6 @@ fn truth_of(alloc: Global, course: &mut Course, claim: &Claim) -> Result<Option<
             name.bytes(),
             value.bytes(),
         ),
-        Claim::Value { channel: None, .. } => Ok(None),
         Claim::Rings { agents } => Ok(Some(ring_after(
             course.machine.queues().agents(),
             course.offered,

@@ -4,7 +4,7 @@ use Rattle.clap.proofs.OnLiterals.{clap_on_literals}
 use Rattle.clap.specs.Faults.{fault_of}
 use Rattle.clap.specs.declared.error.kind.ErrorKind.TheVariants as kind
 use Rattle.dp_program.specs.Entries.{found_entry, found_number}
-use Rattle.dp_program.specs.Requests.{joined, check, check_files, check_queues, check_both, listing, auditing, matching, explaining, run, run_wide, debug}
+use Rattle.dp_program.specs.Requests.{joined, check, check_files, check_queues, check_both, listing, auditing, matching, explaining, run, run_wide, debug, testing}
 use Rattle.dp_cli.specs.CommandLine.{pbx_app, asked_of, options_of}
 use Rattle.dp_cli.specs.Refusals.{refusals_of}
 use Rattle.dp_wide.specs.Times.{moment_of, weekday_named}
@@ -128,6 +128,14 @@ ran_wide_verbose = refl
 debugged_verbose : asked_of (codes "pbx" ∷ codes "debug" ∷ codes "--break" ∷ codes "x" ∷ codes "--verbose" ∷ codes "a.conf" ∷ codes "b.script" ∷ []) ≡ Some (debug (record { plan = codes "a.conf"; queues = None; second_plan = None; script = codes "b.script" }) (codes "x") true)
 unfolding clap_on_literals asked_of
 debugged_verbose = refl
+
+tested : asked_of (codes "pbx" ∷ codes "test" ∷ codes "a.test" ∷ []) ≡ Some (testing (codes "a.test") false false)
+unfolding clap_on_literals asked_of
+tested = refl
+
+tested_with_cover : asked_of (codes "pbx" ∷ codes "test" ∷ codes "--cover" ∷ codes "a.test" ∷ []) ≡ Some (testing (codes "a.test") false true)
+unfolding clap_on_literals asked_of
+tested_with_cover = refl
 
 -- whether faults are explained
 no_command_explains : (options_of (codes "pbx" ∷ [])).explains ≡ false

@@ -298,184 +298,80 @@ end 9
 $ pbx debug --break phones,123 sample/extensions.conf sample/calls.script
 fault 71 BadBreak
 ? 1
-@ office.conf
-[closing](!)
-exten => h,1,NoOp(call over)
+@ house.test
+dialplan sample/extensions.conf
 
-[main](closing)
-exten => 100,hint,SIP/100
-exten => 100,1,Dial(SIP/100,20)
- same => n,Playback(sorry
-#include evening.conf
-#include holidays.conf
+test room 123 leads to the front desk
+call phones 123
+expect 1 at phones,100,2
+expect 1 passed NoOp(the front desk)
+expect 1 ended
 @
-@ evening.conf
-[night]
-exten => s,1,Playback(closed)
- same => 0,Hangup()
+$ pbx test house.test
+TAP version 14
+1..1
+ok 1 - room 123 leads to the front desk
+? 0
+$ pbx test --trace --cover house.test
+TAP version 14
+1..1
+# sample/extensions.conf:8 phones,_1XX,1 NoOp(a room)
+# sample/extensions.conf:9 phones,_1XX,2 Goto(100,desk)
+# sample/extensions.conf:6 phones,100,1 NoOp(the front desk)
+# sample/extensions.conf:7 phones,100,2 Hangup()
+ok 1 - room 123 leads to the front desk
+# covered 4 of 8 entries
+# never sample/extensions.conf:10 phones,_NXXXXXX,1 NoOp
+# never sample/extensions.conf:11 phones,_NXXXXXX,2 Hangup
+# never sample/extensions.conf:15 rest,_X.,1 NoOp
+# never sample/extensions.conf:16 rest,_X.,2 Hangup
+? 0
+@ wrong.test
+dialplan sample/extensions.conf
+
+test room 123 is rung
+call phones 123
+expect 1 passed Dial
+
+test a call to town is hung up
+call phones 555-1234
+hangup 1
 @
-$ pbx check --asterisk office.conf
-office.conf:5: note Hint
-office.conf:7: fault 23 BadApplication
-evening.conf:3: fault 20 BadPriority
-office.conf:9: fault 7 ReadFailed holidays.conf
-3 faults
+$ pbx test wrong.test
+TAP version 14
+1..2
+not ok 1 - room 123 is rung
+  ---
+  at: 'wrong.test:5'
+  expected: '1 passed Dial'
+  got: 'Hangup()'
+  trace:
+    - 'sample/extensions.conf:8 phones,_1XX,1 NoOp(a room)'
+    - 'sample/extensions.conf:9 phones,_1XX,2 Goto(100,desk)'
+    - 'sample/extensions.conf:6 phones,100,1 NoOp(the front desk)'
+    - 'sample/extensions.conf:7 phones,100,2 Hangup()'
+  ...
+not ok 2 - a call to town is hung up
+  ---
+  at: 'wrong.test:9'
+  expected: 'done'
+  got: 'refused 49 Ended'
+  trace:
+    - 'sample/extensions.conf:10 phones,_NXXXXXX,1 NoOp(a call to town)'
+    - 'sample/extensions.conf:11 phones,_NXXXXXX,2 Hangup()'
+  ...
 ? 1
-@ timed.conf
-[phones]
-include => open,9:00-17:00,mon-fri,*,*
-include => closed
-[open]
-exten => 100,1,Dial(PJSIP/reception,20)
-[closed]
-exten => 100,1,Playback(we-are-closed)
+@ faulty.test
+dialplan sample/extensions.conf
+queues sample/no.conf
+test a call
+cal phones 100
+expect 1 rans NoOp
 @
-$ pbx match --asterisk --clock "fri 2026-11-27 09:30" timed.conf phones 100
-open,100,1 Dial
-? 0
-$ pbx match --asterisk --clock "sat 2026-11-28 09:30" timed.conf phones 100
-closed,100,1 Playback
-? 0
-$ pbx match --asterisk timed.conf phones 100
-timed.conf:2: fault NoClock
+$ pbx test faulty.test
+faulty.test:4: fault BadLine
+faulty.test:5: fault BadExpect
 ? 1
-@ sample/office/extensions.conf
-; The dialplan of a small office. The other files are next to this file.
-
-[general]
-static=yes
-autofallthrough=yes
-
-[globals]
-OPERATOR=SIP/100
-TRUNK=SIP/outside
-
-; What happens when a call is over. A context that has this template begins with these lines.
-[closing](!)
-exten => h,1,NoOp(call over: ${DIALSTATUS})
-
-#include phones.conf
-#include incoming.conf
-#include helpdesk.conf
-#include outgoing.conf
-@
-@ sample/office/phones.conf
-; The phones of the office, and what they may dial.
-
-[phones](closing)
-include => outgoing
-exten => 100,hint,SIP/100
-exten => 100,1,Gosub(ring,s,1(SIP/100,100))
- same => n,Hangup()
-exten => 101,hint,SIP/101
-exten => 101,1,Gosub(ring,s,1(SIP/101,101))
- same => n,Hangup()
-exten => 200,1,Goto(helpdesk,s,1)
-
-;-- The night switch: *28 turns it on and then off again.
-    The value is kept in the database so that it survives a restart. --;
-exten => *28,1,ExecIf($["${DB(office/night)}" = "1"]?Set(DB(office/night)=0):Set(DB(office/night)=1))
- same => n,Playback(office/night-${DB(office/night)})
- same => n,Hangup()
-
-; Rings a phone for 20 seconds. ARG1: the device, ARG2: the mailbox.
-[ring]
-exten => s,1,Dial(${ARG1},20)
- same => n,GotoIf($["${DIALSTATUS}" = "BUSY"]?busy)
- same => n,VoiceMail(${ARG2}@office,u)
- same => n,Return()
- same => n(busy),VoiceMail(${ARG2}@office,b)
- same => n,Return()
-@
-@ sample/office/incoming.conf
-; Calls from the outside.
-
-[incoming](closing)
-exten => 5550100,1,Answer()
- same => n,GotoIf($["${DB(office/night)}" = "1"]?night,s,1)
- same => n,GotoIfTime(08:00-18:00,mon-fri,*,*?menu,s,1)
- same => n,Goto(night,s,1)
-
-[menu](closing)
-exten => s,1,Set(TRIES=0)
- same => n(ask),Background(office/welcome)
- same => n,WaitExten(5)
-exten => 0,1,Gosub(ring,s,1(${OPERATOR},100))
- same => n,Hangup()
-exten => 1,1,Goto(helpdesk,s,1)
-exten => i,1,Playback(invalid)
- same => n,Set(TRIES=$[${TRIES} + 1])
- same => n,GotoIf($[${TRIES} < 3]?s,ask:0,1)
-exten => t,1,Goto(0,1)
-
-[night]
-exten => s,1,Playback(office/closed)
- same => n,VoiceMail(100@office,u)
- same => n,Hangup()
-@
-@ sample/office/helpdesk.conf
-; The queue of the help desk.
-
-[helpdesk](closing)
-exten => s,1,Queue(helpdesk,,,,60)
- same => n,VoiceMail(200@office,u)
- same => n,Hangup()
-@
-@ sample/office/outgoing.conf
-; Calls to the outside: 9, and then the number.
-
-[outgoing]
-ignorepat => 9
-exten => _9XXXXXX.,1,Dial(${TRUNK}/${EXTEN:1},60)
- same => n,Hangup()
-@
-$ pbx check --asterisk sample/office/extensions.conf
-sample/office/phones.conf:5: note Hint
-sample/office/phones.conf:8: note Hint
-sample/office/outgoing.conf:4: note IgnorePat
-ok 7 contexts 40 entries
-? 0
-$ pbx match --asterisk sample/office/extensions.conf phones 95551234567
-outgoing,_9XXXXXX.,1 Dial
-? 0
-$ pbx audit --asterisk sample/office/extensions.conf
-ok 0 findings
-? 0
-@ sample/office/queues.conf
-[helpdesk]
-strategy = rrmemory
-timeout = 15
-member => SIP/101
-member => SIP/102
-@
-@ office.script
-clock mon 2026-11-30 09:30
-assume DB
-start incoming 5550100
-step 1 5
-digit 1 1
-step 1 2
-@
-$ pbx run --asterisk --verbose --queues sample/office/queues.conf sample/office/extensions.conf office.script
-ok
-ok
-started 1
-  sample/office/incoming.conf:4 Answer()
-ran 1 incoming,5550100,1 Answer -> ready incoming,5550100,2
-  sample/office/incoming.conf:5 GotoIf(0?night,s,1)
-ran 1 incoming,5550100,2 GotoIf -> ready incoming,5550100,3
-  sample/office/incoming.conf:6 GotoIfTime(08:00-18:00,mon-fri,*,*?menu,s,1)
-ran 1 incoming,5550100,3 GotoIfTime -> ready menu,s,1
-  sample/office/incoming.conf:10 Set(TRIES=0)
-ran 1 menu,s,1 Set -> ready menu,s,2
-  sample/office/incoming.conf:11 Background(office/welcome)
-ran 1 menu,s,2 Background -> digits
-ok 1 -> ready menu,1,1
-  sample/office/incoming.conf:15 Goto(helpdesk,s,1)
-ran 1 menu,1,1 Goto -> ready helpdesk,s,1
-  sample/office/helpdesk.conf:4 Queue(helpdesk,,,,60)
-ran 1 helpdesk,s,1 Queue -> queued helpdesk
-? 0
 @ sample/faulty.conf
 ; The menu of a shop with mistakes that a load accepts.
 [globals]

@@ -3,6 +3,7 @@ use crate::manual::calls::CALLS;
 use crate::manual::dialplans::DIALPLANS;
 use crate::manual::examples::EXAMPLES;
 use crate::manual::faults::FAULTS;
+use crate::manual::office::OFFICE;
 use crate::manual::reaches::REACHES;
 use crate::manual::values::VALUES;
 use crate::manual::wide::WIDE;
@@ -43,6 +44,17 @@ fn bytes_of(alloc: Global, text: &str) -> Result<Vec<u8>, NoMemory> {
     Ok(bytes)
 }
 
+/// The path without its first `FOLDER/..`.
+fn without_parent(alloc: Global, path: &str) -> Result<String, NoMemory> {
+    match path.split_once("/../") {
+        Some((folder, rest)) => match folder.rsplit_once('/') {
+            Some((parent, _)) => format!(in alloc; "{parent}/{rest}"),
+            None => String::from_str(alloc, rest),
+        },
+        None => String::from_str(alloc, path),
+    }
+}
+
 impl<'a> ReadFiles for Shelf<'a> {
     ghost use Rattle.std.specs.Prelude.{None, true};
     ghost use Rattle.dp_program.specs.Files.{source};
@@ -50,7 +62,8 @@ impl<'a> ReadFiles for Shelf<'a> {
     ghost source_at = { λ _ _. source None true };
 
     fn read_file(&self, alloc: Global, path: &str) -> Result<Vec<u8>, PbxFault> {
-        match file_in(alloc, self.text, path)? {
+        let path = without_parent(alloc, path)?;
+        match file_in(alloc, self.text, &path)? {
             Some(file) => Ok(bytes_of(alloc, file)?),
             None => Err(PbxFault::Coded {
                 code: Code::ReadFailed,
@@ -160,6 +173,7 @@ fn check_commands<R: Threads + Wait + Sync + Abort + AllocGlobal>(
 #[test]
 fn examples_print_what_the_documents_say(rt: HostRuntime) -> Result<(), Fail> {
     check_commands(&rt, EXAMPLES)?;
+    check_commands(&rt, OFFICE)?;
     check_commands(&rt, REACHES)?;
     check_commands(&rt, DIALPLANS)?;
     check_commands(&rt, CALLS)?;

@@ -408,6 +408,29 @@ run --asterisk --explain @faulty @untold.script→1→→@faulty:2: fault 4 NoEq
 run --asterisk --explain --reload @missing @first @untold.script→1→→fault 7 ReadFailed¶  @missing¶  a file could not be opened or read¶
 ";
 
+/// `test`.
+const TESTS: &str = "\
+test @first.test→0→TAP version 14¶1..1¶ok 1 - one¶→
+test --trace @first.test→0→TAP version 14¶1..1¶# @first:2 main,100,1 NoOp(hello)¶# @first:3 main,100,2 Goto(200,1)¶# @first:4 main,200,1 Hangup()¶ok 1 - one¶→
+test @first.test --cover→0→TAP version 14¶1..1¶ok 1 - one¶# covered 3 of 3 entries¶→
+test --cover @none.test→0→TAP version 14¶1..0¶# covered 0 of 3 entries¶# never @first:2 main,100,1 NoOp¶# never @first:3 main,100,2 Goto¶# never @first:4 main,200,1 Hangup¶→
+test @changes.test→0→TAP version 14¶1..1¶ok 1 - a dialplan is reloaded¶→
+test @fails.test→1→TAP version 14¶1..2¶not ok 1 - one¶  ---¶  at: '@fails.test:4'¶  expected: '1 ran NoOp'¶  got: 'Hangup()'¶  trace:¶    - '@first:2 main,100,1 NoOp(hello)'¶    - '@first:3 main,100,2 Goto(200,1)'¶    - '@first:4 main,200,1 Hangup()'¶  ...¶not ok 2 - two¶  ---¶  at: '@fails.test:7'¶  expected: 'done'¶  got: 'refused 49 Ended'¶  trace:¶    - '@first:2 main,100,1 NoOp(hello)'¶    - '@first:3 main,100,2 Goto(200,1)'¶    - '@first:4 main,200,1 Hangup()'¶  ...¶→
+# The moment of the head is that of includes with times.
+test @timed.test→0→TAP version 14¶1..0¶→
+test @unclocked.test→1→→@timed:2: fault NoClock¶
+# All faults of the test file, or of the files that it names. Then no test runs.
+test @faulty.test→1→→@faulty.test:3: fault BadLine¶@faulty.test:4: fault BadExpect¶
+test @lost.test→1→→@lost.test:1: fault 7 ReadFailed nowhere.conf¶@lost.test:2: fault 7 ReadFailed nowhere.queues¶@lost.test:4: fault 7 ReadFailed nowhere.plan¶
+test @parted.test→1→→@inner:2: fault 23 BadApplication¶@parted:4: fault 20 BadPriority¶@parted:5: fault 7 ReadFailed nowhere.conf¶
+test @switched.test→1→→@switched:2: note Switch¶
+test @strategy.test→1→→@strategy:2: fault 30 BadStrategy¶
+test @random.test→1→→@random:2: note Random¶
+test @missing→1→→fault 7 ReadFailed¶
+test --explain @missing→1→→fault 7 ReadFailed¶  @missing¶  a file could not be opened or read¶
+test @long→1→→fault 8 TooLong¶
+";
+
 /// `run --verbose` and `debug --verbose`.
 const VERBOSE_RUNS: &str = "\
 run --verbose @first @first.script→0→started 1¶  @first:2 NoOp(hello)¶ran 1 main,100,1 NoOp -> ready main,100,2¶  @first:3 Goto(200,1)¶ran 1 main,100,2 Goto -> ready main,200,1¶  @first:4 Hangup()¶ran 1 main,200,1 Hangup -> ended¶→
@@ -526,7 +549,7 @@ check @empty←[main]¶exten => 100,1,NoOp(hello)¶exten => 100,2,Goto(200,1)¶e
 ";
 
 /// All the tables.
-const TABLES: [&str; 14] = [
+const TABLES: [&str; 15] = [
     CHECKS,
     LISTS,
     MATCHES,
@@ -536,6 +559,7 @@ const TABLES: [&str; 14] = [
     EXPLAINED,
     RUNS,
     ASTERISK_RUNS,
+    TESTS,
     VERBOSE_RUNS,
     THREAD_RUNS,
     DEBUGS,

@@ -70,6 +70,8 @@ run --asterisk @missing→the following required arguments were not provided:¶ 
 run --threads 2 @missing→the following required arguments were not provided:¶  <SCRIPT>→pbx run --threads <N> <FILE> <SCRIPT>
 debug @missing @missing→the following required arguments were not provided:¶  --break <CONTEXT,EXTEN,PRIORITY>→pbx debug --break <CONTEXT,EXTEN,PRIORITY> <FILE> <SCRIPT>
 debug --break main,s,1 a b c→unexpected argument 'c' found→pbx debug [OPTIONS] --break <CONTEXT,EXTEN,PRIORITY> <FILE> <SCRIPT>
+test→the following required arguments were not provided:¶  <FILE>→pbx test <FILE>
+test a b→unexpected argument 'b' found→pbx test [OPTIONS] <FILE>
 check --version→unexpected argument '--version' found¶¶  tip: to pass '--version' as a value, use '-- --version'→pbx check [OPTIONS] [FILE]
 help dial→unrecognized subcommand 'dial'→pbx [COMMAND]
 ";
@@ -113,6 +115,7 @@ Commands:
   match    Print which entry of a dialplan answers a call
   run      Run a script of events on a dialplan, and print the trace
   debug    Run a script of events on a dialplan, and halt before the steps at a place
+  test     Run the tests of a dialplan
   audit    Print what the writer of a dialplan may not have meant
   reach    Prove which entries a call from a context can never run
   explain  Print what the manual says about a fault
@@ -131,13 +134,14 @@ Examples:
   pbx match extensions.conf main 555-1234
   pbx run extensions.conf calls.script
   pbx debug --break main,100,2 extensions.conf calls.script
+  pbx test office.test
   pbx audit extensions.conf
   pbx reach extensions.conf from-carrier --to international
   pbx explain 20
   pbx < joined.conf
 
-Status: 0; 1 if a fault was printed, an event was refused, an audit found something or a context may be reached; 2 if the command
-line was refused; 4 if a run with --asterisk stopped because something is unknown.
+Status: 0; 1 if a fault was printed, an event was refused, a test failed, an audit found something or a context may be reached; 2 if
+the command line was refused; 4 if a run with --asterisk stopped because something is unknown.
 ";
 
 /// The help for `check`.
@@ -433,11 +437,44 @@ Example:
   end 3
 ";
 
+/// The help for `test`.
+const TEST_HELP: &str = "\
+Run the tests of a dialplan
+
+Usage: pbx test [OPTIONS] <FILE>
+
+Arguments:
+  <FILE>  The test file, such as office.test
+
+Options:
+      --trace    Print above the result of each test what ran in it, as lines that begin with `#`
+      --cover    Print at the end how many entries of the dialplan ran in a test, and each entry that did not
+      --explain  Print below each fault, and below each note of `check`, where it is and what the manual says about it
+  -h, --help     Print help
+
+Runs each test of FILE in a world of its own, on the dialplan that the file names, which is read as `check --asterisk` reads it.
+Each event is followed by all steps that are possible. A test passes if no event is refused, nothing stays unknown, and each
+`expect` line comes true. The results are in the Test Anything Protocol, version 14. A test that fails has its line, what was
+expected, what came instead, and the last entries that ran. If the test file or a file that it names has faults, each is printed
+on standard error with its file and line, no test runs, and the status is 1.
+
+Example:
+  $ cat office.test
+  dialplan extensions.conf
+  test a call to the help desk waits in its queue
+  call main 555-1234
+  expect 1 queued helpdesk
+  $ pbx test office.test
+  TAP version 14
+  1..1
+  ok 1 - a call to the help desk waits in its queue
+";
+
 /// The version.
 const VERSION: &str = "pbx 0.1.0 logic dac8208d650f15bf\n";
 
 /// Command lines that ask for help or for the version, and their output.
-const HELPS: [(&str, &str); 15] = [
+const HELPS: [(&str, &str); 16] = [
     ("help", PBX_HELP),
     ("-h", PBX_HELP),
     ("--help", PBX_HELP),
@@ -448,6 +485,7 @@ const HELPS: [(&str, &str); 15] = [
     ("match @missing --help", MATCH_HELP),
     ("run --help", RUN_HELP),
     ("debug --help", DEBUG_HELP),
+    ("test --help", TEST_HELP),
     ("audit --help", AUDIT_HELP),
     ("help reach", REACH_HELP),
     ("help explain", EXPLAIN_HELP),

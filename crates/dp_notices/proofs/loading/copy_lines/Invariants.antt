@@ -1,5 +1,5 @@
 use Rattle.std.proofs.Common.{◌≡◌, ◌++◌, drop}
-use Rattle.dp_notices.proofs.preparation.copy_lines.Given as goal
+use Rattle.dp_notices.proofs.loading.copy_lines.Given as goal
 
 abbrev pub invariant-loop-line : goal.invariant-loop-line
 invariant-loop-line l = l.copies.items ++ drop l.line-index l.lines ≡ l.lines

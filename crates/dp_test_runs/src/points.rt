@@ -1,0 +1,297 @@
+//! What the tests of a file came to, as it is reported.
+ghost use Rattle.std.specs.Prelude.{◌≡◌, ◌++◌, IfErr, IfOk, OnOk, Ok, None, position};
+ghost use Rattle.std.specs.Option.{option_map};
+ghost use Rattle.dp_conf.specs.Answers.{Answers};
+ghost use Rattle.dp_conf.specs.Blanks as blanks;
+ghost use Rattle.dp_commands.specs.Faults.{reason_of};
+ghost use Rattle.dp_test_runs.specs.Points as spec;
+
+use crate::failure::{Failure, FailureKind};
+use crate::items::Items;
+use crate::shown::push_decimal;
+use crate::sources::Sources;
+use crate::tap::{Point, Report};
+use crate::test_run::{TestResult, TestTexts, begin, run_on};
+use crate::traces::{entered, last_five, trace_of};
+use dp_commands::{LinePlaces, PbxFault, line_in};
+use dp_conf::{is_blank, trim};
+use dp_machine::Machine;
+use dp_plan::{EntryId, NoMemory, Text};
+use dp_tests::{Test, TestFile};
+use dp_wide::WideApps;
+use std::alloc::Global;
+
+/// A test file with what its tests run on.
+#[derive(Clone, Copy)]
+pub struct TestedFile<'a> {
+    /// The path of the test file, as reports print it.
+    pub path: &'a [u8],
+    /// The text of the test file.
+    pub text: &'a [u8],
+    /// What the text says.
+    pub file: &'a TestFile,
+    /// The texts that its tests run on.
+    pub texts: TestTexts<'a>,
+    /// Where the lines of the dialplan come from, as reports print it.
+    pub places: LinePlaces<'a>,
+}
+
+/// A line of a file, `PATH:LINE`.
+fn copy_line(alloc: Global, path: &[u8], line: usize) -> Result<Text, NoMemory>
+    ensures { IfOk result (λ text. text ≡ spec.line_shown path.now line) }
+{
+    let mut out = Vec::from_slice(alloc, path)?;
+    out.extend_from_slice(b":")?;
+    push_decimal(&mut out, line)?;
+    Ok(Text::new(out))
+}
+
+/// The place of the first blank of a text.
+fn blank_place(text: &[u8]) -> Option<usize>
+    ensures { result ≡ position blanks.is_blank text.now }
+{
+    text.iter().position(|byte| is_blank(*byte))
+}
+
+/// What the line with a number expects: the text after its first word.
+fn expectation_at(text: &[u8], line: usize) -> &[u8]
+    ensures { result.now ≡ spec.expectation_at text.now line }
+{
+    let content = trim(line_in(text, line));
+    match blank_place(content) {
+        Some(place) => trim(&content[place..]),
+        None => b"",
+    }
+}
+
+/// That something is expected of a channel.
+fn of_channel(alloc: Global, channel: u32) -> Result<Text, NoMemory>
+    ensures { IfOk result (λ text. text ≡ spec.of_channel channel) }
+{
+    let mut out = Vec::from_slice(alloc, b"an expectation of channel ")?;
+    push_decimal(&mut out, channel)?;
+    Ok(Text::new(out))
+}
+
+/// What was expected where a line of the file with this text failed.
+fn copy_expected(alloc: Global, text: &[u8], failure: Failure) -> Result<Text, NoMemory>
+    ensures { IfOk result (λ expected. expected ≡ spec.expected_by text.now failure.line failure.kind) }
+{
+    match failure.kind {
+        FailureKind::Unmet => Text::copy_of(alloc, expectation_at(text, failure.line)),
+        FailureKind::Refused(_) => Text::copy_of(alloc, b"done"),
+        FailureKind::Endless => Text::copy_of(alloc, b"at most 10000 steps"),
+        FailureKind::LeftUnknown(channel) => of_channel(alloc, channel),
+    }
+}
+
+/// Where the entries of the dialplans of a file's tests stand.
+fn sources_for<'a>(alloc: Global, tested: &TestedFile<'a>) -> Result<Sources<'a>, NoMemory>
+    ensures { IfOk result (λ sources. sources ≡ spec.sources_for tested.now) }
+{
+    Sources::of(
+        alloc,
+        tested.places,
+        tested.texts.plan,
+        tested.texts.reloaded,
+    )
+}
+
+/// The report of a test that failed, given its trace.
+fn report_of(
+    alloc: Global,
+    tested: &TestedFile<'_>,
+    trace: &[Text],
+    got: &Text,
+    failure: Failure,
+) -> Result<Report, NoMemory>
+    ensures { IfOk result (λ report. report ≡ spec.report_of tested.now trace.now got.now failure) }
+{
+    let at = copy_line(alloc, tested.path, failure.line)?;
+    let expected = copy_expected(alloc, tested.text, failure)?;
+    let got = got.clone()?;
+    let trace = last_five(alloc, trace)?;
+    Ok(Report {
+        at,
+        expected,
+        got,
+        trace,
+    })
+}
+
+/// The report of a test, if it failed.
+fn report_if_failed(
+    alloc: Global,
+    tested: &TestedFile<'_>,
+    trace: &[Text],
+    ended: &TestResult,
+) -> Result<Option<Report>, NoMemory>
+    ensures { IfOk result (λ report. report ≡ option_map (spec.report_of tested.now trace.now ended.now.got) ended.now.failure) }
+{
+    match ended.failure {
+        Some(failure) => {
+            let report = report_of(alloc, tested, trace, &ended.got, failure)?;
+            Ok(Some(report))
+        }
+        None => Ok(None),
+    }
+}
+
+/// The point of a test with a name that ended so.
+fn point_by(
+    alloc: Global,
+    tested: &TestedFile<'_>,
+    sources: &Sources<'_>,
+    name: &Text,
+    ended: &TestResult,
+) -> Result<Point, NoMemory>
+    requires { sources.now ≡ spec.sources_for tested.now }
+    ensures { IfOk result (λ point. point ≡ spec.point_by tested.now name.now ended.now) }
+{
+    let changes = ended.changes.as_slice();
+    let ran = ended.ran.as_slice();
+    let trace = trace_of(alloc, sources, changes, ran)?;
+    let report = report_if_failed(alloc, tested, trace.as_slice(), ended)?;
+    let entered = entered(alloc, changes, ran)?;
+    let name = name.clone()?;
+    Ok(Point {
+        name,
+        report,
+        trace,
+        entered,
+    })
+}
+
+/// The point of a test that begins in this machine.
+fn point_in(
+    alloc: Global,
+    tested: &TestedFile<'_>,
+    sources: &Sources<'_>,
+    test: &Test,
+    machine: Machine<WideApps>,
+) -> Result<Point, NoMemory>
+    requires { sources.now ≡ spec.sources_for tested.now }
+    ensures { IfOk result (λ point. point ≡ spec.point_in tested.now machine test.now) }
+{
+    let ended = run_on(alloc, tested.texts.reloaded, tested.file, test, machine)?;
+    point_by(alloc, tested, sources, &test.name, &ended)
+}
+
+/// The machine in which each test of a file begins.
+#[tactic(auto, unfolding(crate::specs::Points::opening))]
+fn begin_tests(alloc: Global, tested: &TestedFile<'_>) -> Result<Machine<WideApps>, PbxFault>
+    ensures { Answers (λ machine. machine) reason_of result (spec.opening tested.now) }
+{
+    begin(alloc, tested.texts.plan, tested.texts.queues)
+}
+
+/// Another machine like the first one of the tests. The texts have been read before, so it fails only if memory runs out.
+#[tactic(auto, using(crate::proofs::PointsLemmas::refused_memory))]
+fn begin_again(
+    alloc: Global,
+    tested: &TestedFile<'_>,
+    first: &Machine<WideApps>,
+) -> Result<Machine<WideApps>, PbxFault>
+    requires { spec.opening tested.now ≡ Ok first.now }
+    ensures machine { IfOk result (λ machine. machine ≡ first.now) }
+    ensures memory { IfErr result (λ fault. reason_of fault ≡ None) }
+{
+    match begin_tests(alloc, tested) {
+        Ok(machine) => Ok(machine),
+        Err(fault) => Err(fault),
+    }
+}
+
+/// Runs a test of a file, whose tests begin as the first machine does, and gives its point. It fails only if memory runs out.
+fn run_point(
+    alloc: Global,
+    tested: &TestedFile<'_>,
+    sources: &Sources<'_>,
+    first: &Machine<WideApps>,
+    test: &Test,
+) -> Result<Point, PbxFault>
+    requires opening { spec.opening tested.now ≡ Ok first.now }
+    requires sources { sources.now ≡ spec.sources_for tested.now }
+    ensures point { IfOk result (λ point. point ≡ spec.point_in tested.now first.now test.now) }
+    ensures memory { IfErr result (λ fault. reason_of fault ≡ None) }
+{
+    let machine = begin_again(alloc, tested, first)?;
+    match point_in(alloc, tested, sources, test, machine) {
+        Ok(point) => Ok(point),
+        Err(refused) => Err(PbxFault::from(refused)),
+    }
+}
+
+/// Runs the tests of a file, which begin as the first machine does, and gives their points in order. It fails only if memory runs out.
+fn run_points(
+    alloc: Global,
+    tested: &TestedFile<'_>,
+    sources: &Sources<'_>,
+    first: &Machine<WideApps>,
+) -> Result<Items<Point>, PbxFault>
+    requires opening { spec.opening tested.now ≡ Ok first.now }
+    requires sources { sources.now ≡ spec.sources_for tested.now }
+    ensures points { IfOk result (λ points. points ≡ spec.points_in tested.now first.now) }
+    ensures memory { IfErr result (λ fault. reason_of fault ≡ None) }
+{
+    let mut points = Items::none(alloc);
+    for test in tested.file.tests.as_slice() {
+        let point = run_point(alloc, tested, sources, first, test)?;
+        points.push(point)?;
+    }
+    Ok(points)
+}
+
+/// Reads where the entries of the dialplans stand, and runs the tests of a file. It fails only if memory runs out.
+fn run_from(
+    alloc: Global,
+    tested: &TestedFile<'_>,
+    first: &Machine<WideApps>,
+) -> Result<Items<Point>, PbxFault>
+    requires opening { spec.opening tested.now ≡ Ok first.now }
+    ensures points { IfOk result (λ points. points ≡ spec.points_in tested.now first.now) }
+    ensures memory { IfErr result (λ fault. reason_of fault ≡ None) }
+{
+    match sources_for(alloc, tested) {
+        Ok(sources) => run_points(alloc, tested, &sources, first),
+        Err(refused) => Err(PbxFault::from(refused)),
+    }
+}
+
+/// Runs the tests of a file, each in a machine of its own, and gives their points in order.
+///
+/// The error is the first fault of the dialplan or of the queues, also in a file without tests, or want of memory.
+#[tactic(auto, unfolding(crate::specs::Points::points_of))]
+pub fn run_tests(alloc: Global, tested: &TestedFile<'_>) -> Result<Items<Point>, PbxFault>
+    ensures { Answers (λ points. points) reason_of result (spec.points_of tested.now) }
+{
+    let first = begin_tests(alloc, tested)?;
+    run_from(alloc, tested, &first)
+}
+
+/// Adds the entries of the dialplan that one test ran.
+fn push_each(entered: &mut Items<EntryId>, ids: &[EntryId]) -> Result<(), NoMemory>
+    ensures { OnOk result (entered.new ≡ entered.old ++ ids.now) }
+{
+    for id in ids {
+        entered.push(*id)?;
+    }
+    Ok(())
+}
+
+/// Adds the entries of the dialplan that tests ran, in the order in which they ran. An entry that ran twice is added twice.
+pub fn add_entered(entered: &mut Items<EntryId>, points: &[Point]) -> Result<(), NoMemory>
+    ensures { OnOk result (entered.new ≡ entered.old ++ spec.entered_in points.now) }
+{
+    for point in points {
+        push_each(entered, point.entered.as_slice())?;
+    }
+    Ok(())
+}
+
+/// Whether a test failed.
+pub fn has_failed(points: &[Point]) -> bool
+    ensures { result ≡ spec.has_failed points.now }
+{
+    points.iter().any(|point| point.report.is_some())
+}
