@@ -35,7 +35,7 @@ impl Model for Block {
 }
 
 impl Block {
-    ghost use Rattle.std.specs.Prelude.{◌≡◌, ◌++◌, ◌||◌, ◌∷◌, [], IfOk, OnOk, OnErr};
+    ghost use Rattle.std.specs.Prelude.{◌≡◌, ◌++◌, ◌||◌, ◌∷◌, [], length, take, IfOk, OnOk, OnErr};
     ghost use Rattle.dp_commands.specs.Block.{waiting};
 
     /// An empty block with room for this number of bytes. It fails only if memory runs out.
@@ -98,6 +98,22 @@ impl Block {
         self.push_byte(b'\n')?;
         self.close_line();
         Ok(())
+    }
+
+    /// How many bytes the whole lines have.
+    pub fn whole_len(&self) -> usize
+        ensures { result ≡ length self.now.whole }
+    {
+        self.whole
+    }
+
+    /// Keeps this many of the first bytes of the whole lines, all of them if there are fewer. The others are dropped, and so is a line that
+    /// was begun.
+    pub fn keep_whole(&mut self, length: usize)
+        ensures { self.new ≡ waiting (take length self.old.whole) [] }
+    {
+        self.whole = self.whole.min(length);
+        self.begin_line();
     }
 
     /// Whether the block has hardly any room for another line.

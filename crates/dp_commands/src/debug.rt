@@ -72,9 +72,10 @@ fn cut_break(alloc: Global, text: &[u8]) -> Result<Option<Break>, NoMemory>
     read_parts(alloc, &parts)
 }
 
-/// The break that a text names, or the text's fault.
+/// The break that the text `CONTEXT,EXTEN,PRIORITY` names, none of its parts trimmed, or fault 71 if it does not name one. It fails only
+/// then, and if memory runs out.
 #[tactic(auto, unfolding(crate::specs::Debug::break_of))]
-pub(crate) fn read_break(alloc: Global, text: &[u8]) -> Result<Break, PbxFault>
+pub fn read_break(alloc: Global, text: &[u8]) -> Result<Break, PbxFault>
     ensures held { Answers (λ held. held) reason_of result (spec.break_of text.now) }
     ensures quiet { is_write_failed result ≡ false }
 {
@@ -88,8 +89,8 @@ pub(crate) fn read_break(alloc: Global, text: &[u8]) -> Result<Break, PbxFault>
     }
 }
 
-/// Adds the line of a halt after a number of events.
-pub(crate) fn push_halt(out: &mut Block, taken: u64) -> Result<(), NoMemory>
+/// Adds the line of a halt after a number of events, `break TAKEN`, to the line that was begun. It fails only if memory runs out.
+pub fn push_halt(out: &mut Block, taken: u64) -> Result<(), NoMemory>
     ensures kept { out.new.whole ≡ out.old.whole }
     ensures ok { OnOk result (out.new.begun ≡ out.old.begun ++ spec.halt_line taken) }
 {
@@ -229,8 +230,9 @@ impl Taker for Watched {
     }
 }
 
-/// Adds the last line to the waiting lines.
-pub(crate) fn push_end(block: &mut Block, taken: u64) -> Result<(), NoMemory>
+/// Adds the last line of a debugged run that took this number of events, `end TAKEN`, to the waiting lines. It fails only if memory runs
+/// out; then no line was added.
+pub fn push_end(block: &mut Block, taken: u64) -> Result<(), NoMemory>
     ensures ok { OnOk result (block.new.whole ≡ block.old.whole ++ spec.end_line taken) }
     ensures err { OnErr result (block.new.whole ≡ block.old.whole) }
 {

@@ -136,8 +136,8 @@ fn first_for<T: AppTable>(machine: &mut Machine<T>, channel: u32, breaks: &[Brea
     first_at(machine, channel, entry, breaks)
 }
 
-/// The number of the first break that holds before the event. Only a step can have one. It never allocates.
-pub(crate) fn first_before<T: AppTable>(
+/// The number of the first break that holds before the event, counted from 0. Only a step can have one. It never allocates.
+pub fn first_before<T: AppTable>(
     machine: &mut Machine<T>,
     event: &Event,
     breaks: &[Break],

@@ -6,7 +6,7 @@ mod debugger;
 mod halt;
 pub mod laws;
 
-pub use breaks::Break;
+pub use breaks::{Break, first_before};
 pub use debugger::Debugger;
 pub use dp_machine::{Event, Machine, NoMemory, Place, Reply, Text};
 pub use halt::{Halt, Why};
