@@ -7,10 +7,10 @@ use Rattle.clap.specs.declared.error.kind.ErrorKind.{ErrorKind}
 use Rattle.clap.specs.declared.error.kind.ErrorKind.TheVariants.{OutOfMemory}
 use Rattle.dp_conf.specs.Words.{same_text}
 use Rattle.dp_program.specs.Requests.{RequestOf, explaining}
-use Rattle.dp_cli.specs.CommandLine.{asked_by, request_of_command, takes_clock, takes_clock_by, audit_asked, audit_by, audit_in, audit_named, check_asked, check_files_in, check_over, command_asked, debug_asked, test_asked, explain_asked, fault_in, list_asked, match_asked, match_at, priority_in, reach_asked, run_asked, run_by, run_in, run_over, run_wide_in, is_set, has_queues, has_threads, threads_in}
+use Rattle.dp_cli.specs.CommandLine.{asked_by, request_of_command, takes_clock, takes_clock_by, audit_asked, audit_by, audit_in, audit_named, check_asked, command_asked, debug_asked, test_asked, explain_asked, fault_in, list_asked, match_asked, match_at, priority_in, reach_asked, run_asked, run_by, run_in, run_over, run_wide_in, is_set, has_threads, threads_in}
 use Rattle.dp_wide.specs.Times.{moment_of}
 use Rattle.dp_wide_runs.specs.Kinds.{KindsTold, all, only, except, are_kinds}
-use Rattle.dp_cli.specs.Refusals.{audit_kinds_by, check_kinds_over, clock_kinds, clock_kinds_by, unless_moment, command_kinds, conflict_kinds, kinds_by, number_kinds, run_kinds_over, unless_kinds, unless_number}
+use Rattle.dp_cli.specs.Refusals.{audit_kinds_by, clock_kinds, clock_kinds_by, unless_moment, command_kinds, conflict_kinds, kinds_by, number_kinds, run_kinds_over, unless_kinds, unless_number}
 
 -- one of the first kinds is one of all kinds
 pub has_first : (kinds next : Kinds) (kind : ErrorKind) → (kind ≡ OutOfMemory) ⊎ IsAmong kind kinds → (kind ≡ OutOfMemory) ⊎ IsAmong kind (or_else kinds next)
@@ -49,14 +49,6 @@ run_kinds_none : (words : List Row) (is_wide : Bool) → is_some (run_over words
 run_kinds_none words true is = wide_kinds words (has_threads words) is
 run_kinds_none words false is = run_numbers words (first_of (codes "N") words) is
 
-check_conflicts : (words : List Row) (conflicts : Bool) → is_some (check_files_in words conflicts) ≡ true → conflict_kinds conflicts ≡ []
-check_conflicts words true is = absurd cc
-check_conflicts words false is = refl
-
-check_kinds_none : (words : List Row) (includes : Bool) → is_some (check_over words includes) ≡ true → check_kinds_over words includes ≡ []
-check_kinds_none words true is = check_conflicts words (has_queues words) is
-check_kinds_none words false is = refl
-
 named_kinds : (is_kinds : Bool) (request : Option RequestOf) → is_some (if is_kinds then request else None) ≡ true → unless_kinds is_kinds ≡ []
 named_kinds true request is = refl
 named_kinds false request is = absurd cc
@@ -75,7 +67,7 @@ either false first later kinds others is are some = are some
 
 command_numbers : (name : List ℕ) (words : List Row) → is_some (command_asked name words) ≡ true → command_kinds name words ≡ []
 command_numbers name words =
-    either (same_text name (codes "check")) (check_asked words) _ _ _ (check_kinds_none words (is_set (codes "asterisk") words))
+    either (same_text name (codes "check")) (check_asked words) _ [] _ (λ some. refl)
     (either (same_text name (codes "list")) (list_asked words) _ [] _ (λ some. refl)
     (either (same_text name (codes "match")) (match_asked words) _ _ _ (match_numbers words (first_of (codes "PRIORITY") words))
     (either (same_text name (codes "run")) (run_asked words) _ _ _ (run_kinds_none words (is_set (codes "asterisk") words))

@@ -10,7 +10,7 @@ use Rattle.dp_conf.specs.Words.{same_text}
 use Rattle.dp_commands.specs.Script.{number_within}
 use Rattle.dp_conf.specs.Numbers.{most_priority}
 use Rattle.dp_program.specs.Entries.{fault_named, fault_numbered}
-use Rattle.dp_program.specs.Requests.{OptionsOf, RequestOf, joined, check, check_files, check_queues, check_both, listing, listing_files, auditing, auditing_by, matching, matching_files, explaining, run, run_wide, debug, testing, reaching, LookupOf, QuestionOf}
+use Rattle.dp_program.specs.Requests.{OptionsOf, RequestOf, joined, check, check_files, check_queue_files, check_both_files, check_queues, check_both, listing, listing_files, auditing, auditing_by, matching, matching_files, explaining, run, run_wide, debug, debug_wide, testing, reaching, LookupOf, QuestionOf}
 use Rattle.dp_program.specs.Texts.{OfRun}
 use Rattle.dp_wide.specs.Times.{moment_of}
 use Rattle.dp_wide_runs.specs.Kinds.{KindsTold, all, only, except, are_kinds}
@@ -105,10 +105,10 @@ abbrev pub run_app : App
 run_app =
     with_explain (with_files (with_verbose (with_rule (with_more_files (with_asterisk (new_app (codes "run")))) (named_word (codes "N") (codes "threads")))))
 
--- `debug [--queues QUEUES] [--reload DIALPLAN] --break CONTEXT,EXTEN,PRIORITY [--verbose] [--explain] FILE SCRIPT`
+-- `debug [--asterisk [--clock MOMENT]] [--queues QUEUES] [--reload DIALPLAN] --break CONTEXT,EXTEN,PRIORITY [--verbose] [--explain] FILE SCRIPT`
 abbrev pub debug_app : App
 debug_app =
-    with_explain (with_files (with_verbose (with_rule (with_more_files (new_app (codes "debug")))
+    with_explain (with_files (with_verbose (with_rule (with_more_files (with_asterisk (new_app (codes "debug"))))
     (required_named_word (codes "CONTEXT,EXTEN,PRIORITY") (codes "break")))))
 
 -- `test [--trace] [--cover] [--explain] FILE`
@@ -179,18 +179,16 @@ check_request None (Some queues) = Some (check_queues queues)
 check_request (Some file) None = Some (check file)
 check_request (Some file) (Some queues) = Some (check_both file queues)
 
--- whether a queue file is named, which `check --asterisk` does not allow
-abbrev pub has_queues : List Row → Bool
-has_queues words = is_some (first_of (codes "QUEUES") words)
-
--- the request of `check --asterisk`, given whether a queue file is named too
-abbrev pub check_files_in : List Row → Bool → Option RequestOf
-check_files_in words true = None
-check_files_in words false = option_map check_files (first_of (codes "FILE") words)
+-- the request of `check --asterisk`, given its dialplan and its queue file; None without both
+abbrev pub check_including : Option (List ℕ) → Option (List ℕ) → Option RequestOf
+check_including None None = None
+check_including None (Some queues) = Some (check_queue_files queues)
+check_including (Some file) None = Some (check_files file)
+check_including (Some file) (Some queues) = Some (check_both_files file queues)
 
 -- the request of `check`, given its words and whether it has `--asterisk`
 abbrev pub check_over : List Row → Bool → Option RequestOf
-check_over words true = check_files_in words (has_queues words)
+check_over words true = check_including (first_of (codes "FILE") words) (first_of (codes "QUEUES") words)
 check_over words false = check_request (first_of (codes "FILE") words) (first_of (codes "QUEUES") words)
 
 -- the request of `check`
@@ -295,10 +293,15 @@ run_over words false = run_by words (first_of (codes "N") words)
 abbrev pub run_asked : List Row → Option RequestOf
 run_asked words = run_over words (is_set (codes "asterisk") words)
 
+-- the request of `debug` on the files of a run, given whether it uses the wide table
+abbrev pub debug_of : Bool → OfRun (List ℕ) → List ℕ → Bool → RequestOf
+debug_of false paths held is_verbose = debug paths held is_verbose
+debug_of true paths held is_verbose = debug_wide paths held is_verbose
+
 -- the request of `debug`
 abbrev pub debug_asked : List Row → Option RequestOf
 debug_asked words =
-    option_and_then (λ paths. option_map (λ held. debug paths held (is_set (codes "verbose") words))
+    option_and_then (λ paths. option_map (λ held. debug_of (is_set (codes "asterisk") words) paths held (is_set (codes "verbose") words))
     (first_of (codes "CONTEXT,EXTEN,PRIORITY") words)) (run_paths words)
 
 -- the request of `test`

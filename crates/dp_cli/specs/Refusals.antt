@@ -10,7 +10,7 @@ use Rattle.dp_conf.specs.Words.{same_text}
 use Rattle.dp_program.specs.Requests.{RequestOf}
 use Rattle.dp_wide.specs.Times.{moment_of}
 use Rattle.dp_wide_runs.specs.Kinds.{are_kinds}
-use Rattle.dp_cli.specs.CommandLine.{pbx_app, asked_by, fault_in, has_queues, has_threads, is_set, priority_in, threads_in}
+use Rattle.dp_cli.specs.CommandLine.{pbx_app, asked_by, fault_in, has_threads, is_set, priority_in, threads_in}
 
 -- an invalid value if there is no number
 abbrev pub unless_number : Option ℕ → Kinds
@@ -26,15 +26,6 @@ number_kinds number_in (Some word) = unless_number (number_in word)
 abbrev pub conflict_kinds : Bool → Kinds
 conflict_kinds true = ArgumentConflict ∷ []
 conflict_kinds false = []
-
--- the kinds for `check`, given whether it has `--asterisk`
-abbrev pub check_kinds_over : List Row → Bool → Kinds
-check_kinds_over words true = conflict_kinds (has_queues words)
-check_kinds_over words false = []
-
--- the kinds for `check`
-abbrev pub check_kinds : List Row → Kinds
-check_kinds words = check_kinds_over words (is_set (codes "asterisk") words)
 
 -- the kinds for `run`, given whether it has `--asterisk`
 abbrev pub run_kinds_over : List Row → Bool → Kinds
@@ -61,11 +52,11 @@ audit_kinds_by words (Some wanted) (Some unwanted) = ArgumentConflict ∷ []
 abbrev pub audit_kinds : List Row → Kinds
 audit_kinds words = audit_kinds_by words (first_of (codes "KINDS") words) (first_of (codes "UNWANTED") words)
 
--- the kinds for a command: `check` and `run` have words that exclude each other, `match` a priority, `run` a number of threads, `audit`
--- kinds of findings, and `explain` the number or the name of a fault
+-- the kinds for a command: `run` has words that exclude each other, `match` a priority, `run` a number of threads, `audit` kinds of
+-- findings, and `explain` the number or the name of a fault
 abbrev pub command_kinds : List ℕ → List Row → Kinds
 command_kinds name words =
-    if same_text name (codes "check") then check_kinds words
+    if same_text name (codes "check") then []
     else if same_text name (codes "list") then []
     else if same_text name (codes "match") then number_kinds priority_in (first_of (codes "PRIORITY") words)
     else if same_text name (codes "run") then run_kinds words

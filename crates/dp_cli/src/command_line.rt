@@ -334,15 +334,33 @@ fn run_in<'a>(given: &ArgMatches<'a>, threads: Option<u32>) -> Option<Request<'a
     })
 }
 
+/// The request of `debug` on the files of a run, given whether it uses the wide table.
+fn debug_of<'a>(is_wide: bool, files: RunFiles<'a>, held: &'a str, is_verbose: bool) -> Request<'a>
+    ensures { request_asked result ≡ spec.debug_of is_wide (paths_of files.entry) held.now is_verbose }
+{
+    if is_wide {
+        Request::DebugWide {
+            files,
+            held,
+            is_verbose,
+        }
+    } else {
+        Request::Debug {
+            files,
+            held,
+            is_verbose,
+        }
+    }
+}
+
 /// The request of `debug`.
 fn debug_request<'a>(given: &ArgMatches<'a>) -> Option<Request<'a>>
     ensures { option_map request_asked result ≡ spec.debug_asked (rows_of (found_of given.now)) }
 {
-    Some(Request::Debug {
-        files: run_files(given)?,
-        held: word_of(given, "CONTEXT,EXTEN,PRIORITY")?,
-        is_verbose: is_set(given, "verbose"),
-    })
+    let files = run_files(given)?;
+    let held = word_of(given, "CONTEXT,EXTEN,PRIORITY")?;
+    let is_verbose = is_set(given, "verbose");
+    Some(debug_of(is_set(given, "asterisk"), files, held, is_verbose))
 }
 
 /// The request of `test`.
@@ -383,7 +401,7 @@ fn command_request<'a>(
     ensures kinds { FailsBy (refusals.command_kinds name.now (rows_of (found_of given.now))) result }
 {
     match name {
-        "check" => check_request(alloc, given),
+        "check" => Ok(check_request(given)),
         "list" => Ok(list_request(given)),
         "match" => match_request(alloc, given),
         "run" => run_request(alloc, given),

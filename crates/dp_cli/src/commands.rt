@@ -418,7 +418,7 @@ pub(crate) fn run_command<'a>(alloc: Global) -> Result<Command<'a>, NoMemory>
 }
 
 /// The command `debug`.
-fn debug_command<'a>(alloc: Global) -> Result<Command<'a>, NoMemory>
+pub(crate) fn debug_command<'a>(alloc: Global) -> Result<Command<'a>, NoMemory>
     ensures { Makes spec.debug_app result }
 {
     let debug = command_of(
@@ -426,6 +426,11 @@ fn debug_command<'a>(alloc: Global) -> Result<Command<'a>, NoMemory>
         "debug",
         "Run a script of events on a dialplan, and halt before the steps at a place",
         DEBUG_NOTES,
+    );
+    let debug = with_asterisk(
+        alloc,
+        debug,
+        "Use the applications and functions that people use, take facts from the script, and stop at anything unknown",
     );
     let debug = with_more_files(alloc, debug);
     let held = required_named_word(

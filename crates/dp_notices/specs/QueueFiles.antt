@@ -1,5 +1,5 @@
 -- A file of queues that is read with the files that it includes, with the notices on their lines.
-use Rattle.std.specs.Prelude.{ℕ, false, List, ◌++◌, map, Option, Some, None, Result, Ok, Err}
+use Rattle.std.specs.Prelude.{ℕ, false, List, ◌++◌, length, map, Option, Some, None, Result, Ok, Err}
 use Rattle.std.specs.List.{flat_map}
 use Rattle.std.specs.Option.{option_to_list}
 use Rattle.dp_conf.specs.Answers.{◌>>=◌}
@@ -24,6 +24,8 @@ use Rattle.dp_notices.specs.declared.notice.NoticeFault.TheVariants.{Reading, Qu
 use Rattle.dp_notices.specs.declared.printing.Shown.{Shown}
 use Rattle.dp_notices.specs.declared.queue_files.QueueFiles.{QueueFiles}
 use Rattle.dp_queue.specs.AllFaults as faults
+use Rattle.dp_queue.specs.File.{queues_in as queues_in_text}
+use Rattle.dp_queue.specs.Queues.{QueuesOf}
 use Rattle.dp_queue.specs.declared.fault.QueueFault.{QueueFault}
 use Rattle.dp_queue.specs.declared.fault.QueueFault.TheVariants.{Conf, Queue, NoMemory}
 
@@ -84,6 +86,15 @@ queues_now queues = record { files = queues.files.items; lines = queues.lines.it
 -- how many faults the lines have
 abbrev pub queue_faults : QueueFilesOf → ℕ
 queue_faults queues = faults_in queues.lines
+
+-- how many queues a text has; a text with a fault has none
+abbrev pub count_in : Result QueuesOf QueueFault → ℕ
+count_in (Ok queues) = length queues.queues
+count_in (Err fault) = 0
+
+-- how many queues load
+unfoldable pub queue_count : QueueFilesOf → ℕ
+queue_count queues = count_in (queues_in_text (text_of queues.made))
 
 -- the printed lines of the notices on all lines, without those that are not shown
 unfoldable pub queue_notices_text : Shown → QueueFilesOf → List ℕ

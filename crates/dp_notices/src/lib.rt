@@ -15,7 +15,7 @@ mod queue_files;
 mod queue_lines;
 mod timed_includes;
 
-pub use check::{CheckReport, check_plan};
+pub use check::{CheckReport, check_plan, check_plan_and_queues, check_queues};
 pub use dp_conf::NoMemory;
 pub use dp_wide::{Moment, read_moment};
 pub use line_notices::{LineNotices, NotedLine, NoticeAt};

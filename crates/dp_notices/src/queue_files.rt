@@ -20,7 +20,7 @@ use dp_files::{
     ConfigurationFiles, Fault, MadeLine, Paths, ReadingFault, Remark, Source, SourceFile,
     read_configuration, read_folder_configuration, text_of,
 };
-use dp_queue::{QueueFault, queue_faults};
+use dp_queue::{QueueFault, Queues, queue_faults};
 use std::alloc::Global;
 
 /// A file of queues, read with the files that it includes.
@@ -44,6 +44,19 @@ impl QueueFiles {
         ensures { result ≡ spec.queue_faults (spec.queues_now self.now) }
     {
         count_faults(&self.lines)
+    }
+
+    /// How many queues load. The error comes only if a growth was refused.
+    #[tactic(auto, unfolding(crate::specs::QueueFiles::queue_count))]
+    pub fn count_queues(&self, alloc: Global) -> Result<usize, NoMemory>
+        ensures { IfOk result (λ count. count ≡ spec.queue_count (spec.queues_now self.now)) }
+    {
+        let text = self.text(alloc)?;
+        match Queues::load(alloc, &text) {
+            Ok(queues) => Ok(queues.queues().len()),
+            Err(QueueFault::Conf(ConfFault::At { .. }) | QueueFault::Queue { .. }) => Ok(0),
+            Err(QueueFault::Conf(ConfFault::NoMemory) | QueueFault::NoMemory) => Err(NoMemory),
+        }
     }
 
     /// The text that loads. The error comes only if a growth was refused.

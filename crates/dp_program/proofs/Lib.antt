@@ -4,6 +4,7 @@ mod EntriesLemmas
 mod HintsLemmas
 mod NearestLemmas
 mod PathsLemmas
+mod QueueLemmas
 mod ReachesLemmas
 mod ReadsLemmas
 mod RunLemmas

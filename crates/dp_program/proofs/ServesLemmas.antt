@@ -12,18 +12,21 @@ use Rattle.dp_commands.specs.Verbose.{InForce, WritesVerbose, WritesVerboseDebug
 use Rattle.dp_commands.specs.declared.fault.PbxFault.{PbxFault}
 use Rattle.dp_commands.specs.declared.fault.PbxFault.TheVariants.{Coded, NoMemory}
 use Rattle.dp_files.specs.FolderFiles.{nothing_known}
+use Rattle.dp_files.specs.Reading.{first_fault}
 use Rattle.dp_files.specs.declared.reading.ReadingFault.{ReadingFault}
+use Rattle.dp_files.specs.declared.reading.ReadingFault.TheVariants.{NotFound, TooLong as too_long, NoMemory as no_memory}
 use Rattle.dp_notices.specs.PlanFiles.{PlanFilesOf, plan_of as read_plan_of}
-use Rattle.dp_program.specs.Including.{WritesCheck, checked, place_of_plan}
+use Rattle.dp_notices.specs.QueueFiles.{QueueFilesOf, queues_of}
+use Rattle.dp_program.specs.Including.{WritesCheck, both_checked, checked, place_of_both, place_of_plan, place_of_queues, queues_checked, reading_fault}
 use Rattle.dp_program.specs.Checks.{both_report}
 use Rattle.dp_program.specs.Dialplans.{PlanTextOf, moment_in, with_text}
 use Rattle.dp_program.specs.Faulted.{StandsIn, in_none, nowhere, place_by, place_in_file, place_in_files, place_in_two, place_of, place_of_report, place_of_run, place_of_two, place_unread, without_place, unread_fault, unread_path, unread_place}
 use Rattle.dp_program.specs.Files.{Source, Reads}
 use Rattle.dp_program.specs.Hints.{Tells, audit_hint_of, match_hint_of, status_in}
 use Rattle.dp_program.specs.Reaches.{Reaches, place_of_files}
-use Rattle.dp_program.specs.Requests.{OptionsOf, RequestOf, LookupOf, QuestionOf, joined, check, check_files, check_queues, check_both, listing, listing_files, auditing, auditing_by, matching, matching_files, explaining, run, run_wide, debug, testing, reaching}
+use Rattle.dp_program.specs.Requests.{OptionsOf, RequestOf, LookupOf, QuestionOf, joined, check, check_files, check_queue_files, check_both_files, check_queues, check_both, listing, listing_files, auditing, auditing_by, matching, matching_files, explaining, run, run_wide, debug, debug_wide, testing, reaching}
 use Rattle.dp_program.specs.Entries.{explanation_of}
-use Rattle.dp_program.specs.Serves.{AuditsAsked, AuditsFile, AuditsFileBy, AuditsText, ChecksBoth, DebugsAsked, DebugsFiles, DebugsFilesVerbosely, DebugsVerbosely, ListsText, LooksUp, LooksUpText, PlacesOf, ReportsOn, Runs, RunsBeside, RunsPlan, RunsPlans, RunsSecond, RunsAsked, RunsFiles, RunsFilesVerbosely, RunsFilesWide, RunsVerbosely, RunsWide, Serves, SharesSome, debug_of_texts, files_read, in_force_at, in_force_at_first, look_up, places_read, run_of_texts, wide_run_of_texts, RunsFilesWideVerbosely, RunsTextsWideVerbosely, RunsWideAsked, RunsWideVerbosely}
+use Rattle.dp_program.specs.Serves.{AuditsAsked, AuditsFile, AuditsFileBy, AuditsText, ChecksBoth, DebugsAsked, DebugsFiles, DebugsFilesVerbosely, DebugsVerbosely, ListsText, LooksUp, LooksUpText, PlacesOf, ReportsOn, Runs, RunsBeside, RunsPlan, RunsPlans, RunsSecond, RunsAsked, RunsFiles, RunsFilesVerbosely, RunsFilesWide, RunsVerbosely, RunsWide, Serves, SharesSome, debug_of_texts, files_read, in_force_at, in_force_at_first, look_up, places_read, run_of_texts, wide_run_of_texts, RunsFilesWideVerbosely, RunsTextsWideVerbosely, RunsWideAsked, RunsWideBy, RunsWideVerbosely, RunManner, RunsQueues, RunsWithQueues, DebugsFilesWide, DebugsFilesWideVerbosely, DebugsTextsWideVerbosely, DebugsWide, DebugsWideVerbosely, debugging, running, wide_debug_of_texts}
 use Rattle.dp_program.specs.TestFiles.{manner_of}
 use Rattle.dp_program.specs.Texts.{OfRun, ReadsTexts, all_texts, some_text, sources_of}
 use Rattle.dp_program.specs.declared.dialplans.PlanUse.TheVariants.{Report, LookUp, Run as to_run}
@@ -31,10 +34,12 @@ use Rattle.dp_program.specs.declared.faulted.Faulted.{Faulted}
 use Rattle.dp_program.specs.declared.faulted.Unread.{Unread}
 use Rattle.dp_program.specs.declared.hints.Served.{Served}
 use Rattle.dp_plan.specs.Plan.{PlanOf}
+use Rattle.dp_wide_runs.specs.Debugging.{WideDebug, WritesWideDebug}
 use Rattle.dp_wide_runs.specs.Kinds.{ChoiceOf}
 use Rattle.dp_wide_runs.specs.Runs.{WideRun}
 use Rattle.dp_wide_runs.specs.WideAudits.{WritesChoice, plan_of}
 use Rattle.dp_program.proofs.DialplanLemmas.{dialplan_lacks}
+use Rattle.dp_program.proofs.QueueLemmas.{queues_lack}
 use Rattle.dp_program.proofs.TestLemmas.{tests_lack}
 use Rattle.dp_program.proofs.ReadsLemmas.{IsUnread, by_reason, Reads-any, Reads-weaker, ReadsSome-any, ReadsTexts-any, ReadsTexts-weaker}
 
@@ -80,6 +85,19 @@ debugs_verbosely_lacks : (paths : OfRun (List ℕ)) (held : List ℕ) (old : Opt
     → DebugsVerbosely paths held old old texts (Err NoMemory)
 debugs_verbosely_lacks paths held old (Ok texts) = verbose_debug_lacks (in_force_at_first paths texts) old (debug_of_texts held texts)
 debugs_verbosely_lacks paths held old (Err fault) = Appends-nil old
+
+wide_debug_lacks : (old : Option (List ℕ)) (given : Result WideDebug PbxFault) → DebugsWide old old given (Err NoMemory)
+wide_debug_lacks old (Ok debug) = (record { count = 0; within = omega arith; written = Appends-nil old }, tt)
+wide_debug_lacks old (Err fault) = (Appends-nil old, tt)
+
+wide_verbose_debug_lacks : (in_force : InForce) (old : Option (List ℕ)) (given : Result WideDebug PbxFault) → DebugsWideVerbosely in_force old old given (Err NoMemory)
+wide_verbose_debug_lacks in_force old (Ok debug) = (record { count = 0; within = omega arith; written = Appends-nil old }, tt)
+wide_verbose_debug_lacks in_force old (Err fault) = (Appends-nil old, tt)
+
+debugs_wide_verbosely_lacks : (places : PlacesOf) (held : List ℕ) (old : Option (List ℕ)) (texts : Result (OfRun (List ℕ)) PbxFault)
+    → DebugsTextsWideVerbosely places held old old texts (Err NoMemory)
+debugs_wide_verbosely_lacks places held old (Ok texts) = wide_verbose_debug_lacks (in_force_at places texts) old (wide_debug_of_texts held texts)
+debugs_wide_verbosely_lacks places held old (Err fault) = Appends-nil old
 
 wide_verbose_lacks : (in_force : InForce) (old : Option (List ℕ)) (given : Result WideRun PbxFault) → RunsWideVerbosely in_force old old given (Err NoMemory)
 wide_verbose_lacks in_force old (Ok ran) = (record { count = 0; within = omega arith; written = Appends-nil old }, tt, tt)
@@ -128,6 +146,11 @@ wide_refused : {X : Type 0} (old : Option (List ℕ)) (next : X → Result WideR
 wide_refused old next =
     by_reason (λ fault text. RunsWide old old (text >>= next) (Err fault)) (λ code line. ((Appends-nil old, refl), tt)) (λ text. wide_lacks old (text >>= next))
 
+wide_debug_refused : {X : Type 0} (old : Option (List ℕ)) (next : X → Result WideDebug PbxFault) (fault : PbxFault) (text : Result X PbxFault)
+    → Refuses (reason_of fault) text → DebugsWide old old (text >>= next) (Err fault)
+wide_debug_refused old next =
+    by_reason (λ fault text. DebugsWide old old (text >>= next) (Err fault)) (λ code line. ((Appends-nil old, refl), tt)) (λ text. wide_debug_lacks old (text >>= next))
+
 pub debug_refused : {X : Type 0} (old : Option (List ℕ)) (next : X → Result DebugRun PbxFault) (fault : PbxFault) (text : Result X PbxFault)
     → Refuses (reason_of fault) text → WritesDebug old old (text >>= next) (Err fault)
 debug_refused old next =
@@ -148,6 +171,12 @@ runs_wide_verbosely_refused : (places : PlacesOf) (old : Option (List ℕ)) (fau
 runs_wide_verbosely_refused places old =
     by_reason (λ fault texts. RunsTextsWideVerbosely places old old texts (Err fault)) (λ code line. (Appends-nil old, refl))
     (λ texts. runs_wide_verbosely_lacks places old texts)
+
+debugs_wide_verbosely_refused : (places : PlacesOf) (held : List ℕ) (old : Option (List ℕ)) (fault : PbxFault) (texts : Result (OfRun (List ℕ)) PbxFault)
+    → Refuses (reason_of fault) texts → DebugsTextsWideVerbosely places held old old texts (Err fault)
+debugs_wide_verbosely_refused places held old =
+    by_reason (λ fault texts. DebugsTextsWideVerbosely places held old old texts (Err fault)) (λ code line. (Appends-nil old, refl))
+    (λ texts. debugs_wide_verbosely_lacks places held old texts)
 
 shares_refused : {X : Type 0} (count : ℕ) (old : Option (List ℕ)) (next : X → Result Run PbxFault) (fault : PbxFault) (text : Result X PbxFault)
     → Refuses (reason_of fault) text → SharesSome count old old (text >>= next) (Err fault)
@@ -395,6 +424,26 @@ run_wide_verbose_refused paths places sources old unread reads =
       unread_stands unread unread.fault ∙ (is.1 ∙ refused_place_by paths (unread_path paths read) unread.fault (all_texts read) is.0),
     )) reads
 
+pub debug_wide_refused : (paths : OfRun (List ℕ)) (sources : OfRun Source) (held : List ℕ) (old : Option (List ℕ)) (unread : Unread)
+    → ReadsTexts sources (IsUnread paths unread.path.now unread.fault) → DebugsFilesWide paths sources held old old (Err (unread_fault unread))
+debug_wide_refused paths sources held old unread reads =
+    ReadsTexts-weaker sources (IsUnread paths unread.path.now unread.fault)
+    (λ read. DebugsWide old old (all_texts read >>= wide_debug_of_texts held) (Err unread.fault) × (place_of (place_unread unread unread.fault) ≡ place_of_run paths read unread.fault))
+    (λ read is. (
+      wide_debug_refused old (wide_debug_of_texts held) unread.fault (all_texts read) is.0,
+      unread_stands unread unread.fault ∙ (is.1 ∙ refused_place_by paths (unread_path paths read) unread.fault (all_texts read) is.0),
+    )) reads
+
+pub debug_wide_verbose_refused : (paths : OfRun (List ℕ)) (places : PlacesOf) (sources : OfRun Source) (held : List ℕ) (old : Option (List ℕ)) (unread : Unread)
+    → ReadsTexts sources (IsUnread paths unread.path.now unread.fault) → DebugsFilesWideVerbosely paths places sources held old old (Err (unread_fault unread))
+debug_wide_verbose_refused paths places sources held old unread reads =
+    ReadsTexts-weaker sources (IsUnread paths unread.path.now unread.fault)
+    (λ read. DebugsTextsWideVerbosely places held old old (all_texts read) (Err unread.fault) × (place_of (place_unread unread unread.fault) ≡ place_of_run paths read unread.fault))
+    (λ read is. (
+      debugs_wide_verbosely_refused places held old unread.fault (all_texts read) is.0,
+      unread_stands unread unread.fault ∙ (is.1 ∙ refused_place_by paths (unread_path paths read) unread.fault (all_texts read) is.0),
+    )) reads
+
 pub debug_verbose_refused : (paths : OfRun (List ℕ)) (sources : OfRun Source) (held : List ℕ) (old : Option (List ℕ)) (unread : Unread)
     → ReadsTexts sources (IsUnread paths unread.path.now unread.fault) → DebugsFilesVerbosely paths sources held old old (Err (unread_fault unread))
 debug_verbose_refused paths sources held old unread reads =
@@ -455,6 +504,25 @@ run_wide_verbose_read paths places sources old new texts result answered reads s
     (λ read is. subst (λ (joined : Result (OfRun (List ℕ)) PbxFault). RunsTextsWideVerbosely places old new joined (without_place answered) × StandsIn (place_by paths (unread_path paths read) joined) answered) (sym is.0)
     (subst (λ result. RunsWideVerbosely (in_force_at places texts) old new (wide_run_of_texts texts) result) (sym same) runs, stands)) reads
 
+pub debug_wide_read : (paths : OfRun (List ℕ)) (sources : OfRun Source) (held : List ℕ) (old new : Option (List ℕ)) (texts : OfRun (List ℕ))
+    (result : Result ℕ PbxFault) (answered : Result ℕ Faulted) → ReadsTexts sources (λ read. (all_texts read ≡ Ok texts) × Unit {0}) → without_place answered ≡ result
+    → DebugsWide old new (wide_debug_of_texts held texts) result → StandsIn (place_in_files paths texts) answered → DebugsFilesWide paths sources held old new answered
+debug_wide_read paths sources held old new texts result answered reads same debugs stands =
+    ReadsTexts-weaker sources (λ read. (all_texts read ≡ Ok texts) × Unit {0})
+    (λ read. DebugsWide old new (all_texts read >>= wide_debug_of_texts held) (without_place answered) × StandsIn (place_of_run paths read) answered)
+    (λ read is. subst (λ (joined : Result (OfRun (List ℕ)) PbxFault). DebugsWide old new (joined >>= wide_debug_of_texts held) (without_place answered) × StandsIn (place_by paths (unread_path paths read) joined) answered) (sym is.0)
+    (subst (λ result. DebugsWide old new (wide_debug_of_texts held texts) result) (sym same) debugs, stands)) reads
+
+pub debug_wide_verbose_read : (paths : OfRun (List ℕ)) (places : PlacesOf) (sources : OfRun Source) (held : List ℕ) (old new : Option (List ℕ)) (texts : OfRun (List ℕ))
+    (result : Result ℕ PbxFault) (answered : Result ℕ Faulted) → ReadsTexts sources (λ read. (all_texts read ≡ Ok texts) × Unit {0}) → without_place answered ≡ result
+    → DebugsWideVerbosely (in_force_at places texts) old new (wide_debug_of_texts held texts) result → StandsIn (place_in_files paths texts) answered
+    → DebugsFilesWideVerbosely paths places sources held old new answered
+debug_wide_verbose_read paths places sources held old new texts result answered reads same debugs stands =
+    ReadsTexts-weaker sources (λ read. (all_texts read ≡ Ok texts) × Unit {0})
+    (λ read. DebugsTextsWideVerbosely places held old new (all_texts read) (without_place answered) × StandsIn (place_of_run paths read) answered)
+    (λ read is. subst (λ (joined : Result (OfRun (List ℕ)) PbxFault). DebugsTextsWideVerbosely places held old new joined (without_place answered) × StandsIn (place_by paths (unread_path paths read) joined) answered) (sym is.0)
+    (subst (λ result. DebugsWideVerbosely (in_force_at places texts) old new (wide_debug_of_texts held texts) result) (sym same) debugs, stands)) reads
+
 pub debug_verbose_read : (paths : OfRun (List ℕ)) (sources : OfRun Source) (held : List ℕ) (old new : Option (List ℕ)) (texts : OfRun (List ℕ))
     (result : Result ℕ PbxFault) (answered : Result ℕ Faulted) → ReadsTexts sources (λ read. (all_texts read ≡ Ok texts) × Unit {0}) → without_place answered ≡ result
     → WritesVerboseDebug explanation_of (in_force_at_first paths texts) old new (debug_of_texts held texts) result → StandsIn (place_in_files paths texts) answered
@@ -476,33 +544,53 @@ run_wide_lacks paths sources old =
     ReadsTexts-any sources (λ read. RunsWide old old (all_texts read >>= wide_run_of_texts) (Err NoMemory) × (in_none ≡ place_of_run paths read NoMemory))
     (λ read. (wide_lacks old (all_texts read >>= wide_run_of_texts), lacks_place_by paths (unread_path paths read) (all_texts read)))
 
-run_wide_asked_lacks : (paths : OfRun (List ℕ)) (places : PlacesOf) (sources : OfRun Source) (is_verbose : Bool) (old : Option (List ℕ))
-    → RunsWideAsked paths places sources is_verbose old old (Err (nowhere NoMemory))
-run_wide_asked_lacks paths places sources true old =
+run_wide_by_lacks : (paths : OfRun (List ℕ)) (places : PlacesOf) (sources : OfRun Source) (held : Option (List ℕ)) (is_verbose : Bool) (old : Option (List ℕ))
+    → RunsWideBy paths places sources held is_verbose old old (Err (nowhere NoMemory))
+run_wide_by_lacks paths places sources None true old =
     ReadsTexts-any sources (λ read. RunsTextsWideVerbosely places old old (all_texts read) (Err NoMemory) × (in_none ≡ place_of_run paths read NoMemory))
     (λ read. (runs_wide_verbosely_lacks places old (all_texts read), lacks_place_by paths (unread_path paths read) (all_texts read)))
-run_wide_asked_lacks paths places sources false old = run_wide_lacks paths sources old
+run_wide_by_lacks paths places sources None false old = run_wide_lacks paths sources old
+run_wide_by_lacks paths places sources (Some held) true old =
+    ReadsTexts-any sources (λ read. DebugsTextsWideVerbosely places held old old (all_texts read) (Err NoMemory) × (in_none ≡ place_of_run paths read NoMemory))
+    (λ read. (debugs_wide_verbosely_lacks places held old (all_texts read), lacks_place_by paths (unread_path paths read) (all_texts read)))
+run_wide_by_lacks paths places sources (Some held) false old =
+    ReadsTexts-any sources (λ read. DebugsWide old old (all_texts read >>= wide_debug_of_texts held) (Err NoMemory) × (in_none ≡ place_of_run paths read NoMemory))
+    (λ read. (wide_debug_lacks old (all_texts read >>= wide_debug_of_texts held), lacks_place_by paths (unread_path paths read) (all_texts read)))
+
+run_wide_asked_lacks : (paths : OfRun (List ℕ)) (places : PlacesOf) (sources : OfRun Source) (manner : RunManner) (old : Option (List ℕ))
+    → RunsWideAsked paths places sources manner old old (Err (nowhere NoMemory))
+run_wide_asked_lacks paths places sources manner old = run_wide_by_lacks paths places sources manner.held manner.is_verbose old
 
 -- the same with dialplans that are read with the files that they include
-pub plans_lack : (paths : OfRun (List ℕ)) (files : List ℕ → Source) (is_verbose : Bool) (old : Option (List ℕ)) (plan : PlanTextOf) (second : Option (List ℕ × PlanTextOf))
-    → RunsPlans paths files is_verbose old old plan second (Err (nowhere NoMemory))
-plans_lack paths files is_verbose old plan second =
-    (run_wide_asked_lacks paths (places_read plan second) (sources_of (files_read paths files plan second) paths) is_verbose old, tt)
+pub plans_lack : (paths : OfRun (List ℕ)) (files : List ℕ → Source) (manner : RunManner) (old : Option (List ℕ)) (plan : PlanTextOf) (second : Option (List ℕ × PlanTextOf))
+    → RunsPlans paths files manner old old plan second (Err (nowhere NoMemory))
+plans_lack paths files manner old plan second =
+    (run_wide_asked_lacks paths (places_read plan second) (sources_of (files_read paths files plan second) paths) manner old, tt)
 
-pub second_lacks : (clock : Option (List ℕ)) (paths : OfRun (List ℕ)) (files : List ℕ → Source) (is_verbose : Bool) (old : Option (List ℕ)) (plan : PlanTextOf) (path : List ℕ)
-    → RunsSecond clock paths files is_verbose old old plan path (Err (nowhere NoMemory))
-second_lacks clock paths files is_verbose old plan path =
-    dialplan_lacks (λ second answered. RunsPlans paths files is_verbose old old plan (Some (path, second)) answered) path old
-    (λ second. plans_lack paths files is_verbose old plan (Some (path, second))) to_run clock files
+pub second_lacks : (clock : Option (List ℕ)) (paths : OfRun (List ℕ)) (files : List ℕ → Source) (manner : RunManner) (old : Option (List ℕ)) (plan : PlanTextOf) (path : List ℕ)
+    → RunsSecond clock paths files manner old old plan path (Err (nowhere NoMemory))
+second_lacks clock paths files manner old plan path =
+    dialplan_lacks (λ second answered. RunsPlans paths files manner old old plan (Some (path, second)) answered) path old
+    (λ second. plans_lack paths files manner old plan (Some (path, second))) to_run clock files
 
-beside_lacks : (clock : Option (List ℕ)) (paths : OfRun (List ℕ)) (files : List ℕ → Source) (is_verbose : Bool) (old : Option (List ℕ)) (plan : PlanTextOf) (second : Option (List ℕ))
-    → RunsBeside clock paths files is_verbose old old plan second (Err (nowhere NoMemory))
-beside_lacks clock paths files is_verbose old plan None = plans_lack paths files is_verbose old plan None
-beside_lacks clock paths files is_verbose old plan (Some path) = second_lacks clock paths files is_verbose old plan path
+beside_lacks : (clock : Option (List ℕ)) (paths : OfRun (List ℕ)) (files : List ℕ → Source) (manner : RunManner) (old : Option (List ℕ)) (plan : PlanTextOf) (second : Option (List ℕ))
+    → RunsBeside clock paths files manner old old plan second (Err (nowhere NoMemory))
+beside_lacks clock paths files manner old plan None = plans_lack paths files manner old plan None
+beside_lacks clock paths files manner old plan (Some path) = second_lacks clock paths files manner old plan path
 
-pub plan_lacks : (clock : Option (List ℕ)) (paths : OfRun (List ℕ)) (files : List ℕ → Source) (is_verbose : Bool) (old : Option (List ℕ)) (plan : PlanTextOf)
-    → RunsPlan clock paths files is_verbose old old plan (Err (nowhere NoMemory))
-plan_lacks clock paths files is_verbose old plan = beside_lacks clock paths files is_verbose old plan paths.second_plan
+pub plan_lacks : (clock : Option (List ℕ)) (paths : OfRun (List ℕ)) (files : List ℕ → Source) (manner : RunManner) (old : Option (List ℕ)) (plan : PlanTextOf)
+    → RunsPlan clock paths files manner old old plan (Err (nowhere NoMemory))
+plan_lacks clock paths files manner old plan = beside_lacks clock paths files manner old plan paths.second_plan
+
+with_queues_lack : (clock : Option (List ℕ)) (paths : OfRun (List ℕ)) (files : List ℕ → Source) (manner : RunManner) (old : Option (List ℕ)) (plan : PlanTextOf)
+    (queues : Option (List ℕ)) → RunsWithQueues clock paths files manner old old plan queues (Err (nowhere NoMemory))
+with_queues_lack clock paths files manner old plan None = plan_lacks clock paths files manner old plan
+with_queues_lack clock paths files manner old plan (Some path) =
+    queues_lack files path (λ files. RunsPlan clock paths files manner old old plan) old (λ files. plan_lacks clock paths files manner old plan)
+
+pub queues_plan_lacks : (clock : Option (List ℕ)) (paths : OfRun (List ℕ)) (files : List ℕ → Source) (manner : RunManner) (old : Option (List ℕ)) (plan : PlanTextOf)
+    → RunsQueues clock paths files manner old old plan (Err (nowhere NoMemory))
+queues_plan_lacks clock paths files manner old plan = with_queues_lack clock paths files manner old plan paths.queues
 
 -- memory may run out before a report on the text of a dialplan
 pub listing_lacks : (path : List ℕ) (files : List ℕ → Source) (old : Option (List ℕ)) (plan : PlanTextOf) → ListsText path files old old plan (Err (nowhere NoMemory))
@@ -549,12 +637,50 @@ check_lacks : (path : List ℕ) (old : Option (List ℕ)) (plan : Result PlanFil
 check_lacks path old (Ok plan) = (Appends-nil old, refl)
 check_lacks path old (Err fault) = (Appends-nil old, refl)
 
+queue_check_lacks : (path : List ℕ) (old : Option (List ℕ)) (queues : Result QueueFilesOf ReadingFault)
+    → WritesCheck old old (queues_checked queues) (Err NoMemory) × (in_none ≡ place_of_queues path queues NoMemory)
+queue_check_lacks path old (Ok queues) = (Appends-nil old, refl)
+queue_check_lacks path old (Err fault) = (Appends-nil old, refl)
+
+pub both_check_lacks : (path queues_path : List ℕ) (old : Option (List ℕ)) (plan : Result PlanFilesOf ReadingFault) (queues : Result QueueFilesOf ReadingFault)
+    → WritesCheck old old (both_checked plan queues) (Err NoMemory) × (in_none ≡ place_of_both path queues_path plan queues NoMemory)
+both_check_lacks path queues_path old (Ok plan) (Ok queues) = (Appends-nil old, refl)
+both_check_lacks path queues_path old (Ok plan) (Err fault) = (Appends-nil old, refl)
+both_check_lacks path queues_path old (Err fault) queues = (Appends-nil old, refl)
+
+-- if the dialplan of a check of both was not read
+pub both_check_refused : (path queues_path : List ℕ) (old : Option (List ℕ)) (queues : Result QueueFilesOf ReadingFault) (fault : ReadingFault) (plan : Result PlanFilesOf ReadingFault)
+    → Refuses (first_fault fault) plan
+    → WritesCheck old old (both_checked plan queues) (Err (reading_fault fault)) × (unread_place path (reading_fault fault) ≡ place_of_both path queues_path plan queues (reading_fault fault))
+both_check_refused path queues_path old queues NotFound plan is =
+    subst (λ (plan : Result PlanFilesOf ReadingFault). WritesCheck old old (both_checked plan queues) (Err (reading_fault NotFound)) × (unread_place path (reading_fault NotFound) ≡ place_of_both path queues_path plan queues (reading_fault NotFound))) (sym is)
+    ((Appends-nil old, refl), refl)
+both_check_refused path queues_path old queues too_long plan is =
+    subst (λ (plan : Result PlanFilesOf ReadingFault). WritesCheck old old (both_checked plan queues) (Err (reading_fault too_long)) × (unread_place path (reading_fault too_long) ≡ place_of_both path queues_path plan queues (reading_fault too_long))) (sym is)
+    ((Appends-nil old, refl), refl)
+both_check_refused path queues_path old queues no_memory plan is = both_check_lacks path queues_path old plan queues
+
 -- memory may run out before a request does anything
 pub Serves-lacks : (files : List ℕ → Source) (input : Source) (want : RequestOf) (options : OptionsOf) (old : Option (List ℕ)) → Serves files input want options old old (Err (nowhere NoMemory))
 Serves-lacks files input joined options old = ((Reads-any input _ (λ text. writes_lacks old _), refl), tt)
 Serves-lacks files input (check file) options old = (Reads-any (files file) _ (λ text. (reports_lacks old _, lacks_report_place file text)), tt)
 Serves-lacks files input (check_files file) options old =
     ((nothing_known, record { texts = λ name. tt; names = λ pattern. tt }, λ has agrees. check_lacks file old (read_plan_of (moment_in options.clock) has file)), tt)
+Serves-lacks files input (check_queue_files queues) options old =
+    ((nothing_known, record { texts = λ name. tt; names = λ pattern. tt }, λ has agrees. queue_check_lacks queues old (queues_of has queues)), tt)
+Serves-lacks files input (check_both_files file queues) options old = (
+  (
+    nothing_known,
+    record { texts = λ name. tt; names = λ pattern. tt },
+    λ has agrees. (
+      nothing_known,
+      record { texts = λ name. tt; names = λ pattern. tt },
+      λ held agreed.
+          both_check_lacks file queues old (read_plan_of (moment_in options.clock) has file) (queues_of held queues),
+    ),
+  ),
+  tt,
+)
 Serves-lacks files input (check_queues queues) options old = (Reads-any (files queues) _ (λ text. (reports_lacks old _, lacks_report_place queues text)), tt)
 Serves-lacks files input (check_both file queues) options old =
     (Reads-any (files file) _ (λ plan. Reads-any (files queues) _ (λ held. (reports_lacks old _, lacks_two_place file queues plan held))), tt)
@@ -570,9 +696,12 @@ Serves-lacks files input (matching_files lookup all) options old =
 Serves-lacks files input (explaining fault) options old = ((Appends-nil old, refl), tt)
 Serves-lacks files input (run paths threads is_verbose) options old = (run_asked_lacks paths (sources_of files paths) threads is_verbose old, tt)
 Serves-lacks files input (run_wide paths is_verbose) options old =
-    dialplan_lacks (RunsPlan options.clock paths files is_verbose old old) paths.plan old (plan_lacks options.clock paths files is_verbose old) to_run
-    options.clock files
+    dialplan_lacks (RunsQueues options.clock paths files (running is_verbose) old old) paths.plan old
+    (queues_plan_lacks options.clock paths files (running is_verbose) old) to_run options.clock files
 Serves-lacks files input (debug paths held is_verbose) options old = (debug_asked_lacks paths (sources_of files paths) held is_verbose old, tt)
+Serves-lacks files input (debug_wide paths held is_verbose) options old =
+    dialplan_lacks (RunsQueues options.clock paths files (debugging held is_verbose) old old) paths.plan old
+    (queues_plan_lacks options.clock paths files (debugging held is_verbose) old) to_run options.clock files
 Serves-lacks files input (testing file is_traced is_covered) options old = Reads-any (files file) _ (tests_lack (manner_of is_traced is_covered) files file old)
 Serves-lacks files input (reaching question) options old =
     Reads-any (files question.file) _ (λ plan. ReadsSome-any (option_map files question.queues) _ (λ queues. (

@@ -1,4 +1,4 @@
--- The output and result of a check of a dialplan with the files that it includes.
+-- The output and result of a check of a dialplan, of queues or of both, with the files that they include.
 use Rattle.std.specs.Prelude.{◌≡◌, ℕ, Bool, true, ◌==◌, List, [], Option, Some, None, Result, Ok, Err, if◌then◌else◌}
 use Rattle.std.specs.Io.KnownBytes.{Appends}
 use Rattle.dp_conf.specs.Fronts.{AppendsFront}
@@ -9,8 +9,9 @@ use Rattle.dp_files.specs.declared.reading.ReadingFault.TheVariants.{NotFound, T
 use Rattle.dp_commands.specs.declared.fault.Code.TheVariants.{ReadFailed, TooLong, WriteFailed}
 use Rattle.dp_commands.specs.declared.fault.PbxFault.{PbxFault}
 use Rattle.dp_commands.specs.declared.fault.PbxFault.TheVariants.{Coded, NoMemory}
-use Rattle.dp_notices.specs.Checks.{check_text, faults_of}
+use Rattle.dp_notices.specs.Checks.{both_check_text, check_text, faults_of, faults_of_both, faults_of_queues, queues_check_text}
 use Rattle.dp_notices.specs.PlanFiles.{PlanFilesOf, plan_of}
+use Rattle.dp_notices.specs.QueueFiles.{QueueFilesOf, queues_of}
 use Rattle.dp_program.specs.Faulted.{PlaceOf, StandsIn, in_none, unread_place, without_place}
 use Rattle.dp_program.specs.Files.{Source}
 use Rattle.dp_program.specs.declared.faulted.Faulted.{Faulted}
@@ -75,3 +76,48 @@ ChecksIncluding moment path sources old new answered =
     ReadsFolder (MayTellOf sources path) (λ has.
     WritesCheck old new (checked (plan_of moment has path)) (without_place answered)
     × StandsIn (place_of_plan path (plan_of moment has path)) answered)
+
+-- the report on queues that were read
+abbrev pub queues_check_of : QueueFilesOf → CheckOf
+queues_check_of queues = record { text = queues_check_text queues; status = check_status (faults_of_queues queues) }
+
+-- the same, or why nothing was read
+abbrev pub queues_checked : Result QueueFilesOf ReadingFault → Result CheckOf PbxFault
+queues_checked (Ok queues) = Ok (queues_check_of queues)
+queues_checked (Err fault) = Err (reading_fault fault)
+
+-- the place of the fault of a check of queues: the first file, if that was not read
+abbrev pub place_of_queues : List ℕ → Result QueueFilesOf ReadingFault → PbxFault → PlaceOf
+place_of_queues path (Ok queues) fault = in_none
+place_of_queues path (Err unread) fault = unread_place path fault
+
+-- the output and result of a check of the queues of a file and of those that it includes, and the place of its fault: for all files that are
+-- as they were read
+abbrev pub ChecksQueuesIncluding : List ℕ → (List ℕ → Source) → Option (List ℕ) → Option (List ℕ) → Result ℕ Faulted → Type 0
+ChecksQueuesIncluding path sources old new answered =
+    ReadsFolder (MayTellOf sources path) (λ has.
+    WritesCheck old new (queues_checked (queues_of has path)) (without_place answered) × StandsIn (place_of_queues path (queues_of has path)) answered)
+
+-- the report on a dialplan and queues that were read
+abbrev pub both_check_of : PlanFilesOf → QueueFilesOf → CheckOf
+both_check_of plan queues = record { text = both_check_text plan queues; status = check_status (faults_of_both plan queues) }
+
+-- the same, or why one of them was not read: the dialplan comes first
+abbrev pub both_checked : Result PlanFilesOf ReadingFault → Result QueueFilesOf ReadingFault → Result CheckOf PbxFault
+both_checked (Ok plan) (Ok queues) = Ok (both_check_of plan queues)
+both_checked (Ok plan) (Err fault) = Err (reading_fault fault)
+both_checked (Err fault) queues = Err (reading_fault fault)
+
+-- the place of the fault of a check of both: the first file of the dialplan or of the queues, if that was not read
+abbrev pub place_of_both : List ℕ → List ℕ → Result PlanFilesOf ReadingFault → Result QueueFilesOf ReadingFault → PbxFault → PlaceOf
+place_of_both path queues_path (Ok plan) (Ok queues) fault = in_none
+place_of_both path queues_path (Ok plan) (Err unread) fault = unread_place queues_path fault
+place_of_both path queues_path (Err unread) queues fault = unread_place path fault
+
+-- the output and result of a check of the dialplan of a file and the queues of another, and of the files that they include: for all files
+-- that are as they were read
+abbrev pub ChecksBothIncluding : Option Moment → List ℕ → List ℕ → (List ℕ → Source) → Option (List ℕ) → Option (List ℕ) → Result ℕ Faulted → Type 0
+ChecksBothIncluding moment path queues_path sources old new answered =
+    ReadsFolder (MayTellOf sources path) (λ has. ReadsFolder (MayTellOf sources queues_path) (λ held.
+    WritesCheck old new (both_checked (plan_of moment has path) (queues_of held queues_path)) (without_place answered)
+    × StandsIn (place_of_both path queues_path (plan_of moment has path) (queues_of held queues_path)) answered))

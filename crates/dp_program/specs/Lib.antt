@@ -6,6 +6,7 @@ pub mod Files
 pub mod Hints
 pub mod Including
 pub mod Nearest
+pub mod QueueTexts
 pub mod Reaches
 pub mod Requests
 pub mod Serves

@@ -8,7 +8,7 @@ use Rattle.dp_program.specs.declared.options.Options.{Options}
 use Rattle.dp_program.specs.declared.request.Lookup.{Lookup}
 use Rattle.dp_program.specs.declared.request.ReachQuestion.{ReachQuestion}
 use Rattle.dp_program.specs.declared.request.Request.{Request}
-use Rattle.dp_program.specs.declared.request.Request.TheVariants.{Joined, Check, CheckIncluding, CheckQueues, CheckBoth, Listing, ListIncluding, Audit, AuditBy, Match, MatchIncluding, Explain, Run, RunWide, Debug, Test, Reach}
+use Rattle.dp_program.specs.declared.request.Request.TheVariants.{Joined, Check, CheckIncluding, CheckQueuesIncluding, CheckBothIncluding, CheckQueues, CheckBoth, Listing, ListIncluding, Audit, AuditBy, Match, MatchIncluding, Explain, Run, RunWide, Debug, DebugWide, Test, Reach}
 
 -- what is looked up in the dialplan of a file, with its texts
 pub record LookupOf : Type 0 where
@@ -55,6 +55,8 @@ pub data RequestOf : Type 0 where
   joined : RequestOf
   check : List ℕ → RequestOf
   check_files : List ℕ → RequestOf
+  check_queue_files : List ℕ → RequestOf
+  check_both_files : List ℕ → List ℕ → RequestOf
   check_queues : List ℕ → RequestOf
   check_both : List ℕ → List ℕ → RequestOf
   listing : List ℕ → RequestOf
@@ -67,6 +69,7 @@ pub data RequestOf : Type 0 where
   run : OfRun (List ℕ) → Option ℕ → Bool → RequestOf
   run_wide : OfRun (List ℕ) → Bool → RequestOf
   debug : OfRun (List ℕ) → List ℕ → Bool → RequestOf
+  debug_wide : OfRun (List ℕ) → List ℕ → Bool → RequestOf
   testing : List ℕ → Bool → Bool → RequestOf
   reaching : QuestionOf → RequestOf
 
@@ -75,6 +78,8 @@ abbrev pub request_asked : Request → RequestOf
 request_asked Joined = joined
 request_asked (Check file) = check file.now
 request_asked (CheckIncluding file) = check_files file.now
+request_asked (CheckQueuesIncluding queues) = check_queue_files queues.now
+request_asked (CheckBothIncluding files) = check_both_files files.plan.now files.queues.now
 request_asked (CheckQueues queues) = check_queues queues.now
 request_asked (CheckBoth files) = check_both files.plan.now files.queues.now
 request_asked (Listing file) = listing file.now
@@ -87,5 +92,6 @@ request_asked (Explain fault) = explaining fault
 request_asked (Run files threads is_verbose) = run (paths_of files) threads is_verbose
 request_asked (RunWide files is_verbose) = run_wide (paths_of files) is_verbose
 request_asked (Debug files held is_verbose) = debug (paths_of files) held.now is_verbose
+request_asked (DebugWide files held is_verbose) = debug_wide (paths_of files) held.now is_verbose
 request_asked (Test file is_traced is_covered) = testing file.now is_traced is_covered
 request_asked (Reach question) = reaching (question_of question)

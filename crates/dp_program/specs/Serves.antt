@@ -19,14 +19,16 @@ use Rattle.dp_program.specs.Entries.{entry_of, explanation_of}
 use Rattle.dp_program.specs.Faulted.{StandsIn, in_none, place_of_report, place_of_run, place_of_two, without_place}
 use Rattle.dp_program.specs.Files.{Source, Reads, has_read_failed}
 use Rattle.dp_program.specs.Hints.{Tells, TellsNothing, audit_hint_of, match_hint_of, status_in}
-use Rattle.dp_program.specs.Including.{ChecksIncluding}
+use Rattle.dp_program.specs.Including.{ChecksBothIncluding, ChecksIncluding, ChecksQueuesIncluding}
+use Rattle.dp_program.specs.QueueTexts.{ReadsQueues}
 use Rattle.dp_program.specs.Reaches.{ReachesFiles}
-use Rattle.dp_program.specs.Requests.{OptionsOf, RequestOf, LookupOf, joined, check, check_files, check_queues, check_both, listing, listing_files, auditing, auditing_by, matching, matching_files, explaining, run, run_wide, debug, testing, reaching}
+use Rattle.dp_program.specs.Requests.{OptionsOf, RequestOf, LookupOf, joined, check, check_files, check_queue_files, check_both_files, check_queues, check_both, listing, listing_files, auditing, auditing_by, matching, matching_files, explaining, run, run_wide, debug, debug_wide, testing, reaching}
 use Rattle.dp_program.specs.TestFiles.{TestsFile, manner_of}
 use Rattle.dp_program.specs.Texts.{OfRun, ReadsTexts, all_texts, sources_of}
 use Rattle.dp_program.specs.declared.dialplans.PlanUse.TheVariants.{Report, LookUp, Run as to_run}
 use Rattle.dp_program.specs.declared.faulted.Faulted.{Faulted}
 use Rattle.dp_program.specs.declared.hints.Served.{Served}
+use Rattle.dp_wide_runs.specs.Debugging.{HasSameStatus, WideDebug, WritesWideDebug, WritesWideVerboseDebug, wide_debug_of}
 use Rattle.dp_wide_runs.specs.Kinds.{ChoiceOf}
 use Rattle.dp_wide_runs.specs.Runs.{IsPlain, WideRun, WritesWide, run_of as wide_run_of}
 use Rattle.dp_wide_runs.specs.WideAudits.{WritesChoice, plan_of}
@@ -171,10 +173,58 @@ abbrev pub RunsFilesWideVerbosely : OfRun (List ℕ) → PlacesOf → OfRun Sour
 RunsFilesWideVerbosely paths places sources old new answered =
     ReadsTexts sources (λ read. RunsTextsWideVerbosely places old new (all_texts read) (without_place answered) × StandsIn (place_of_run paths read) answered)
 
--- the output and result of a run over the wide table, given whether it is verbose
-abbrev pub RunsWideAsked : OfRun (List ℕ) → PlacesOf → OfRun Source → Bool → Option (List ℕ) → Option (List ℕ) → Result ℕ Faulted → Type 0
-RunsWideAsked paths places sources true old new answered = RunsFilesWideVerbosely paths places sources old new answered
-RunsWideAsked paths places sources false old new answered = RunsFilesWide paths sources old new answered
+-- the debugged run of these texts over the wide table, with the break that a text names
+abbrev pub wide_debug_of_texts : List ℕ → OfRun (List ℕ) → Result WideDebug PbxFault
+wide_debug_of_texts held texts = wide_debug_of (wide_run_of_texts texts) held
+
+-- the output and result of such a run: its status is that of the run without a break
+abbrev pub DebugsWide : Option (List ℕ) → Option (List ℕ) → Result WideDebug PbxFault → Result ℕ PbxFault → Type 0
+DebugsWide old new given result = WritesWideDebug old new given result × IfOk result (HasSameStatus given)
+
+-- the output and result of such a run over the files at these paths, and the place of its fault
+abbrev pub DebugsFilesWide : OfRun (List ℕ) → OfRun Source → List ℕ → Option (List ℕ) → Option (List ℕ) → Result ℕ Faulted → Type 0
+DebugsFilesWide paths sources held old new answered =
+    ReadsTexts sources (λ read. DebugsWide old new (all_texts read >>= wide_debug_of_texts held) (without_place answered) × StandsIn (place_of_run paths read) answered)
+
+-- the output and result of a verbose debugged run over the wide table, given the dialplan that is first in force
+abbrev pub DebugsWideVerbosely : InForce → Option (List ℕ) → Option (List ℕ) → Result WideDebug PbxFault → Result ℕ PbxFault → Type 0
+DebugsWideVerbosely in_force old new given result =
+    WritesWideVerboseDebug explanation_of in_force old new given result × IfOk result (HasSameStatus given)
+
+-- the output and result of such a run, given its texts or the fault with which they were not read
+abbrev pub DebugsTextsWideVerbosely : PlacesOf → List ℕ → Option (List ℕ) → Option (List ℕ) → Result (OfRun (List ℕ)) PbxFault → Result ℕ PbxFault → Type 0
+DebugsTextsWideVerbosely places held old new (Ok texts) result =
+    DebugsWideVerbosely (in_force_at places texts) old new (wide_debug_of_texts held texts) result
+DebugsTextsWideVerbosely places held old new (Err fault) result = WritesWideDebug old new (Err fault) result
+
+-- the output and result of such a run over the files at these paths, and the place of its fault
+abbrev pub DebugsFilesWideVerbosely : OfRun (List ℕ) → PlacesOf → OfRun Source → List ℕ → Option (List ℕ) → Option (List ℕ) → Result ℕ Faulted → Type 0
+DebugsFilesWideVerbosely paths places sources held old new answered =
+    ReadsTexts sources (λ read. DebugsTextsWideVerbosely places held old new (all_texts read) (without_place answered) × StandsIn (place_of_run paths read) answered)
+
+-- how a script runs over the wide table: whether verbosely, and the text of the break if the run is debugged
+pub record RunManner : Type 0 where
+  pub is_verbose : Bool
+  pub held : Option (List ℕ)
+
+-- a run that is not debugged
+abbrev pub running : Bool → RunManner
+running is_verbose = record { is_verbose = is_verbose; held = None }
+
+-- a run that is debugged with the break that a text names
+abbrev pub debugging : List ℕ → Bool → RunManner
+debugging held is_verbose = record { is_verbose = is_verbose; held = Some held }
+
+-- the output and result of a run over the wide table, given the text of its break and whether it is verbose
+abbrev pub RunsWideBy : OfRun (List ℕ) → PlacesOf → OfRun Source → Option (List ℕ) → Bool → Option (List ℕ) → Option (List ℕ) → Result ℕ Faulted → Type 0
+RunsWideBy paths places sources None true old new answered = RunsFilesWideVerbosely paths places sources old new answered
+RunsWideBy paths places sources None false old new answered = RunsFilesWide paths sources old new answered
+RunsWideBy paths places sources (Some held) true old new answered = DebugsFilesWideVerbosely paths places sources held old new answered
+RunsWideBy paths places sources (Some held) false old new answered = DebugsFilesWide paths sources held old new answered
+
+-- the same, given how the script runs
+abbrev pub RunsWideAsked : OfRun (List ℕ) → PlacesOf → OfRun Source → RunManner → Option (List ℕ) → Option (List ℕ) → Result ℕ Faulted → Type 0
+RunsWideAsked paths places sources manner old new answered = RunsWideBy paths places sources manner.held manner.is_verbose old new answered
 
 -- the output and result of a run: in threads if their number is given, else verbose or not
 abbrev pub RunsAsked : OfRun (List ℕ) → OfRun Source → Option ℕ → Bool → Option (List ℕ) → Option (List ℕ) → Result ℕ Faulted → Type 0
@@ -237,35 +287,48 @@ files_read paths files plan None = with_text files paths.plan plan.text
 files_read paths files plan (Some second) = with_text (with_text files paths.plan plan.text) second.0 second.1.text
 
 -- the output and result of a run over the wide table, given the texts of its dialplans
-abbrev pub RunsPlans : OfRun (List ℕ) → (List ℕ → Source) → Bool → Option (List ℕ) → Option (List ℕ) → PlanTextOf → Option (List ℕ × PlanTextOf) → Result Served Faulted → Type 0
-RunsPlans paths files is_verbose old new plan second answered =
-    Quietly (RunsWideAsked paths (places_read plan second) (sources_of (files_read paths files plan second) paths) is_verbose old new) answered
+abbrev pub RunsPlans : OfRun (List ℕ) → (List ℕ → Source) → RunManner → Option (List ℕ) → Option (List ℕ) → PlanTextOf → Option (List ℕ × PlanTextOf) → Result Served Faulted → Type 0
+RunsPlans paths files manner old new plan second answered =
+    Quietly (RunsWideAsked paths (places_read plan second) (sources_of (files_read paths files plan second) paths) manner old new) answered
 
 -- the same, given the text of the first one and the path of the second, which is read after it
-abbrev pub RunsSecond : Option (List ℕ) → OfRun (List ℕ) → (List ℕ → Source) → Bool → Option (List ℕ) → Option (List ℕ) → PlanTextOf → List ℕ → Result Served Faulted → Type 0
-RunsSecond clock paths files is_verbose old new plan path answered =
-    ReadsDialplan to_run clock files path (λ second answered. RunsPlans paths files is_verbose old new plan (Some (path, second)) answered) old new
+abbrev pub RunsSecond : Option (List ℕ) → OfRun (List ℕ) → (List ℕ → Source) → RunManner → Option (List ℕ) → Option (List ℕ) → PlanTextOf → List ℕ → Result Served Faulted → Type 0
+RunsSecond clock paths files manner old new plan path answered =
+    ReadsDialplan to_run clock files path (λ second answered. RunsPlans paths files manner old new plan (Some (path, second)) answered) old new
     answered
 
 -- the same, given the path of the second one, if there is one
-abbrev pub RunsBeside : Option (List ℕ) → OfRun (List ℕ) → (List ℕ → Source) → Bool → Option (List ℕ) → Option (List ℕ) → PlanTextOf → Option (List ℕ) → Result Served Faulted → Type 0
-RunsBeside clock paths files is_verbose old new plan None answered = RunsPlans paths files is_verbose old new plan None answered
-RunsBeside clock paths files is_verbose old new plan (Some path) answered = RunsSecond clock paths files is_verbose old new plan path answered
+abbrev pub RunsBeside : Option (List ℕ) → OfRun (List ℕ) → (List ℕ → Source) → RunManner → Option (List ℕ) → Option (List ℕ) → PlanTextOf → Option (List ℕ) → Result Served Faulted → Type 0
+RunsBeside clock paths files manner old new plan None answered = RunsPlans paths files manner old new plan None answered
+RunsBeside clock paths files manner old new plan (Some path) answered = RunsSecond clock paths files manner old new plan path answered
 
 -- the same, given the text of the first one
-abbrev pub RunsPlan : Option (List ℕ) → OfRun (List ℕ) → (List ℕ → Source) → Bool → Option (List ℕ) → Option (List ℕ) → PlanTextOf → Result Served Faulted → Type 0
-RunsPlan clock paths files is_verbose old new plan answered = RunsBeside clock paths files is_verbose old new plan paths.second_plan answered
+abbrev pub RunsPlan : Option (List ℕ) → OfRun (List ℕ) → (List ℕ → Source) → RunManner → Option (List ℕ) → Option (List ℕ) → PlanTextOf → Result Served Faulted → Type 0
+RunsPlan clock paths files manner old new plan answered = RunsBeside clock paths files manner old new plan paths.second_plan answered
+
+-- the same, given the path of the queues, if there are some: they are read with the files that they include
+abbrev pub RunsWithQueues : Option (List ℕ) → OfRun (List ℕ) → (List ℕ → Source) → RunManner → Option (List ℕ) → Option (List ℕ) → PlanTextOf → Option (List ℕ) → Result Served Faulted → Type 0
+RunsWithQueues clock paths files manner old new plan None answered = RunsPlan clock paths files manner old new plan answered
+RunsWithQueues clock paths files manner old new plan (Some path) answered =
+    ReadsQueues files path (λ files. RunsPlan clock paths files manner old new plan) old new answered
+
+-- the same, given the text of the first dialplan
+abbrev pub RunsQueues : Option (List ℕ) → OfRun (List ℕ) → (List ℕ → Source) → RunManner → Option (List ℕ) → Option (List ℕ) → PlanTextOf → Result Served Faulted → Type 0
+RunsQueues clock paths files manner old new plan answered = RunsWithQueues clock paths files manner old new plan paths.queues answered
 
 -- the same for the dialplan at a path and the files that it includes
-abbrev pub RunsIncluding : Option (List ℕ) → OfRun (List ℕ) → (List ℕ → Source) → Bool → Option (List ℕ) → Option (List ℕ) → Result Served Faulted → Type 0
-RunsIncluding clock paths files is_verbose old new answered =
-    ReadsDialplan to_run clock files paths.plan (RunsPlan clock paths files is_verbose old new) old new answered
+abbrev pub RunsIncluding : Option (List ℕ) → OfRun (List ℕ) → (List ℕ → Source) → RunManner → Option (List ℕ) → Option (List ℕ) → Result Served Faulted → Type 0
+RunsIncluding clock paths files manner old new answered =
+    ReadsDialplan to_run clock files paths.plan (RunsQueues clock paths files manner old new) old new answered
 
 -- the output and result of a request, given the files, the input, and its options
 abbrev pub Serves : (List ℕ → Source) → Source → RequestOf → OptionsOf → Option (List ℕ) → Option (List ℕ) → Result Served Faulted → Type 0
 Serves files input joined options old new answered = Quietly (RunsJoined input old new) answered
 Serves files input (check file) options old new answered = Quietly (ReportsOn file (files file) (check_by options.explains file) old new) answered
 Serves files input (check_files file) options old new answered = Quietly (ChecksIncluding (moment_in options.clock) file files old new) answered
+Serves files input (check_queue_files queues) options old new answered = Quietly (ChecksQueuesIncluding queues files old new) answered
+Serves files input (check_both_files file queues) options old new answered =
+    Quietly (ChecksBothIncluding (moment_in options.clock) file queues files old new) answered
 Serves files input (check_queues queues) options old new answered = Quietly (ReportsOn queues (files queues) queues_report old new) answered
 Serves files input (check_both file queues) options old new answered = Quietly (ChecksBoth files file queues options.explains old new) answered
 Serves files input (listing file) options old new answered = Quietly (ReportsOn file (files file) list_of old new) answered
@@ -277,9 +340,12 @@ Serves files input (matching_files lookup all) options old new answered = LooksU
 Serves files input (explaining fault) options old new answered = Quietly (WritesEntry fault old new) answered
 Serves files input (run paths threads is_verbose) options old new answered =
     Quietly (RunsAsked paths (sources_of files paths) threads is_verbose old new) answered
-Serves files input (run_wide paths is_verbose) options old new answered = RunsIncluding options.clock paths files is_verbose old new answered
+Serves files input (run_wide paths is_verbose) options old new answered =
+    RunsIncluding options.clock paths files (running is_verbose) old new answered
 Serves files input (debug paths held is_verbose) options old new answered =
     Quietly (DebugsAsked paths (sources_of files paths) held is_verbose old new) answered
+Serves files input (debug_wide paths held is_verbose) options old new answered =
+    RunsIncluding options.clock paths files (debugging held is_verbose) old new answered
 Serves files input (testing file is_traced is_covered) options old new answered =
     TestsFile (manner_of is_traced is_covered) files file old new answered
 Serves files input (reaching question) options old new answered = ReachesFiles files question options.explains old new answered
@@ -289,6 +355,8 @@ abbrev pub fails_on_input : {X : Type 0} → RequestOf → Result X PbxFault →
 fails_on_input joined result = has_read_failed result
 fails_on_input (check file) result = false
 fails_on_input (check_files file) result = false
+fails_on_input (check_queue_files queues) result = false
+fails_on_input (check_both_files file queues) result = false
 fails_on_input (check_queues queues) result = false
 fails_on_input (check_both file queues) result = false
 fails_on_input (listing file) result = false
@@ -301,5 +369,6 @@ fails_on_input (explaining fault) result = false
 fails_on_input (run paths threads is_verbose) result = false
 fails_on_input (run_wide paths is_verbose) result = false
 fails_on_input (debug paths held is_verbose) result = false
+fails_on_input (debug_wide paths held is_verbose) result = false
 fails_on_input (testing file is_traced is_covered) result = false
 fails_on_input (reaching question) result = false

@@ -11,24 +11,21 @@ use Rattle.dp_commands.specs.declared.fault.Code.{Code}
 use Rattle.dp_commands.specs.declared.fault.Code.TheVariants.{Line, Name, Plan, QueueLine, Queue, ReadFailed, TooLong, WriteFailed, Settle, BadScript, BadBreak}
 use Rattle.dp_commands.specs.declared.fault.PbxFault.{PbxFault}
 use Rattle.dp_commands.specs.declared.fault.PbxFault.TheVariants.{Coded, NoMemory}
-use Rattle.dp_files.specs.DialplanText.{text_of}
 use Rattle.dp_files.specs.FolderFiles.{ReadsFolder, path_of}
 use Rattle.dp_files.specs.declared.reading.ReadingFault.{ReadingFault}
 use Rattle.dp_notices.specs.PlanFiles.{plan_of}
-use Rattle.dp_notices.specs.QueueFiles.{QueueFilesOf, queue_notices_text, queues_of}
-use Rattle.dp_notices.specs.declared.printing.Shown.TheVariants.{All}
+use Rattle.dp_notices.specs.QueueFiles.{QueueFilesOf, queues_of}
 use Rattle.dp_program.specs.Dialplans.{DialplanRead, FailsToRead, PlanTextOf, dialplan_read, faulty, loads, places_in, text_now}
 use Rattle.dp_program.specs.Faulted.{in_none, nowhere, place_of}
 use Rattle.dp_program.specs.Files.{Reads, Source}
 use Rattle.dp_program.specs.Including.{MayTellOf, reading_fault}
+use Rattle.dp_program.specs.QueueTexts.{QueuesRead, given, queues_or_notices, unread}
 use Rattle.dp_program.specs.declared.dialplans.PlanUse.TheVariants.{LookUp}
 use Rattle.dp_program.specs.declared.faulted.Faulted.{Faulted}
 use Rattle.dp_program.specs.declared.hints.Served.{Served}
 use Rattle.dp_program.specs.declared.test_inputs.NamedLine.{NamedLine}
 use Rattle.dp_program.specs.declared.test_inputs.ReadInputs.{ReadInputs}
 use Rattle.dp_program.specs.declared.test_inputs.ReadInputs.TheVariants.{Ready, Lacking}
-use Rattle.dp_program.specs.declared.test_inputs.ReadQueues.{ReadQueues}
-use Rattle.dp_program.specs.declared.test_inputs.ReadQueues.TheVariants.{Given, Unread}
 use Rattle.dp_program.specs.declared.test_inputs.Reloads.{Reloads}
 use Rattle.dp_program.specs.declared.test_inputs.TestInputs.{TestInputs}
 use Rattle.dp_program.specs.declared.test_reports.TestManner.{TestManner}
@@ -115,19 +112,7 @@ IsPlanRead files clock path named read =
     MatchBool (is_utf8 (path_to path named)) (IsPlanAt files clock path named (path_to path named) read)
     (read ≡ faulty (unread_line path named ReadFailed))
 
--- the text of the queues, if there are some, or the lines about what is wrong with them
-pub data QueuesRead : Type 0 where
-  given : Option (List ℕ) → QueuesRead
-  unread : List ℕ → QueuesRead
-
--- the queues of files that were read, or the lines of the notices on them: each notice says that the exchange may do something else
-abbrev pub given_unless : List ℕ → List ℕ → QueuesRead
-given_unless [] text = given (Some text)
-given_unless lines text = unread lines
-
-abbrev pub queues_or_notices : QueueFilesOf → QueuesRead
-queues_or_notices queues = given_unless (queue_notices_text All queues) (text_of queues.made)
-
+-- the queues that a line names, or the lines about what is wrong with them
 abbrev pub queues_or_lines : List ℕ → NamedOf → Result QueueFilesOf ReadingFault → QueuesRead
 queues_or_lines path named (Ok queues) = queues_or_notices queues
 queues_or_lines path named (Err fault) = unread (unread_text path named (reading_fault fault))
@@ -218,10 +203,6 @@ inputs_by [] (loads plan) (given queues) reloads = ready (record { plan = plan; 
 inputs_by lines plan queues reloads = lacking lines
 
 -- the result of a call
-abbrev pub queues_now : ReadQueues → QueuesRead
-queues_now (Given queues) = given (option_map (λ text. text.items) queues)
-queues_now (Unread line) = unread line.items
-
 abbrev pub reloads_now : Reloads → ReloadsOf
 reloads_now reloads = record { texts = reloads.texts; lines = reloads.lines.items }
 

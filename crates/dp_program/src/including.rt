@@ -1,20 +1,25 @@
-//! The request that checks a dialplan with the files that it includes.
+//! The requests that check a dialplan, queues or both with the files that they include.
 ghost use Rattle.std.specs.Prelude.{◌≡◌, ◌||◌, Ok, Result};
 ghost use Rattle.dp_conf.specs.Answers.{Answers};
 ghost use Rattle.dp_commands.specs.Faults.{is_write_failed};
 ghost use Rattle.dp_files.specs.Reading.{first_fault};
 ghost use Rattle.dp_files.specs.declared.reading.ReadingFault.{ReadingFault as Reading};
 ghost use Rattle.dp_notices.specs.PlanFiles.{PlanFilesOf, plan_now};
-ghost use Rattle.dp_program.specs.Faulted.{StandsIn, without_place};
+ghost use Rattle.dp_notices.specs.QueueFiles.{QueueFilesOf, queues_now};
+ghost use Rattle.dp_program.specs.Faulted.{StandsIn, place_of, unread_place, without_place};
 ghost use Rattle.dp_program.specs.Including as spec;
 
 use crate::faulted::{Faulted, Unread, placed_nowhere};
 use crate::files::ReadFiles;
+use crate::request::CheckFiles;
 use crate::system_paths::SystemPaths;
 use dp_commands::{Code, PbxFault};
 use dp_conf::WriteTold;
 use dp_files::ReadingFault;
-use dp_notices::{PlanFiles, check_plan, read_folder_plan};
+use dp_notices::{
+    PlanFiles, QueueFiles, check_plan, check_plan_and_queues, check_queues, read_folder_plan,
+    read_folder_queues,
+};
 use dp_wide::Moment;
 use std::alloc::Global;
 
@@ -33,6 +38,17 @@ pub(crate) fn reading_fault(fault: ReadingFault) -> PbxFault
         },
         ReadingFault::NoMemory => PbxFault::NoMemory,
     }
+}
+
+/// The fault of a file that was not read, with its place.
+fn unread_file<'a>(path: &'a str, fault: ReadingFault) -> Faulted<'a>
+    ensures fault { result.fault ≡ spec.reading_fault fault }
+    ensures place { place_of result.place ≡ unread_place path.now (spec.reading_fault fault) }
+{
+    Faulted::from(Unread {
+        path,
+        fault: reading_fault(fault),
+    })
 }
 
 /// Reports on a dialplan that was read: its notices, and then its counts or the number of its faults. The status is 1 if it has any.
@@ -63,10 +79,7 @@ fn check_read<'a, W: WriteTold>(
 {
     match read {
         Ok(plan) => placed_nowhere(report_plan(alloc, &plan, output)),
-        Err(fault) => Err(Faulted::from(Unread {
-            path: file,
-            fault: reading_fault(fault),
-        })),
+        Err(fault) => Err(unread_file(file, fault)),
     }
 }
 
@@ -85,4 +98,114 @@ pub(crate) fn serve_check_including<'a, F: ReadFiles, W: WriteTold>(
     let paths = SystemPaths { files };
     let read = read_folder_plan(alloc, &paths, file, moment);
     check_read(alloc, file, read, output)
+}
+
+/// Reports on queues that were read: their notices, and then their number or the number of their faults. The status is 1 if there are any.
+fn report_queues<W: WriteTold>(
+    alloc: Global,
+    queues: &QueueFiles,
+    output: &mut W,
+) -> Result<u8, PbxFault>
+    ensures writes { spec.WritesCheck (W.contents output.old) (W.contents output.new) (Ok (spec.queues_check_of (queues_now queues.now))) result }
+    ensures told { W.has_failed output.new ≡ (W.has_failed output.old || is_write_failed result) }
+{
+    let report = check_queues(alloc, queues)?;
+    output.write_told(&report.text)?;
+    Ok(if report.faults == 0 { 0 } else { 1 })
+}
+
+/// Reports on queues that were read, or gives the reason why they were not.
+fn check_queues_read<'a, W: WriteTold>(
+    alloc: Global,
+    file: &'a str,
+    read: Result<QueueFiles, ReadingFault>,
+    output: &mut W,
+) -> Result<u8, Faulted<'a>>
+    ensures writes { (queues : Result QueueFilesOf Reading) → Answers queues_now first_fault read queues
+        → spec.WritesCheck (W.contents output.old) (W.contents output.new) (spec.queues_checked queues) (without_place result)
+        × StandsIn (spec.place_of_queues file.now queues) result }
+    ensures told { W.has_failed output.new ≡ (W.has_failed output.old || is_write_failed (without_place result)) }
+{
+    match read {
+        Ok(queues) => placed_nowhere(report_queues(alloc, &queues, output)),
+        Err(fault) => Err(unread_file(file, fault)),
+    }
+}
+
+/// Reports on the queues of a file and of the files that it includes.
+pub(crate) fn serve_check_queues_including<'a, F: ReadFiles, W: WriteTold>(
+    files: &F,
+    alloc: Global,
+    file: &'a str,
+    output: &mut W,
+) -> Result<u8, Faulted<'a>>
+    ensures serves { spec.ChecksQueuesIncluding file.now (F.source_at files.now) (W.contents output.old) (W.contents output.new) result }
+    ensures told { W.has_failed output.new ≡ (W.has_failed output.old || is_write_failed (without_place result)) }
+{
+    let paths = SystemPaths { files };
+    let read = read_folder_queues(alloc, &paths, file);
+    check_queues_read(alloc, file, read, output)
+}
+
+/// Reports on a dialplan and queues that were read: their notices, and then their counts or the number of their faults. The status is 1 if
+/// there are any.
+fn report_both<W: WriteTold>(
+    alloc: Global,
+    plan: &PlanFiles,
+    queues: &QueueFiles,
+    output: &mut W,
+) -> Result<u8, PbxFault>
+    ensures writes { spec.WritesCheck (W.contents output.old) (W.contents output.new)
+        (Ok (spec.both_check_of (plan_now plan.now) (queues_now queues.now))) result }
+    ensures told { W.has_failed output.new ≡ (W.has_failed output.old || is_write_failed result) }
+{
+    let report = check_plan_and_queues(alloc, plan, queues)?;
+    output.write_told(&report.text)?;
+    Ok(if report.faults == 0 { 0 } else { 1 })
+}
+
+/// A dialplan and queues that were read, or why they were not.
+#[derive(Drop)]
+struct ReadBoth {
+    plan: Result<PlanFiles, ReadingFault>,
+    queues: Result<QueueFiles, ReadingFault>,
+}
+
+/// Reports on a dialplan and queues that were read, or gives the reason why one of them was not: that of the dialplan comes first.
+fn check_both_read<'a, W: WriteTold>(
+    alloc: Global,
+    paths: &CheckFiles<'a>,
+    read: ReadBoth,
+    output: &mut W,
+) -> Result<u8, Faulted<'a>>
+    ensures writes { (plan : Result PlanFilesOf Reading) (queues : Result QueueFilesOf Reading)
+        → Answers plan_now first_fault read.plan plan → Answers queues_now first_fault read.queues queues
+        → spec.WritesCheck (W.contents output.old) (W.contents output.new) (spec.both_checked plan queues) (without_place result)
+        × StandsIn (spec.place_of_both paths.now.plan.now paths.now.queues.now plan queues) result }
+    ensures told { W.has_failed output.new ≡ (W.has_failed output.old || is_write_failed (without_place result)) }
+{
+    match (read.plan, read.queues) {
+        (Ok(plan), Ok(queues)) => placed_nowhere(report_both(alloc, &plan, &queues, output)),
+        (Ok(_), Err(fault)) => Err(unread_file(paths.queues, fault)),
+        (Err(fault), _) => Err(unread_file(paths.plan, fault)),
+    }
+}
+
+/// Reports on the dialplan of a file and of the files that it includes, given the moment by which includes with times are read, if there is
+/// one, and on the queues of another file and of the files that it includes.
+pub(crate) fn serve_check_both_including<'a, F: ReadFiles, W: WriteTold>(
+    files: &F,
+    alloc: Global,
+    paths: &CheckFiles<'a>,
+    moment: Option<Moment>,
+    output: &mut W,
+) -> Result<u8, Faulted<'a>>
+    ensures serves { spec.ChecksBothIncluding moment paths.now.plan.now paths.now.queues.now (F.source_at files.now)
+        (W.contents output.old) (W.contents output.new) result }
+    ensures told { W.has_failed output.new ≡ (W.has_failed output.old || is_write_failed (without_place result)) }
+{
+    let system = SystemPaths { files };
+    let plan = read_folder_plan(alloc, &system, paths.plan, moment);
+    let queues = read_folder_queues(alloc, &system, paths.queues);
+    check_both_read(alloc, paths, ReadBoth { plan, queues }, output)
 }

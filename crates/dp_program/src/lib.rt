@@ -14,6 +14,7 @@ mod made_files;
 mod nearest;
 mod options;
 mod program;
+mod queue_texts;
 mod reaches;
 mod reports;
 mod request;
@@ -24,6 +25,7 @@ mod test_reports;
 mod texts;
 mod verbose_runs;
 mod wide_audits;
+mod wide_debugs;
 mod wide_runs;
 
 pub use dp_commands::{Code, FileLine, PbxFault};

@@ -11,7 +11,9 @@ use crate::dialplans::moment_in;
 use crate::faulted::Faulted;
 use crate::files::ReadFiles;
 use crate::hints::{Served, without_hint};
-use crate::including::serve_check_including;
+use crate::including::{
+    serve_check_both_including, serve_check_including, serve_check_queues_including,
+};
 use crate::including_reports::{
     WideAudit, serve_audit_including, serve_list_including, serve_match_including,
 };
@@ -63,6 +65,19 @@ pub fn serve<'a, F: ReadFiles, I: ReadTold, W: WriteTold, R: Threads + Wait + Sy
             without_hint(
                 alloc,
                 serve_check_including(files, alloc, file, moment_in(options.clock), output),
+            )
+        }
+        Request::CheckQueuesIncluding { queues } => {
+            without_hint(
+                alloc,
+                serve_check_queues_including(files, alloc, queues, output),
+            )
+        }
+        Request::CheckBothIncluding { files: paths } => {
+            let moment = moment_in(options.clock);
+            without_hint(
+                alloc,
+                serve_check_both_including(files, alloc, paths, moment, output),
             )
         }
         Request::CheckQueues { queues } => {
@@ -132,6 +147,7 @@ pub fn serve<'a, F: ReadFiles, I: ReadTold, W: WriteTold, R: Threads + Wait + Sy
             let asked = WideRun {
                 files: run,
                 is_verbose: *is_verbose,
+                held: None,
                 clock: options.clock,
             };
             serve_run_including(files, alloc, asked, output)
@@ -146,6 +162,19 @@ pub fn serve<'a, F: ReadFiles, I: ReadTold, W: WriteTold, R: Threads + Wait + Sy
             held,
             is_verbose: false,
         } => without_hint(alloc, serve_debug(files, alloc, run, held, output)),
+        Request::DebugWide {
+            files: run,
+            held,
+            is_verbose,
+        } => {
+            let asked = WideRun {
+                files: run,
+                is_verbose: *is_verbose,
+                held: Some(*held),
+                clock: options.clock,
+            };
+            serve_run_including(files, alloc, asked, output)
+        }
         Request::Test {
             file,
             is_traced,

@@ -87,6 +87,14 @@ pub enum Request<'a> {
     CheckIncluding {
         file: &'a str,
     },
+    /// `check --asterisk --queues QUEUES`: loads queues from a file and from those that it includes, and reports each fault.
+    CheckQueuesIncluding {
+        queues: &'a str,
+    },
+    /// `check --asterisk --queues QUEUES FILE`: does both.
+    CheckBothIncluding {
+        files: CheckFiles<'a>,
+    },
     /// `check --queues QUEUES`: loads a queue file.
     CheckQueues {
         queues: &'a str,
@@ -138,8 +146,9 @@ pub enum Request<'a> {
         is_verbose: bool,
     },
     /// `run --asterisk [--queues QUEUES] [--reload DIALPLAN] [--verbose] FILE SCRIPT`: runs a script on a dialplan in the same way, over
-    /// the applications and functions of the wide table. Each dialplan is read from a file and from those that it includes. The script may
-    /// state facts, and the run stops before anything unknown. If a dialplan has something that this program cannot follow, nothing runs.
+    /// the applications and functions of the wide table. Each dialplan is read from a file and from those that it includes, and so are the
+    /// queues. The script may state facts, and the run stops before anything unknown. If a dialplan or the queues have something that this
+    /// program cannot follow, nothing runs.
     RunWide {
         files: RunFiles<'a>,
         is_verbose: bool,
@@ -147,6 +156,13 @@ pub enum Request<'a> {
     /// `debug [--queues QUEUES] [--reload DIALPLAN] --break BREAK [--verbose] FILE SCRIPT`: runs a script on a dialplan in the same way,
     /// and halts at each step where the break holds.
     Debug {
+        files: RunFiles<'a>,
+        held: &'a str,
+        is_verbose: bool,
+    },
+    /// `debug --asterisk [--queues QUEUES] [--reload DIALPLAN] --break BREAK [--verbose] FILE SCRIPT`: runs a script as `run --asterisk`
+    /// does, and halts at each step where the break holds.
+    DebugWide {
         files: RunFiles<'a>,
         held: &'a str,
         is_verbose: bool,

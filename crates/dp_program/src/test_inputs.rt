@@ -9,18 +9,18 @@ ghost use Rattle.dp_files.specs.declared.reading.ReadingFault.{ReadingFault as R
 ghost use Rattle.dp_notices.specs.PlanFiles.{PlanFilesOf, plan_now};
 ghost use Rattle.dp_notices.specs.QueueFiles.{QueueFilesOf, queues_now};
 ghost use Rattle.dp_program.specs.Dialplans.{dialplan_read, faulty, read_now, text_now};
+ghost use Rattle.dp_program.specs.QueueTexts as queue_texts;
+ghost use Rattle.dp_program.specs.QueueTexts.{unread};
 ghost use Rattle.dp_program.specs.declared.dialplans.PlanUse.TheVariants.{LookUp};
 ghost use Rattle.dp_program.specs.TestFiles as spec;
-ghost use Rattle.dp_program.specs.TestFiles.{unread};
 
 use crate::dialplans::{PlanText, PlanUse, ReadDialplan, dialplan_of};
 use crate::files::ReadFiles;
+use crate::queue_texts::{ReadQueues, queues_or_notices};
 use crate::system_paths::SystemPaths;
 use dp_commands::Code;
 use dp_files::{ReadingFault, path_of, text_path};
-use dp_notices::{
-    PlanFiles, QueueFiles, Shown, print_queue_notices, read_folder_plan, read_folder_queues,
-};
+use dp_notices::{PlanFiles, QueueFiles, read_folder_plan, read_folder_queues};
 use dp_plan::{NoMemory, SharedText, Text};
 use dp_test_runs::{Items, NamedText};
 use dp_tests::{Act, HeadLine, Test, TestFile, TestLine};
@@ -166,28 +166,9 @@ fn read_plan<F: ReadFiles>(
     }
 }
 
-/// The text of the queues, if there are some, or the lines about what is wrong with them.
-#[derive(Drop)]
-enum ReadQueues {
-    Given(Option<Vec<u8>>),
-    Unread(Vec<u8>),
-}
-
-/// The queues that were read, or the lines of the notices on them.
-fn queues_or_notices(alloc: Global, queues: &QueueFiles) -> Result<ReadQueues, NoMemory>
-    ensures { IfOk result (λ read. spec.queues_now read ≡ spec.queues_or_notices (queues_now queues.now)) }
-{
-    let told = print_queue_notices(alloc, Shown::All, queues)?;
-    if !told.is_empty() {
-        return Ok(ReadQueues::Unread(told));
-    }
-    let text = queues.text(alloc)?;
-    Ok(ReadQueues::Given(Some(text)))
-}
-
 /// The line about why queues were not read, in their place.
 fn unread_queues(alloc: Global, named: NamedFile<'_>, code: Code) -> Result<ReadQueues, NoMemory>
-    ensures { IfOk result (λ read. spec.queues_now read ≡ unread (spec.unread_line named.entry.path.now (spec.named_now named.entry.named) code)) }
+    ensures { IfOk result (λ read. queue_texts.queues_now read ≡ unread (spec.unread_line named.entry.path.now (spec.named_now named.entry.named) code)) }
 {
     let line = named.unread_line(alloc, code)?;
     Ok(ReadQueues::Unread(line))
@@ -200,7 +181,7 @@ fn queues_in(
     read: Result<QueueFiles, ReadingFault>,
 ) -> Result<ReadQueues, NoMemory>
     ensures { IfOk result (λ read_queues. (queues : Result QueueFilesOf Reading) → Answers queues_now first_fault read queues
-        → spec.queues_now read_queues ≡ spec.queues_or_lines named.entry.path.now (spec.named_now named.entry.named) queues) }
+        → queue_texts.queues_now read_queues ≡ spec.queues_or_lines named.entry.path.now (spec.named_now named.entry.named) queues) }
 {
     match read {
         Ok(queues) => queues_or_notices(alloc, &queues),
@@ -218,7 +199,7 @@ fn read_queues_at<F: ReadFiles>(
     at: &str,
 ) -> Result<ReadQueues, NoMemory>
     ensures { IfOk result (λ read. spec.QueuesComeFrom (F.source_at files.now) named.entry.path.now (spec.named_now named.entry.named) at.now
-        (spec.queues_now read)) }
+        (queue_texts.queues_now read)) }
 {
     let paths = SystemPaths { files };
     let read = read_folder_queues(alloc, &paths, at);
@@ -232,7 +213,7 @@ fn read_named_queues<F: ReadFiles>(
     alloc: Global,
     named: NamedFile<'_>,
 ) -> Result<ReadQueues, NoMemory>
-    ensures { IfOk result (λ read. spec.AreQueuesAt (F.source_at files.now) named.entry.path.now (spec.named_now named.entry.named) (spec.queues_now read)) }
+    ensures { IfOk result (λ read. spec.AreQueuesAt (F.source_at files.now) named.entry.path.now (spec.named_now named.entry.named) (queue_texts.queues_now read)) }
 {
     let path = named.file_path(alloc)?;
     match text_path(path.bytes()) {
@@ -248,7 +229,7 @@ fn read_queues<F: ReadFiles>(
     path: &str,
     file: &TestFile,
 ) -> Result<ReadQueues, NoMemory>
-    ensures { IfOk result (λ read. spec.AreQueuesRead (F.source_at files.now) path.now file.now.queues (spec.queues_now read)) }
+    ensures { IfOk result (λ read. spec.AreQueuesRead (F.source_at files.now) path.now file.now.queues (queue_texts.queues_now read)) }
 {
     match &file.queues {
         None => Ok(ReadQueues::Given(None)),
@@ -400,7 +381,7 @@ fn push_plan_lines(out: &mut Vec<u8>, plan: &ReadDialplan) -> Result<(), NoMemor
 
 /// Adds the lines about what is wrong with queues.
 fn push_queues_lines(out: &mut Vec<u8>, queues: &ReadQueues) -> Result<(), NoMemory>
-    ensures { OnOk result (out.new.items ≡ out.old.items ++ spec.queues_lines (spec.queues_now queues.now)) }
+    ensures { OnOk result (out.new.items ≡ out.old.items ++ spec.queues_lines (queue_texts.queues_now queues.now)) }
 {
     match queues {
         ReadQueues::Given(_) => Ok(()),
@@ -416,7 +397,7 @@ fn wrong_lines(
     reloads: &Reloads,
 ) -> Result<Vec<u8>, NoMemory>
     ensures { IfOk result (λ lines. lines.items
-        ≡ spec.wrong_lines (read_now plan.now) (spec.queues_now queues.now) (spec.reloads_now reloads.now)) }
+        ≡ spec.wrong_lines (read_now plan.now) (queue_texts.queues_now queues.now) (spec.reloads_now reloads.now)) }
 {
     let mut lines = Vec::new(alloc);
     push_plan_lines(&mut lines, plan)?;
@@ -427,7 +408,7 @@ fn wrong_lines(
 
 /// The texts, given what was read and the lines about what is wrong with it.
 fn inputs_by(lines: Vec<u8>, plan: ReadDialplan, queues: ReadQueues, reloads: Reloads) -> ReadInputs
-    ensures { spec.inputs_now result ≡ spec.inputs_by lines.items (read_now plan) (spec.queues_now queues) (spec.reloads_now reloads) }
+    ensures { spec.inputs_now result ≡ spec.inputs_by lines.items (read_now plan) (queue_texts.queues_now queues) (spec.reloads_now reloads) }
 {
     let Reloads {
         texts: reloaded,

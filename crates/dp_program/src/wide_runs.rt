@@ -6,15 +6,18 @@ ghost use Rattle.dp_program.specs.Dialplans.{text_now};
 ghost use Rattle.dp_program.specs.Faulted.{without_place};
 ghost use Rattle.dp_program.specs.Serves as spec;
 ghost use Rattle.dp_program.specs.Texts.{paths_of, sources_of, texts_of};
-ghost use Rattle.dp_program.specs.WideRuns.{places_of};
+ghost use Rattle.dp_program.specs.WideRuns.{manner_of, places_of};
 
 use crate::dialplans::{PlanText, PlanUse, ReadDialplan, faulty, read_dialplan};
 use crate::entries::ManualEntries;
 use crate::faulted::{Faulted, placed_in_run};
 use crate::files::ReadFiles;
 use crate::hints::{Served, without_hint};
+use crate::made_files::MadeFiles;
+use crate::queue_texts::{ReadQueues, read_queue_text};
 use crate::request::RunFiles;
 use crate::texts::{Texts, read_texts};
+use crate::wide_debugs::{HeldRun, serve_debug_wide, serve_debug_wide_verbose};
 use dp_commands::{PbxFault, PlanPlaces};
 use dp_conf::WriteTold;
 use dp_wide_runs::{run_wide, run_wide_verbose};
@@ -78,11 +81,12 @@ fn serve_run_wide_verbose<'a, F: ReadFiles, W: WriteTold>(
     placed_in_run(run, &texts, answered)
 }
 
-/// A run over the wide table: its files, whether it is verbose, and the word of `--clock`.
+/// A run over the wide table: its files, whether it is verbose, the text of its break if it is debugged, and the word of `--clock`.
 #[derive(Clone, Copy)]
 pub(crate) struct WideRun<'r, 'a> {
     pub(crate) files: &'r RunFiles<'a>,
     pub(crate) is_verbose: bool,
+    pub(crate) held: Option<&'a str>,
     pub(crate) clock: Option<&'a str>,
 }
 
@@ -95,7 +99,7 @@ fn run_made<'a, F: ReadFiles, W: WriteTold>(
     output: &mut W,
 ) -> Result<Served, Faulted<'a>>
     ensures serves { spec.Quietly (spec.RunsWideAsked (paths_of asked.entry.files.now) (places_of places.entry)
-        (sources_of (F.source_at files.now) (paths_of asked.entry.files.now)) asked.entry.is_verbose
+        (sources_of (F.source_at files.now) (paths_of asked.entry.files.now)) (manner_of asked.entry)
         (W.contents output.old) (W.contents output.new)) result }
     ensures told { W.has_failed output.new ≡ (W.has_failed output.old || is_write_failed (without_place result)) }
 {
@@ -103,6 +107,7 @@ fn run_made<'a, F: ReadFiles, W: WriteTold>(
         WideRun {
             files: run,
             is_verbose: true,
+            held: None,
             clock: _,
         } => without_hint(
             alloc,
@@ -111,8 +116,30 @@ fn run_made<'a, F: ReadFiles, W: WriteTold>(
         WideRun {
             files: run,
             is_verbose: false,
+            held: None,
             clock: _,
         } => without_hint(alloc, serve_run_wide(files, alloc, run, output)),
+        WideRun {
+            files: run,
+            is_verbose: true,
+            held: Some(held),
+            clock: _,
+        } => {
+            let debugged = HeldRun { files: run, held };
+            without_hint(
+                alloc,
+                serve_debug_wide_verbose(files, alloc, debugged, places, output),
+            )
+        }
+        WideRun {
+            files: run,
+            is_verbose: false,
+            held: Some(held),
+            clock: _,
+        } => {
+            let debugged = HeldRun { files: run, held };
+            without_hint(alloc, serve_debug_wide(files, alloc, debugged, output))
+        }
     }
 }
 
@@ -124,7 +151,7 @@ fn run_alone<'a, F: ReadFiles, W: WriteTold>(
     plan: &PlanText,
     output: &mut W,
 ) -> Result<Served, Faulted<'a>>
-    ensures serves { spec.RunsPlans (paths_of asked.entry.files.now) (F.source_at files.now) asked.entry.is_verbose
+    ensures serves { spec.RunsPlans (paths_of asked.entry.files.now) (F.source_at files.now) (manner_of asked.entry)
         (W.contents output.old) (W.contents output.new) (text_now plan.now) None result }
     ensures told { W.has_failed output.new ≡ (W.has_failed output.old || is_write_failed (without_place result)) }
 {
@@ -168,7 +195,7 @@ fn run_both<'a, F: ReadFiles, W: WriteTold>(
     plans: PlanTexts<'_, '_>,
     output: &mut W,
 ) -> Result<Served, Faulted<'a>>
-    ensures serves { spec.RunsPlans (paths_of asked.entry.files.now) (F.source_at files.now) asked.entry.is_verbose
+    ensures serves { spec.RunsPlans (paths_of asked.entry.files.now) (F.source_at files.now) (manner_of asked.entry)
         (W.contents output.old) (W.contents output.new) (text_now plans.entry.plan.now)
         (Some (plans.entry.path.now, text_now plans.entry.second_plan.now)) result }
     ensures told { W.has_failed output.new ≡ (W.has_failed output.old || is_write_failed (without_place result)) }
@@ -179,7 +206,7 @@ fn run_both<'a, F: ReadFiles, W: WriteTold>(
     run_made(&both, alloc, asked, places, output)
 }
 
-/// The text of a run's dialplan, and the path of its second one.
+/// The text of a run's dialplan, and the path of the next file that is read.
 #[derive(Clone, Copy)]
 struct FirstPlan<'r, 'a> {
     plan: &'r PlanText,
@@ -194,7 +221,7 @@ fn run_after<'a, F: ReadFiles, W: WriteTold>(
     first: FirstPlan<'_, 'a>,
     output: &mut W,
 ) -> Result<Served, Faulted<'a>>
-    ensures serves { spec.RunsSecond (option_map (λ word. word.now) asked.entry.clock) (paths_of asked.entry.files.now) (F.source_at files.now) asked.entry.is_verbose
+    ensures serves { spec.RunsSecond (option_map (λ word. word.now) asked.entry.clock) (paths_of asked.entry.files.now) (F.source_at files.now) (manner_of asked.entry)
         (W.contents output.old) (W.contents output.new) (text_now first.entry.plan.now) first.entry.path.now result }
     ensures told { W.has_failed output.new ≡ (W.has_failed output.old || is_write_failed (without_place result)) }
 {
@@ -220,7 +247,7 @@ fn run_beside<'a, F: ReadFiles, W: WriteTold>(
     plan: &PlanText,
     output: &mut W,
 ) -> Result<Served, Faulted<'a>>
-    ensures serves { spec.RunsPlan (option_map (λ word. word.now) asked.entry.clock) (paths_of asked.entry.files.now) (F.source_at files.now) asked.entry.is_verbose
+    ensures serves { spec.RunsPlan (option_map (λ word. word.now) asked.entry.clock) (paths_of asked.entry.files.now) (F.source_at files.now) (manner_of asked.entry)
         (W.contents output.old) (W.contents output.new) (text_now plan.now) result }
     ensures told { W.has_failed output.new ≡ (W.has_failed output.old || is_write_failed (without_place result)) }
 {
@@ -233,20 +260,69 @@ fn run_beside<'a, F: ReadFiles, W: WriteTold>(
     }
 }
 
-/// Runs the script of one file on the dialplan of another and of the files that it includes, over the wide table, with the queues and the
-/// second dialplan of further files if they are named. The script may state facts, and the run stops before anything unknown.
+/// Reads the queues of a run and runs its script, given the text of its dialplan.
+fn run_after_queues<'a, F: ReadFiles, W: WriteTold>(
+    files: &F,
+    alloc: Global,
+    asked: WideRun<'_, 'a>,
+    first: FirstPlan<'_, 'a>,
+    output: &mut W,
+) -> Result<Served, Faulted<'a>>
+    ensures serves { spec.RunsWithQueues (option_map (λ word. word.now) asked.entry.clock) (paths_of asked.entry.files.now) (F.source_at files.now) (manner_of asked.entry)
+        (W.contents output.old) (W.contents output.new) (text_now first.entry.plan.now) (Some first.entry.path.now) result }
+    ensures told { W.has_failed output.new ≡ (W.has_failed output.old || is_write_failed (without_place result)) }
+{
+    match read_queue_text(files, alloc, first.path) {
+        Ok(ReadQueues::Given(Some(text))) => {
+            let made = MadeFiles {
+                files,
+                path: first.path,
+                text: &text,
+            };
+            run_beside(&made, alloc, asked, first.plan, output)
+        }
+        Ok(ReadQueues::Given(None)) => run_beside(files, alloc, asked, first.plan, output),
+        Ok(ReadQueues::Unread(told)) => Ok(faulty(told)),
+        Err(unread) => Err(Faulted::from(unread)),
+    }
+}
+
+/// Runs the script of a run, given the text of its dialplan: its queues are read, if it has some, and then its second dialplan.
+fn run_with_queues<'a, F: ReadFiles, W: WriteTold>(
+    files: &F,
+    alloc: Global,
+    asked: WideRun<'_, 'a>,
+    plan: &PlanText,
+    output: &mut W,
+) -> Result<Served, Faulted<'a>>
+    ensures serves { spec.RunsQueues (option_map (λ word. word.now) asked.entry.clock) (paths_of asked.entry.files.now) (F.source_at files.now) (manner_of asked.entry)
+        (W.contents output.old) (W.contents output.new) (text_now plan.now) result }
+    ensures told { W.has_failed output.new ≡ (W.has_failed output.old || is_write_failed (without_place result)) }
+{
+    match asked.files.queues {
+        None => run_beside(files, alloc, asked, plan, output),
+        Some(path) => {
+            let first = FirstPlan { plan, path };
+            run_after_queues(files, alloc, asked, first, output)
+        }
+    }
+}
+
+/// Runs the script of one file on the dialplan of another over the wide table, with the queues and the second dialplan of further files if
+/// they are named. Each dialplan and the queues are read with the files that they include. The script may state facts, and the run stops
+/// before anything unknown. If it is debugged, it halts at each step where its break holds.
 pub(crate) fn serve_run_including<'a, F: ReadFiles, W: WriteTold>(
     files: &F,
     alloc: Global,
     asked: WideRun<'_, 'a>,
     output: &mut W,
 ) -> Result<Served, Faulted<'a>>
-    ensures serves { spec.RunsIncluding (option_map (λ word. word.now) asked.entry.clock) (paths_of asked.entry.files.now) (F.source_at files.now) asked.entry.is_verbose
+    ensures serves { spec.RunsIncluding (option_map (λ word. word.now) asked.entry.clock) (paths_of asked.entry.files.now) (F.source_at files.now) (manner_of asked.entry)
         (W.contents output.old) (W.contents output.new) result }
     ensures told { W.has_failed output.new ≡ (W.has_failed output.old || is_write_failed (without_place result)) }
 {
     match read_dialplan(files, alloc, asked.files.plan, PlanUse::Run, asked.clock) {
-        Ok(ReadDialplan::Loads(plan)) => run_beside(files, alloc, asked, &plan, output),
+        Ok(ReadDialplan::Loads(plan)) => run_with_queues(files, alloc, asked, &plan, output),
         Ok(ReadDialplan::Faulty(told)) => Ok(faulty(told)),
         Err(unread) => Err(Faulted::from(unread)),
     }

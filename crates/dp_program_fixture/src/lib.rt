@@ -110,6 +110,9 @@ strategy.test→dialplan first¶queues strategy¶test one¶
 switched.test→dialplan switched¶
 random→[help]¶strategy = random¶
 random.test→dialplan first¶queues random¶
+# Queues in two files.
+tiered→#include \"help\"¶
+mixed→#include \"help\"¶[more]¶strategy = best¶
 ";
 
 /// The text with each character of one kind replaced by the other.

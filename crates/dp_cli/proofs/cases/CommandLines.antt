@@ -4,7 +4,7 @@ use Rattle.clap.proofs.OnLiterals.{clap_on_literals}
 use Rattle.clap.specs.Faults.{fault_of}
 use Rattle.clap.specs.declared.error.kind.ErrorKind.TheVariants as kind
 use Rattle.dp_program.specs.Entries.{found_entry, found_number}
-use Rattle.dp_program.specs.Requests.{joined, check, check_files, check_queues, check_both, listing, auditing, matching, explaining, run, run_wide, debug, testing}
+use Rattle.dp_program.specs.Requests.{joined, check, check_files, check_both_files, check_queues, check_both, listing, auditing, matching, explaining, run, run_wide, debug, debug_wide, testing}
 use Rattle.dp_cli.specs.CommandLine.{pbx_app, asked_of, options_of}
 use Rattle.dp_cli.specs.Refusals.{refusals_of}
 use Rattle.dp_wide.specs.Times.{moment_of, weekday_named}
@@ -129,6 +129,10 @@ debugged_verbose : asked_of (codes "pbx" ∷ codes "debug" ∷ codes "--break" �
 unfolding clap_on_literals asked_of
 debugged_verbose = refl
 
+debugged_wide : asked_of (codes "pbx" ∷ codes "debug" ∷ codes "--asterisk" ∷ codes "--break" ∷ codes "x" ∷ codes "a.conf" ∷ codes "b.script" ∷ []) ≡ Some (debug_wide (record { plan = codes "a.conf"; queues = None; second_plan = None; script = codes "b.script" }) (codes "x") false)
+unfolding clap_on_literals asked_of
+debugged_wide = refl
+
 tested : asked_of (codes "pbx" ∷ codes "test" ∷ codes "a.test" ∷ []) ≡ Some (testing (codes "a.test") false false)
 unfolding clap_on_literals asked_of
 tested = refl
@@ -233,6 +237,10 @@ all_numbers = refl
 with_clock : asked_of (codes "pbx" ∷ codes "check" ∷ codes "--asterisk" ∷ codes "--clock" ∷ codes "fri 2026-11-27 09:30" ∷ codes "a.conf" ∷ []) ≡ Some (check_files (codes "a.conf"))
 unfolding clap_on_literals asked_of moment_of weekday_named
 with_clock = refl
+
+both_with_asterisk : asked_of (codes "pbx" ∷ codes "check" ∷ codes "--asterisk" ∷ codes "--queues" ∷ codes "q.conf" ∷ codes "a.conf" ∷ []) ≡ Some (check_both_files (codes "a.conf") (codes "q.conf"))
+unfolding clap_on_literals asked_of
+both_with_asterisk = refl
 
 clock_is_told : (options_of (codes "pbx" ∷ codes "list" ∷ codes "--asterisk" ∷ codes "--clock" ∷ codes "fri 2026-11-27 09:30" ∷ codes "a.conf" ∷ [])).clock ≡ Some (codes "fri 2026-11-27 09:30")
 unfolding clap_on_literals options_of

@@ -685,6 +685,17 @@ ok 1 -> pause
 ok 1 -> ready main,s,3
 ran 1 main,s,3 Hangup -> ended
 ? 0
+$ pbx debug --asterisk --break main,s,2 hours.conf told.script
+ok
+started 1
+ran 1 main,s,1 GotoIfTime -> ready main,s,2
+break 3
+ran 1 main,s,2 VoiceMail -> pause
+ok 1 -> pause
+ok 1 -> ready main,s,3
+ran 1 main,s,3 Hangup -> ended
+end 7
+? 0
 $ pbx run --asterisk --verbose hours.conf ask.script
 started 1
 unknown 1 CLOCK -> ready main,s,1

@@ -140,6 +140,13 @@ sample/office/phones.conf:8: note Hint
 sample/office/outgoing.conf:4: note IgnorePat
 ok 7 contexts 41 entries
 ? 0
+$ pbx check --asterisk --queues sample/office/queues.conf sample/office/extensions.conf
+sample/office/phones.conf:5: note Hint
+sample/office/phones.conf:8: note Hint
+sample/office/outgoing.conf:4: note IgnorePat
+ok 7 contexts 41 entries
+ok 1 queues
+? 0
 $ pbx match --asterisk sample/office/extensions.conf phones 95551234567
 outgoing,_9XXXXXX.,1 Dial
 ? 0

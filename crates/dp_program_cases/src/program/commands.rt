@@ -31,6 +31,16 @@ check --asterisk @calls→0→ok 1 contexts 4 entries¶→
 check --asterisk @macros→0→ok 2 contexts 4 entries¶→
 check --asterisk @parted→1→@inner:1: note Hint¶@inner:2: fault 23 BadApplication¶@parted:4: fault 20 BadPriority¶@parted:5: fault 7 ReadFailed nowhere.conf¶3 faults¶→
 check --asterisk @folded→1→@first.part:1: fault 20 BadPriority¶@second.part:1: fault 20 BadPriority¶@folded:3: fault 7 ReadFailed *.none¶3 faults¶→
+# Queues are read with the files that they include, after the dialplan.
+check --asterisk --queues @help @calls→0→ok 1 contexts 4 entries¶ok 1 queues¶→
+check --asterisk --queues @tiered→0→ok 1 queues¶→
+check --asterisk --queues @mixed→1→@mixed:3: fault 30 BadStrategy¶1 faults¶→
+check @parted --queues @mixed --asterisk→1→@inner:1: note Hint¶@inner:2: fault 23 BadApplication¶@parted:4: fault 20 BadPriority¶@parted:5: fault 7 ReadFailed nowhere.conf¶@mixed:3: fault 30 BadStrategy¶4 faults¶→
+check --asterisk --queues @random @calls→0→@random:2: note Random¶ok 1 contexts 4 entries¶ok 1 queues¶→
+check --asterisk --queues @missing @calls→1→→fault 7 ReadFailed¶
+check --asterisk --queues @long @missing→1→→fault 7 ReadFailed¶
+check --asterisk --queues @long→1→→fault 8 TooLong¶
+check --asterisk --explain --queues @missing @calls→1→→fault 7 ReadFailed¶  @missing¶  a file could not be opened or read¶
 check --asterisk --explain @missing→1→→fault 7 ReadFailed¶  @missing¶  a file could not be opened or read¶
 check --asterisk @folder→1→→fault 7 ReadFailed¶
 check --asterisk @long→1→→fault 8 TooLong¶
@@ -396,16 +406,43 @@ run --asterisk --verbose --reload @pieces @changing @changing.script→0→start
 run --asterisk @parted @pieces.script→1→→@inner:2: fault 23 BadApplication¶@parted:4: fault 20 BadPriority¶@parted:5: fault 7 ReadFailed nowhere.conf¶
 run --asterisk @switched @pieces.script→1→→@switched:2: note Switch¶
 run --asterisk --reload @slash @pieces @pieces.script→1→→@slash:2: note CallerId¶
+# So are the queues, after the dialplan. If they have a fault, or a strategy that this program does not follow, nothing runs.
+run --asterisk --queues @tiered @callers @callers.script→0→started 1¶ran 1 main,s,1 Queue -> queued help¶ok 1 -> ready main,s,2¶ran 1 main,s,2 Hangup -> ended¶→
+run --asterisk --queues @mixed @callers @callers.script→1→→@mixed:3: fault 30 BadStrategy¶
+run --asterisk --queues @mixed @switched @callers.script→1→→@switched:2: note Switch¶
+run --asterisk --queues @random @callers @callers.script→1→→@random:2: note Random¶
+run --asterisk --queues @mixed --reload @slash @pieces @pieces.script→1→→@mixed:3: fault 30 BadStrategy¶
 # Faults of its files, and of its script.
 run --asterisk @first @missing→1→→fault 7 ReadFailed¶
 run --asterisk @missing @untold.script→1→→fault 7 ReadFailed¶
-run --asterisk --queues @faulty @first @untold.script→1→→fault 4 NoEquals line 2¶
+run --asterisk --queues @faulty @first @untold.script→1→→@faulty:2: fault 4 NoEquals¶
+run --asterisk --queues @missing @first @untold.script→1→→fault 7 ReadFailed¶
+run --asterisk --explain --queues @missing @first @untold.script→1→→fault 7 ReadFailed¶  @missing¶  a file could not be opened or read¶
 run --asterisk --reload @long @faulty @untold.script→1→→@faulty:2: fault 4 NoEquals¶
 run --asterisk --reload @long @first @untold.script→1→→fault 8 TooLong¶
 run --asterisk --reload @faulty @first @first.script→1→→@faulty:2: fault 4 NoEquals¶
 run --asterisk @first @untold.script→1→→fault 70 BadScript line 2¶
 run --asterisk --explain @faulty @untold.script→1→→@faulty:2: fault 4 NoEquals¶
 run --asterisk --explain --reload @missing @first @untold.script→1→→fault 7 ReadFailed¶  @missing¶  a file could not be opened or read¶
+";
+
+/// `debug --asterisk`.
+const ASTERISK_DEBUGS: &str = "\
+# A step that is not taken is no event, and neither is a line that shows a value. A pass is one.
+debug --asterisk --break main,s,1 @asking @asking.script→4→started 1¶unknown 1 DB(x) -> ready main,s,1¶end 1¶→
+debug --asterisk --break main,s,1 @asking @telling.script→0→started 1¶ok 1 -> ready main,s,1¶break 2¶ran 1 main,s,1 Set -> ready main,s,2¶ok 1 -> ready main,s,3¶ran 1 main,s,3 Hangup -> ended¶end 5¶→
+debug --break main,s,3 --verbose @asking --asterisk @telling.script→0→started 1¶ok 1 -> ready main,s,1¶  @asking:2 Set(A=5)¶ran 1 main,s,1 Set -> ready main,s,2¶ok 1 -> ready main,s,3¶break 4¶  @asking:4 Hangup()¶ran 1 main,s,3 Hangup -> ended¶end 5¶→
+debug --asterisk --break main,100,1 @first @refused.script→1→refused 40 NoChannel¶started 1¶break 2¶ran 1 main,100,1 NoOp -> ready main,100,2¶end 3¶→
+# The dialplans and the queues are read with the files that they include.
+debug --asterisk --break main,100,1 @pieces @pieces.script→0→started 1¶ran 1 main,s,1 Goto -> ready main,100,1¶break 2¶ran 1 main,100,1 NoOp -> ready main,100,2¶ran 1 main,100,2 Hangup -> ended¶end 4¶→
+debug --asterisk --queues @tiered --break main,s,1 @callers @callers.script→0→started 1¶break 1¶ran 1 main,s,1 Queue -> queued help¶ok 1 -> ready main,s,2¶ran 1 main,s,2 Hangup -> ended¶end 4¶→
+debug --asterisk --verbose --reload @pieces --break main,100,2 @changing @changing.script→0→started 1¶  @changing:5 NoOp(a)¶ran 1 main,100,1 NoOp -> ready main,100,2¶ok¶break 3¶  @inner.piece:4 Hangup()¶ran 1 main,100,2 Hangup -> ended¶end 4¶→
+# Faults of its files, of its break, and of its script.
+debug --asterisk --break x @switched @pieces.script→1→→@switched:2: note Switch¶
+debug --asterisk --queues @mixed --break x @callers @callers.script→1→→@mixed:3: fault 30 BadStrategy¶
+debug --asterisk --break x @first @untold.script→1→→fault 71 BadBreak¶
+debug --asterisk --break main,s,1 @first @untold.script→1→→fault 70 BadScript line 2¶
+debug --asterisk --explain --break main,s,1 @first @missing→1→→fault 7 ReadFailed¶  @missing¶  a file could not be opened or read¶
 ";
 
 /// `test`.
@@ -549,7 +586,7 @@ check @empty←[main]¶exten => 100,1,NoOp(hello)¶exten => 100,2,Goto(200,1)¶e
 ";
 
 /// All the tables.
-const TABLES: [&str; 15] = [
+const TABLES: [&str; 16] = [
     CHECKS,
     LISTS,
     MATCHES,
@@ -559,6 +596,7 @@ const TABLES: [&str; 15] = [
     EXPLAINED,
     RUNS,
     ASTERISK_RUNS,
+    ASTERISK_DEBUGS,
     TESTS,
     VERBOSE_RUNS,
     THREAD_RUNS,

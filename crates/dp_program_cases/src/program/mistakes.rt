@@ -16,7 +16,6 @@ check --→the following required arguments were not provided:¶  <FILE>→pbx c
 check --queues @help --queues @help→the argument '--queues <QUEUES>' cannot be used multiple times→pbx check [OPTIONS] [FILE]
 check --queues @help a b→unexpected argument 'b' found→pbx check [OPTIONS] [FILE]
 check --asterisk→the following required arguments were not provided:¶  <FILE>→pbx check <FILE>
-check --asterisk --queues @help @usual→the argument '--asterisk' cannot be used with '--queues <QUEUES>'→pbx check [OPTIONS] [FILE]
 check @usual more→unexpected argument 'more' found→pbx check [OPTIONS] [FILE]
 check --loud x→unexpected argument '--loud' found¶¶  tip: to pass '--loud' as a value, use '-- --loud'→pbx check [OPTIONS] [FILE]
 check --reload @usual @usual→unexpected argument '--reload' found¶¶  tip: to pass '--reload' as a value, use '-- --reload'→pbx check [OPTIONS] [FILE]
@@ -69,6 +68,8 @@ run --threads 0 --asterisk @missing @missing→the argument '--asterisk' cannot 
 run --asterisk @missing→the following required arguments were not provided:¶  <SCRIPT>→pbx run --asterisk <FILE> <SCRIPT>
 run --threads 2 @missing→the following required arguments were not provided:¶  <SCRIPT>→pbx run --threads <N> <FILE> <SCRIPT>
 debug @missing @missing→the following required arguments were not provided:¶  --break <CONTEXT,EXTEN,PRIORITY>→pbx debug --break <CONTEXT,EXTEN,PRIORITY> <FILE> <SCRIPT>
+debug --clock friday --break main,s,1 a b→the following required arguments were not provided:¶  --asterisk→pbx debug [OPTIONS] --break <CONTEXT,EXTEN,PRIORITY> <FILE> <SCRIPT>
+debug --asterisk --clock friday --break main,s,1 a b→invalid value 'friday' for '--clock <MOMENT>': a moment is written like 'fri 2026-11-27 09:30'→pbx debug [OPTIONS] --break <CONTEXT,EXTEN,PRIORITY> <FILE> <SCRIPT>
 debug --break main,s,1 a b c→unexpected argument 'c' found→pbx debug [OPTIONS] --break <CONTEXT,EXTEN,PRIORITY> <FILE> <SCRIPT>
 test→the following required arguments were not provided:¶  <FILE>→pbx test <FILE>
 test a b→unexpected argument 'b' found→pbx test [OPTIONS] <FILE>
@@ -164,9 +165,9 @@ Prints `note LINE KIND` for each line that is dropped and for each include that 
 --queues a line with the number of queues follows; without FILE it is the only line. If a file does not load, its first fault
 is printed on standard error with its line, and the status is 1.
 
-With --asterisk the file is read as Asterisk reads it: with the files that it includes, templates, block comments, and
-priorities such as `n+1`. All notes and all faults are printed, each with its file and line. The last line has the counts, or
-it is `N faults` with status 1.
+With --asterisk the files are read as Asterisk reads them: with the files that they include, templates, block comments, and
+priorities such as `n+1`. All notes and all faults are printed, each with its file and line, those of the dialplan before those of
+the queues. Then come the counts, or `N faults` with status 1.
 
 Example:
   $ pbx check extensions.conf
@@ -378,11 +379,11 @@ each thread gives its own in order; `show` is skipped. One line is printed: `set
 With --verbose the line `  FILE:LINE APP(ARGS)` is printed above the line of each step that runs an entry, and the text of
 `pbx explain` above the line of each refusal. It has no effect with --threads.
 
-With --asterisk the files that the dialplans include are read, and a run has the applications and functions that people use. It never
-guesses: if a step depends on something unknown, it prints `unknown CHANNEL WHAT -> STATE` and skips the remaining steps of that line.
-The status is then 4, unless an event was refused. If a line of a dialplan has a fault, or something that this program cannot follow
-(`switch`, an extension for one caller, `autofallthrough=no`, `#exec`), nothing runs: each such line is printed on standard error, with
-status 1. These lines of a script say what would otherwise be unknown:
+With --asterisk the files that the dialplans and the queues include are read, and a run has the applications and functions that people
+use. It never guesses: if a step depends on something unknown, it prints `unknown CHANNEL WHAT -> STATE` and skips the remaining steps
+of that line. The status is then 4, unless an event was refused. If a line of a dialplan or of the queues has a fault, or something that
+this program cannot follow (`switch`, an extension for one caller, `autofallthrough=no`, `#exec`, `strategy=random`), nothing runs: each
+such line is printed on standard error, with status 1. These lines of a script say what would otherwise be unknown, or show it:
   let CHANNEL NAME=VALUE         a variable of the channel, or what `Set` would set
   global NAME=VALUE              a global variable
   assume NAME ..                 values that nothing has set in these functions, such as DB, are empty
@@ -390,6 +391,7 @@ status 1. These lines of a script say what would otherwise be unknown:
   go CHANNEL                     what the channel waits for ends
   redirect CHANNEL CONTEXT EXTEN [PRIORITY]   the channel goes to a place
   pass CHANNEL                   the channel skips an entry that is unknown
+  show CHANNEL NAME(ARGUMENT)    prints the value of a function
 --asterisk cannot be used with --threads.
 
 Example:
@@ -413,6 +415,8 @@ Arguments:
   <SCRIPT>  The script of events
 
 Options:
+      --asterisk                        Use the applications and functions that people use, take facts from the script, and stop at anything unknown
+      --clock <MOMENT>                  With --asterisk: the moment by which includes with times are read, like 'fri 2026-11-27 09:30'
       --queues <QUEUES>                 The queues, such as queues.conf; by default there are none
       --reload <DIALPLAN>               The second dialplan, which replaces the first at a line `reload` of the script
       --break <CONTEXT,EXTEN,PRIORITY>  The place where the run halts
@@ -423,7 +427,7 @@ Options:
 Runs the script as `run` does, but skips `show`. Before a step of a channel that is ready at the place of the break it prints
 `break TAKEN`, and goes on; at the end it prints `end TAKEN`. TAKEN is the number of events of the script that were taken. The context
 and the extension are compared byte by byte with those of the channel: a pattern or an included context is not a place. With --verbose
-it prints more, as `run` does.
+it prints more, and with --asterisk it knows more and stops at anything unknown, as `run` does.
 
 Example:
   $ cat calls.script

@@ -1,0 +1,17 @@
+use Rattle.std.proofs.lemmas.Result.{err_from_is_err_and}
+use Rattle.dp_program.specs.Texts.{paths_of, sources_of, texts_of}
+use Rattle.dp_program.specs.WideRuns.{places_of}
+use Rattle.dp_program.proofs.ServesLemmas.{debug_wide_verbose_read, debug_wide_verbose_refused}
+use Rattle.dp_program.proofs.wide_debugs.serve_debug_wide_verbose.Goals as goal
+
+pub returns-in_err-texts-clause-serves : goal.returns-in_err-texts-clause-serves
+returns-in_err-texts-clause-serves g c =
+    let p = err_from_is_err_and c.from_residual.result c.from_residual.ensures.1 in
+    rw (p.1, p.2) (debug_wide_verbose_refused (paths_of c.args.run.files.now) (places_of c.args.places) (sources_of (g.F.ReadFiles.source_at c.args.files.now) (paths_of c.args.run.files.now)) c.args.run.held.now (g.W.WriteTold.contents c.args.output.now) _ c.in_err-texts.ensures.read)
+
+-- the run is of the texts that were read
+pub returns-clause-serves : goal.returns-clause-serves
+returns-clause-serves g c =
+    debug_wide_verbose_read (paths_of c.args.run.files.now) (places_of c.args.places) (sources_of (g.F.ReadFiles.source_at c.args.files.now) (paths_of c.args.run.files.now)) c.args.run.held.now (g.W.WriteTold.contents c.args.output.now)
+    (g.W.WriteTold.contents c.debug_texts_verbosely-answered.new.output) (texts_of c.in_ok-texts.texts) c.debug_texts_verbosely-answered.result c.placed_in_run.result c.in_ok-texts.ensures.read c.placed_in_run.ensures.same
+    c.debug_texts_verbosely-answered.ensures.debugs c.placed_in_run.ensures.stands
