@@ -10,7 +10,7 @@ use Rattle.dp_conf.specs.Words.{same_text}
 use Rattle.dp_commands.specs.Script.{number_within}
 use Rattle.dp_conf.specs.Numbers.{most_priority}
 use Rattle.dp_program.specs.Entries.{fault_named, fault_numbered}
-use Rattle.dp_program.specs.Requests.{OptionsOf, RequestOf, joined, check, check_files, check_queue_files, check_both_files, check_queues, check_both, listing, listing_files, auditing, auditing_by, matching, matching_files, explaining, run, run_wide, debug, debug_wide, testing, reaching, LookupOf, QuestionOf}
+use Rattle.dp_program.specs.Requests.{OptionsOf, RequestOf, joined, check, check_files, check_queue_files, check_both_files, check_queues, check_both, listing, listing_files, auditing, auditing_by, matching, matching_files, explaining, run, run_wide, debug, debug_wide, testing, comparing, comparing_files, reaching, LookupOf, QuestionOf}
 use Rattle.dp_program.specs.Texts.{OfRun}
 use Rattle.dp_wide.specs.Times.{moment_of}
 use Rattle.dp_wide_runs.specs.Kinds.{KindsTold, all, only, except, are_kinds}
@@ -100,6 +100,11 @@ with_kinds app =
 abbrev pub audit_app : App
 audit_app = with_explain (with_rule (with_kinds (with_asterisk (new_app (codes "audit")))) file_word)
 
+-- `diff [--asterisk [--clock MOMENT]] [--explain] OLD NEW`
+abbrev pub diff_app : App
+diff_app =
+    with_explain (with_rule (with_rule (with_asterisk (new_app (codes "diff"))) (required_word (codes "OLD"))) (required_word (codes "NEW")))
+
 -- `run [--asterisk [--clock MOMENT]] [--queues QUEUES] [--reload DIALPLAN] [--threads N] [--verbose] [--explain] FILE SCRIPT`
 abbrev pub run_app : App
 run_app =
@@ -141,7 +146,8 @@ bare_app = with_version (new_app (codes "pbx"))
 abbrev pub pbx_app : App
 pbx_app =
     with_subcommand (with_subcommand (with_subcommand (with_subcommand (with_subcommand (with_subcommand (with_subcommand (with_subcommand (with_subcommand
-    bare_app check_app.top) list_app.top) match_app.top) run_app.top) debug_app.top) test_app.top) audit_app.top) reach_app.top) explain_app.top
+    (with_subcommand bare_app check_app.top) list_app.top) match_app.top) run_app.top) debug_app.top) test_app.top) audit_app.top) diff_app.top)
+    reach_app.top) explain_app.top
 
 -- the priority in a word: digits that write a number from 1 to the greatest priority
 abbrev pub priority_in : List ℕ → Option ℕ
@@ -309,6 +315,16 @@ abbrev pub test_asked : List Row → Option RequestOf
 test_asked words =
     option_map (λ file. testing file (is_set (codes "trace") words) (is_set (codes "cover") words)) (first_of (codes "FILE") words)
 
+-- the request of `diff` on two files, given whether it reads the files that the dialplans include
+abbrev pub diff_of : Bool → List ℕ → List ℕ → RequestOf
+diff_of false before after = comparing before after
+diff_of true before after = comparing_files before after
+
+-- the request of `diff`
+abbrev pub diff_asked : List Row → Option RequestOf
+diff_asked words =
+    option_and_then (λ before. option_map (diff_of (is_set (codes "asterisk") words) before) (first_of (codes "NEW") words)) (first_of (codes "OLD") words)
+
 -- the question of `reach` on a file and a context, given its other words
 abbrev pub reach_at : List Row → List ℕ → List ℕ → QuestionOf
 reach_at words file context = record {
@@ -339,6 +355,7 @@ command_asked name words =
     else if same_text name (codes "debug") then debug_asked words
     else if same_text name (codes "test") then test_asked words
     else if same_text name (codes "audit") then audit_asked words
+    else if same_text name (codes "diff") then diff_asked words
     else if same_text name (codes "reach") then reach_asked words
     else if same_text name (codes "explain") then explain_asked words
     else None

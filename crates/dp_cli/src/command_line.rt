@@ -26,7 +26,7 @@ use clap::error::ErrorKind;
 use clap::{ArgMatches, Command, Error};
 use dp_commands::number_within;
 use dp_plan::{MOST_PRIORITY, NoMemory, Priority};
-use dp_program::{FaultNumber, Lookup, Options, ReachQuestion, Request, RunFiles};
+use dp_program::{DiffFiles, FaultNumber, Lookup, Options, ReachQuestion, Request, RunFiles};
 use std::alloc::Global;
 
 /// What a command line asks for.
@@ -374,6 +374,27 @@ fn test_request<'a>(given: &ArgMatches<'a>) -> Option<Request<'a>>
     })
 }
 
+/// The request of `diff` on two files, given whether it reads the files that the dialplans include.
+fn diff_of<'a>(includes: bool, files: DiffFiles<'a>) -> Request<'a>
+    ensures { request_asked result ≡ spec.diff_of includes files.entry.before.now files.entry.after.now }
+{
+    if includes {
+        Request::DiffIncluding { files }
+    } else {
+        Request::Diff { files }
+    }
+}
+
+/// The request of `diff`.
+fn diff_request<'a>(given: &ArgMatches<'a>) -> Option<Request<'a>>
+    ensures { option_map request_asked result ≡ spec.diff_asked (rows_of (found_of given.now)) }
+{
+    let before = word_of(given, "OLD")?;
+    let after = word_of(given, "NEW")?;
+    let files = DiffFiles { before, after };
+    Some(diff_of(is_set(given, "asterisk"), files))
+}
+
 /// The request of `reach`.
 fn reach_request<'a>(given: &ArgMatches<'a>) -> Option<Request<'a>>
     ensures { option_map request_asked result ≡ spec.reach_asked (rows_of (found_of given.now)) }
@@ -408,6 +429,7 @@ fn command_request<'a>(
         "debug" => Ok(debug_request(given)),
         "test" => Ok(test_request(given)),
         "audit" => audit_request(alloc, given),
+        "diff" => Ok(diff_request(given)),
         "reach" => Ok(reach_request(given)),
         "explain" => explain_request(alloc, given),
         _ => Ok(None),

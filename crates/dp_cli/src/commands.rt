@@ -8,8 +8,8 @@ ghost use Rattle.dp_cli.specs.CommandLine as spec;
 ghost use Rattle.dp_cli.specs.steps.Made.{Makes};
 
 use crate::help::{
-    AUDIT_NOTES, CHECK_NOTES, DEBUG_NOTES, EXPLAIN_NOTES, LIST_NOTES, MATCH_NOTES, PBX_NOTES,
-    REACH_NOTES, RUN_NOTES, TEST_NOTES, VERSION,
+    AUDIT_NOTES, CHECK_NOTES, DEBUG_NOTES, DIFF_NOTES, EXPLAIN_NOTES, LIST_NOTES, MATCH_NOTES,
+    PBX_NOTES, REACH_NOTES, RUN_NOTES, TEST_NOTES, VERSION,
 };
 use clap::{Arg, ArgAction, Command};
 use dp_plan::NoMemory;
@@ -304,6 +304,28 @@ pub(crate) fn audit_command<'a>(alloc: Global) -> Result<Command<'a>, NoMemory>
     with_explain(alloc, audit)
 }
 
+/// The command `diff`.
+pub(crate) fn diff_command<'a>(alloc: Global) -> Result<Command<'a>, NoMemory>
+    ensures { Makes spec.diff_app result }
+{
+    let diff = command_of(
+        alloc,
+        "diff",
+        "Print what answers differently in two dialplans",
+        DIFF_NOTES,
+    );
+    let diff = with_asterisk(
+        alloc,
+        diff,
+        "Read included files, templates and block comments",
+    );
+    let before = required_word(alloc, "OLD", "The dialplan before a change");
+    let diff = with_word(diff, before);
+    let after = required_word(alloc, "NEW", "The dialplan after it");
+    let diff = with_word(diff, after);
+    with_explain(alloc, diff)
+}
+
 /// The command `list`.
 pub(crate) fn list_command<'a>(alloc: Global) -> Result<Command<'a>, NoMemory>
     ensures { Makes spec.list_app result }
@@ -554,6 +576,7 @@ pub(crate) fn pbx_command<'a>(alloc: Global) -> Result<Command<'a>, NoMemory>
     let pbx = with_command(pbx, debug_command(alloc));
     let pbx = with_command(pbx, test_command(alloc));
     let pbx = with_command(pbx, audit_command(alloc));
+    let pbx = with_command(pbx, diff_command(alloc));
     let pbx = with_command(pbx, reach_command(alloc));
     with_command(pbx, explain_command(alloc))
 }

@@ -16,12 +16,13 @@ Examples:
   pbx debug --break main,100,2 extensions.conf calls.script
   pbx test office.test
   pbx audit extensions.conf
+  pbx diff extensions.conf new.conf
   pbx reach extensions.conf from-carrier --to international
   pbx explain 20
   pbx < joined.conf
 
-Status: 0; 1 if a fault was printed, an event was refused, a test failed, an audit found something or a context may be reached; 2 if
-the command line was refused; 4 if a run with --asterisk stopped because something is unknown.";
+Status: 0; 1 if a fault was printed, an event was refused, a test failed, an audit or a comparison found something or a context may be
+reached; 2 if the command line was refused; 4 if a run with --asterisk stopped because something is unknown.";
 
 /// What the help of `check` says below its words.
 pub(crate) const CHECK_NOTES: &str = "\
@@ -116,6 +117,20 @@ Example:
   Gap sales,s,1 2
   NoApplication sales,s,3 Voicemail
   ok 2 findings";
+
+/// What the help of `diff` says below its words.
+pub(crate) const DIFF_NOTES: &str = "\
+Prints what answers differently in NEW than in OLD: for each context, name and priority the entry of OLD after `-`, and that of NEW
+after `+`, as `CONTEXT,NAME,PRIORITY APPLICATION(ARGUMENTS)`. A context answers with its own entries and then with those of its
+includes. The spelling of a name and a label make no difference. The status is 1 if there is a difference.
+
+With --asterisk included files, templates and block comments are read too. If lines have faults, each fault is printed on standard
+error with its file and line, and the status is 1.
+
+Example:
+  $ pbx diff extensions.conf new.conf
+  - main,100,2 Hangup()
+  + main,100,2 Playback(goodbye)";
 
 /// What the help of `reach` says below its words.
 pub(crate) const REACH_NOTES: &str = "\

@@ -1,5 +1,6 @@
 mod ChecksLemmas
 mod DialplanLemmas
+mod DiffLemmas
 mod EntriesLemmas
 mod HintsLemmas
 mod NearestLemmas

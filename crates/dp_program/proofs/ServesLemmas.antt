@@ -24,9 +24,9 @@ use Rattle.dp_program.specs.Faulted.{StandsIn, in_none, nowhere, place_by, place
 use Rattle.dp_program.specs.Files.{Source, Reads}
 use Rattle.dp_program.specs.Hints.{Tells, audit_hint_of, match_hint_of, status_in}
 use Rattle.dp_program.specs.Reaches.{Reaches, place_of_files}
-use Rattle.dp_program.specs.Requests.{OptionsOf, RequestOf, LookupOf, QuestionOf, joined, check, check_files, check_queue_files, check_both_files, check_queues, check_both, listing, listing_files, auditing, auditing_by, matching, matching_files, explaining, run, run_wide, debug, debug_wide, testing, reaching}
+use Rattle.dp_program.specs.Requests.{OptionsOf, RequestOf, LookupOf, QuestionOf, joined, check, check_files, check_queue_files, check_both_files, check_queues, check_both, listing, listing_files, auditing, auditing_by, matching, matching_files, explaining, run, run_wide, debug, debug_wide, testing, comparing, comparing_files, reaching}
 use Rattle.dp_program.specs.Entries.{explanation_of}
-use Rattle.dp_program.specs.Serves.{AuditsAsked, AuditsFile, AuditsFileBy, AuditsText, ChecksBoth, DebugsAsked, DebugsFiles, DebugsFilesVerbosely, DebugsVerbosely, ListsText, LooksUp, LooksUpText, PlacesOf, ReportsOn, Runs, RunsBeside, RunsPlan, RunsPlans, RunsSecond, RunsAsked, RunsFiles, RunsFilesVerbosely, RunsFilesWide, RunsVerbosely, RunsWide, Serves, SharesSome, debug_of_texts, files_read, in_force_at, in_force_at_first, look_up, places_read, run_of_texts, wide_run_of_texts, RunsFilesWideVerbosely, RunsTextsWideVerbosely, RunsWideAsked, RunsWideBy, RunsWideVerbosely, RunManner, RunsQueues, RunsWithQueues, DebugsFilesWide, DebugsFilesWideVerbosely, DebugsTextsWideVerbosely, DebugsWide, DebugsWideVerbosely, debugging, running, wide_debug_of_texts}
+use Rattle.dp_program.specs.Serves.{AuditsAsked, AuditsFile, AuditsFileBy, AuditsText, ChecksBoth, DebugsAsked, DebugsFiles, DebugsFilesVerbosely, DebugsVerbosely, ListsText, LooksUp, LooksUpText, PlacesOf, ReportsOn, Runs, RunsBeside, RunsPlan, RunsPlans, RunsSecond, RunsAsked, RunsFiles, RunsFilesVerbosely, RunsFilesWide, RunsVerbosely, RunsWide, Serves, SharesSome, debug_of_texts, files_read, in_force_at, in_force_at_first, look_up, places_read, run_of_texts, wide_run_of_texts, RunsFilesWideVerbosely, RunsTextsWideVerbosely, RunsWideAsked, RunsWideBy, RunsWideVerbosely, RunManner, RunsQueues, RunsWithQueues, DebugsFilesWide, DebugsFilesWideVerbosely, DebugsTextsWideVerbosely, DebugsWide, DebugsWideVerbosely, DiffsAfter, DiffsTexts, debugging, running, wide_debug_of_texts}
 use Rattle.dp_program.specs.TestFiles.{manner_of}
 use Rattle.dp_program.specs.Texts.{OfRun, ReadsTexts, all_texts, some_text, sources_of}
 use Rattle.dp_program.specs.declared.dialplans.PlanUse.TheVariants.{Report, LookUp, Run as to_run}
@@ -39,6 +39,7 @@ use Rattle.dp_wide_runs.specs.Kinds.{ChoiceOf}
 use Rattle.dp_wide_runs.specs.Runs.{WideRun}
 use Rattle.dp_wide_runs.specs.WideAudits.{WritesChoice, plan_of}
 use Rattle.dp_program.proofs.DialplanLemmas.{dialplan_lacks}
+use Rattle.dp_program.proofs.DiffLemmas.{diffs_lack}
 use Rattle.dp_program.proofs.QueueLemmas.{queues_lack}
 use Rattle.dp_program.proofs.TestLemmas.{tests_lack}
 use Rattle.dp_program.proofs.ReadsLemmas.{IsUnread, by_reason, Reads-any, Reads-weaker, ReadsSome-any, ReadsTexts-any, ReadsTexts-weaker}
@@ -660,6 +661,16 @@ both_check_refused path queues_path old queues too_long plan is =
     ((Appends-nil old, refl), refl)
 both_check_refused path queues_path old queues no_memory plan is = both_check_lacks path queues_path old plan queues
 
+pub diff_texts_lack : (files : List ℕ → Source) (before_path after_path : List ℕ) (old : Option (List ℕ)) (before after : PlanTextOf)
+    → DiffsTexts files before_path after_path old old before after (Err (nowhere NoMemory))
+diff_texts_lack files before_path after_path old before after =
+    (diffs_lack (with_text (with_text files before_path before.text) after_path after.text) before_path after_path old, tt)
+
+pub diff_after_lacks : (clock : Option (List ℕ)) (files : List ℕ → Source) (before_path after_path : List ℕ) (old : Option (List ℕ)) (before : PlanTextOf)
+    → DiffsAfter clock files before_path after_path old old before (Err (nowhere NoMemory))
+diff_after_lacks clock files before_path after_path old before =
+    dialplan_lacks (DiffsTexts files before_path after_path old old before) after_path old (diff_texts_lack files before_path after_path old before) Report clock files
+
 -- memory may run out before a request does anything
 pub Serves-lacks : (files : List ℕ → Source) (input : Source) (want : RequestOf) (options : OptionsOf) (old : Option (List ℕ)) → Serves files input want options old old (Err (nowhere NoMemory))
 Serves-lacks files input joined options old = ((Reads-any input _ (λ text. writes_lacks old _), refl), tt)
@@ -703,6 +714,9 @@ Serves-lacks files input (debug_wide paths held is_verbose) options old =
     dialplan_lacks (RunsQueues options.clock paths files (debugging held is_verbose) old old) paths.plan old
     (queues_plan_lacks options.clock paths files (debugging held is_verbose) old) to_run options.clock files
 Serves-lacks files input (testing file is_traced is_covered) options old = Reads-any (files file) _ (tests_lack (manner_of is_traced is_covered) files file old)
+Serves-lacks files input (comparing before after) options old = (diffs_lack files before after old, tt)
+Serves-lacks files input (comparing_files before after) options old =
+    dialplan_lacks (DiffsAfter options.clock files before after old old) before old (diff_after_lacks options.clock files before after old) Report options.clock files
 Serves-lacks files input (reaching question) options old =
     Reads-any (files question.file) _ (λ plan. ReadsSome-any (option_map files question.queues) _ (λ queues. (
       reaches_lacks question options.explains old (plan >>= λ plan. some_text queues >>= λ queues. files_of plan queues),

@@ -1,5 +1,6 @@
 pub mod Checks
 pub mod Dialplans
+pub mod Diffs
 pub mod Entries
 pub mod Faulted
 pub mod Files

@@ -8,7 +8,7 @@ use Rattle.dp_program.specs.declared.options.Options.{Options}
 use Rattle.dp_program.specs.declared.request.Lookup.{Lookup}
 use Rattle.dp_program.specs.declared.request.ReachQuestion.{ReachQuestion}
 use Rattle.dp_program.specs.declared.request.Request.{Request}
-use Rattle.dp_program.specs.declared.request.Request.TheVariants.{Joined, Check, CheckIncluding, CheckQueuesIncluding, CheckBothIncluding, CheckQueues, CheckBoth, Listing, ListIncluding, Audit, AuditBy, Match, MatchIncluding, Explain, Run, RunWide, Debug, DebugWide, Test, Reach}
+use Rattle.dp_program.specs.declared.request.Request.TheVariants.{Joined, Check, CheckIncluding, CheckQueuesIncluding, CheckBothIncluding, CheckQueues, CheckBoth, Listing, ListIncluding, Audit, AuditBy, Match, MatchIncluding, Explain, Run, RunWide, Debug, DebugWide, Test, Diff, DiffIncluding, Reach}
 
 -- what is looked up in the dialplan of a file, with its texts
 pub record LookupOf : Type 0 where
@@ -71,6 +71,8 @@ pub data RequestOf : Type 0 where
   debug : OfRun (List ℕ) → List ℕ → Bool → RequestOf
   debug_wide : OfRun (List ℕ) → List ℕ → Bool → RequestOf
   testing : List ℕ → Bool → Bool → RequestOf
+  comparing : List ℕ → List ℕ → RequestOf
+  comparing_files : List ℕ → List ℕ → RequestOf
   reaching : QuestionOf → RequestOf
 
 -- what a request asks for
@@ -94,4 +96,6 @@ request_asked (RunWide files is_verbose) = run_wide (paths_of files) is_verbose
 request_asked (Debug files held is_verbose) = debug (paths_of files) held.now is_verbose
 request_asked (DebugWide files held is_verbose) = debug_wide (paths_of files) held.now is_verbose
 request_asked (Test file is_traced is_covered) = testing file.now is_traced is_covered
+request_asked (Diff files) = comparing files.before.now files.after.now
+request_asked (DiffIncluding files) = comparing_files files.before.now files.after.now
 request_asked (Reach question) = reaching (question_of question)

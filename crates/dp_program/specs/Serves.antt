@@ -15,6 +15,7 @@ use Rattle.dp_commands.specs.Verbose.{InForce, WritesVerbose, WritesVerboseDebug
 use Rattle.dp_commands.specs.declared.fault.PbxFault.{PbxFault}
 use Rattle.dp_program.specs.Checks.{both_report, check_by, queues_report}
 use Rattle.dp_program.specs.Dialplans.{PlanTextOf, ReadsDialplan, moment_in, places_in, with_text}
+use Rattle.dp_program.specs.Diffs.{DiffsFiles}
 use Rattle.dp_program.specs.Entries.{entry_of, explanation_of}
 use Rattle.dp_program.specs.Faulted.{StandsIn, in_none, place_of_report, place_of_run, place_of_two, without_place}
 use Rattle.dp_program.specs.Files.{Source, Reads, has_read_failed}
@@ -22,7 +23,7 @@ use Rattle.dp_program.specs.Hints.{Tells, TellsNothing, audit_hint_of, match_hin
 use Rattle.dp_program.specs.Including.{ChecksBothIncluding, ChecksIncluding, ChecksQueuesIncluding}
 use Rattle.dp_program.specs.QueueTexts.{ReadsQueues}
 use Rattle.dp_program.specs.Reaches.{ReachesFiles}
-use Rattle.dp_program.specs.Requests.{OptionsOf, RequestOf, LookupOf, joined, check, check_files, check_queue_files, check_both_files, check_queues, check_both, listing, listing_files, auditing, auditing_by, matching, matching_files, explaining, run, run_wide, debug, debug_wide, testing, reaching}
+use Rattle.dp_program.specs.Requests.{OptionsOf, RequestOf, LookupOf, joined, check, check_files, check_queue_files, check_both_files, check_queues, check_both, listing, listing_files, auditing, auditing_by, matching, matching_files, explaining, run, run_wide, debug, debug_wide, testing, comparing, comparing_files, reaching}
 use Rattle.dp_program.specs.TestFiles.{TestsFile, manner_of}
 use Rattle.dp_program.specs.Texts.{OfRun, ReadsTexts, all_texts, sources_of}
 use Rattle.dp_program.specs.declared.dialplans.PlanUse.TheVariants.{Report, LookUp, Run as to_run}
@@ -321,6 +322,21 @@ abbrev pub RunsIncluding : Option (List ℕ) → OfRun (List ℕ) → (List ℕ 
 RunsIncluding clock paths files manner old new answered =
     ReadsDialplan to_run clock files paths.plan (RunsQueues clock paths files manner old new) old new answered
 
+-- the output and result of a comparison of the dialplans at two paths, given their texts
+abbrev pub DiffsTexts : (List ℕ → Source) → List ℕ → List ℕ → Option (List ℕ) → Option (List ℕ) → PlanTextOf → PlanTextOf → Result Served Faulted → Type 0
+DiffsTexts files before_path after_path old new before after answered =
+    Quietly (DiffsFiles (with_text (with_text files before_path before.text) after_path after.text) before_path after_path old new) answered
+
+-- the same, given the text of the first one
+abbrev pub DiffsAfter : Option (List ℕ) → (List ℕ → Source) → List ℕ → List ℕ → Option (List ℕ) → Option (List ℕ) → PlanTextOf → Result Served Faulted → Type 0
+DiffsAfter clock files before_path after_path old new before answered =
+    ReadsDialplan Report clock files after_path (DiffsTexts files before_path after_path old new before) old new answered
+
+-- the same for the dialplans at two paths and the files that they include
+abbrev pub DiffsIncluding : Option (List ℕ) → (List ℕ → Source) → List ℕ → List ℕ → Option (List ℕ) → Option (List ℕ) → Result Served Faulted → Type 0
+DiffsIncluding clock files before_path after_path old new answered =
+    ReadsDialplan Report clock files before_path (DiffsAfter clock files before_path after_path old new) old new answered
+
 -- the output and result of a request, given the files, the input, and its options
 abbrev pub Serves : (List ℕ → Source) → Source → RequestOf → OptionsOf → Option (List ℕ) → Option (List ℕ) → Result Served Faulted → Type 0
 Serves files input joined options old new answered = Quietly (RunsJoined input old new) answered
@@ -348,6 +364,8 @@ Serves files input (debug_wide paths held is_verbose) options old new answered =
     RunsIncluding options.clock paths files (debugging held is_verbose) old new answered
 Serves files input (testing file is_traced is_covered) options old new answered =
     TestsFile (manner_of is_traced is_covered) files file old new answered
+Serves files input (comparing before after) options old new answered = Quietly (DiffsFiles files before after old new) answered
+Serves files input (comparing_files before after) options old new answered = DiffsIncluding options.clock files before after old new answered
 Serves files input (reaching question) options old new answered = ReachesFiles files question options.explains old new answered
 
 -- whether a read of the input failed, given the result: only a request without a command reads the input
@@ -371,4 +389,6 @@ fails_on_input (run_wide paths is_verbose) result = false
 fails_on_input (debug paths held is_verbose) result = false
 fails_on_input (debug_wide paths held is_verbose) result = false
 fails_on_input (testing file is_traced is_covered) result = false
+fails_on_input (comparing before after) result = false
+fails_on_input (comparing_files before after) result = false
 fails_on_input (reaching question) result = false

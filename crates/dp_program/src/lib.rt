@@ -3,6 +3,7 @@
 
 mod checks;
 mod dialplans;
+mod diffs;
 mod entries;
 mod fault;
 mod faulted;
@@ -37,4 +38,4 @@ pub use files::ReadFiles;
 pub use hints::Served;
 pub use options::Options;
 pub use program::serve;
-pub use request::{CheckFiles, Lookup, ReachQuestion, Request, RunFiles};
+pub use request::{CheckFiles, DiffFiles, Lookup, ReachQuestion, Request, RunFiles};

@@ -8,6 +8,7 @@ ghost use Rattle.dp_program.specs.Serves as spec;
 
 use crate::checks::{serve_check, serve_check_both, serve_check_queues};
 use crate::dialplans::moment_in;
+use crate::diffs::{serve_diff, serve_diff_including};
 use crate::faulted::Faulted;
 use crate::files::ReadFiles;
 use crate::hints::{Served, without_hint};
@@ -185,6 +186,12 @@ pub fn serve<'a, F: ReadFiles, I: ReadTold, W: WriteTold, R: Threads + Wait + Sy
                 covers: *is_covered,
             };
             serve_test(files, alloc, manner, file, output)
+        }
+        Request::Diff { files: paths } => {
+            without_hint(alloc, serve_diff(files, alloc, paths, output))
+        }
+        Request::DiffIncluding { files: paths } => {
+            serve_diff_including(files, alloc, paths, options.clock, output)
         }
         Request::Reach { question } => serve_reach(
             files,

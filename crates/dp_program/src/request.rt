@@ -26,6 +26,15 @@ pub struct CheckFiles<'a> {
     pub queues: &'a str,
 }
 
+/// The files of two dialplans that are compared, by their paths.
+#[derive(Clone, Copy, Debug, PartialEq, Eq)]
+pub struct DiffFiles<'a> {
+    /// The dialplan before a change.
+    pub before: &'a str,
+    /// The dialplan after it.
+    pub after: &'a str,
+}
+
 /// A question about the calls that come in at a context of a dialplan, in words of the command line.
 #[derive(Clone, Copy, Debug, PartialEq, Eq)]
 pub struct ReachQuestion<'a> {
@@ -173,6 +182,14 @@ pub enum Request<'a> {
         file: &'a str,
         is_traced: bool,
         is_covered: bool,
+    },
+    /// `diff OLD NEW`: writes what answers differently in two dialplans.
+    Diff {
+        files: DiffFiles<'a>,
+    },
+    /// `diff --asterisk OLD NEW`: does the same for dialplans that are read from a file each and from those that it includes.
+    DiffIncluding {
+        files: DiffFiles<'a>,
     },
     /// `reach [--queues QUEUES] [--start CONTEXTS] [--exten BYTES] [--caller NUMBERS] [--to TARGET] FILE CONTEXT`: reports what a call that
     /// comes in at a context may run, or whether it may reach another context.
