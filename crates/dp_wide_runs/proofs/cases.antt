@@ -1,4 +1,5 @@
 -- Worked cases, computed from the definitions themselves.
 mod Audits
+mod Debugs
 mod Lines
 mod Turns

@@ -59,11 +59,14 @@ turn_beside after above above_refusal at turn =
     taken_with (beside_after after at.0.1 at.1 (given_as (without at) turn))
     (above_by above above_refusal at.0.1 at.1 turn (given_as (without at) turn)) (wide_turn (without at) turn)
 
--- the output and result of a run, given the run or the fault of its texts, and the first further state
-abbrev pub WritesBeside : {P : Type 0} → (P → World → Turn → P) → (P → World → Turn → List ℕ) → (Refusal → List ℕ) → P
+-- the output and result of a run, given the run or the fault of its texts, and the first further state; after the last turn are the lines
+-- that the further state has then
+abbrev pub WritesBeside : {P : Type 0} → (P → World → Turn → P) → (P → World → Turn → List ℕ) → (Refusal → List ℕ) → (P → List ℕ) → P
     → Option (List ℕ) → Option (List ℕ) → Result WideRun PbxFault → Result ℕ PbxFault → Type 0
-WritesBeside after above above_refusal beside old new (Ok run) result =
-    WritesTurnsBy (turn_beside after above above_refusal) (λ at. []) (λ at. wide_status at.0.0) ((no_stops, beside), run.world) run.turns old new result
-WritesBeside after above above_refusal beside old new (Err fault) (Ok status) = ⊥
-WritesBeside after above above_refusal beside old new (Err fault) (Err (Coded code line)) = Appends old new [] × (fault ≡ Coded code line)
-WritesBeside after above above_refusal beside old new (Err fault) (Err NoMemory) = Appends old new []
+WritesBeside after above above_refusal last beside old new (Ok run) result =
+    WritesTurnsBy (turn_beside after above above_refusal) (λ at. last at.0.1) (λ at. wide_status at.0.0) ((no_stops, beside), run.world) run.turns
+    old new result
+WritesBeside after above above_refusal last beside old new (Err fault) (Ok status) = ⊥
+WritesBeside after above above_refusal last beside old new (Err fault) (Err (Coded code line)) =
+    Appends old new [] × (fault ≡ Coded code line)
+WritesBeside after above above_refusal last beside old new (Err fault) (Err NoMemory) = Appends old new []

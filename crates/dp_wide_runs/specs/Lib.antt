@@ -1,4 +1,5 @@
 pub mod Beside
+pub mod Debugging
 pub mod FunctionsCalled
 pub mod Given
 pub mod Kinds

@@ -13,13 +13,13 @@ use dp_conf::WriteTold;
 use std::alloc::Global;
 
 /// Takes the turns of a run that has begun, and writes all their lines.
-fn run_begun<M: Manner, W: WriteTold>(
+pub(crate) fn run_begun<M: Manner, W: WriteTold>(
     alloc: Global,
     begun: WideBegun,
     manner: M,
     writer: &mut W,
 ) -> Result<u8, PbxFault>
-    ensures writes { WritesBeside M.after M.above M.above_refusal manner (W.contents writer.old) (W.contents writer.new)
+    ensures writes { WritesBeside M.after M.above M.above_refusal M.last manner (W.contents writer.old) (W.contents writer.new)
         (Ok (spec.run_on begun.machine (turns_of begun.lines.items))) result }
     ensures told { W.has_failed writer.new ≡ (W.has_failed writer.old || is_write_failed result) }
 {
@@ -34,7 +34,7 @@ pub(crate) fn run_texts<M: Manner, W: WriteTold>(
     manner: M,
     writer: &mut W,
 ) -> Result<u8, PbxFault>
-    ensures writes { WritesBeside M.after M.above M.above_refusal manner (W.contents writer.old) (W.contents writer.new)
+    ensures writes { WritesBeside M.after M.above M.above_refusal M.last manner (W.contents writer.old) (W.contents writer.new)
         (spec.run_of_texts texts.entry) result }
     ensures told { W.has_failed writer.new ≡ (W.has_failed writer.old || is_write_failed result) }
 {

@@ -240,7 +240,6 @@ impl<M: Manner> WideRunner<M> {
 }
 
 impl<M: Manner> Taker for WideRunner<M> {
-    ghost use Rattle.std.specs.Prelude.{[]};
     ghost use Rattle.dp_wide_runs.specs.Beside.{turn_beside};
     ghost use Rattle.dp_wide_runs.specs.Turns.{wide_status};
 
@@ -250,7 +249,7 @@ impl<M: Manner> Taker for WideRunner<M> {
 
     ghost step = { turn_beside M.after M.above M.above_refusal };
 
-    ghost last = { λ _. [] };
+    ghost last = { λ runner. M.last runner.1 };
 
     ghost status = { λ runner refused. wide_status runner.0 refused };
 
@@ -268,8 +267,8 @@ impl<M: Manner> Taker for WideRunner<M> {
         }
     }
 
-    fn finish(&self, _block: &mut Block) -> Result<(), NoMemory> {
-        Ok(())
+    fn finish(&self, block: &mut Block) -> Result<(), NoMemory> {
+        self.manner.push_last(block)
     }
 
     fn status(&self, refused: bool) -> u8 {
