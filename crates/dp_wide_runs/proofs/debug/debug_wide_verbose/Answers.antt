@@ -1,4 +1,4 @@
-use Rattle.std.proofs.Common.{Result, Ok, Err, IfOk, subst, sym}
+use Rattle.std.proofs.Common.{Result, Err, IfOk, subst, sym}
 use Rattle.std.specs.Option.{option_map}
 use Rattle.dp_conf.specs.Answers.{◌>>=◌}
 use Rattle.dp_debug.specs.declared.breaks.Break.{Break}

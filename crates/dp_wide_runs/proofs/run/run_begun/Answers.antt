@@ -1,4 +1,4 @@
-use Rattle.std.proofs.Common.{◌≡◌, List, ap, ◌∙◌}
+use Rattle.std.proofs.Common.{◌≡◌, ap, ◌∙◌}
 use Rattle.std.specs.Global.{Vec}
 use Rattle.dp_commands.specs.declared.script.ScriptLine.{ScriptLine}
 use Rattle.dp_wide_runs.specs.declared.wide_turn.WideTurn.{WideTurn}
