@@ -27,6 +27,7 @@ main,s,1¦exten => s,1,VoiceMail(1)¦¦start main s\nstep 1\nstep 1\ngo 1→star
 main,s,2¦exten => s,1,NoOp()\nexten => s,2,NoOp()¦¦start main s\nstep 1\nreload\nstep 1¦[main]\nexten => s,2,Hangup()→started 1\nran 1 main,s,1 NoOp -> ready main,s,2\nok\nbreak 3\nran 1 main,s,2 Hangup -> ended\nend 4\nstatus 0
 # A line that shows a value is left out, whether there is such a channel or not.
 main,s,1¦exten => s,1,Set(A=5)¦¦start main s\nshow 9 A\nstep 1\nshow 1 A→started 1\nbreak 1\nran 1 main,s,1 Set -> ready main,s,2\nend 2\nstatus 0
+main,s,1¦exten => s,1,NoOp()¦¦start main s\nshow 1 DB(k)\nshow 9 DB(k)→started 1\nend 1\nstatus 0
 main,s,1¦exten => s,1,NoOp()¦¦; nothing→end 0\nstatus 0
 # The break's fault comes first.
 main,s¦abc¦¦walk 1→fault 71 BadBreak

@@ -2,4 +2,5 @@
 mod Audits
 mod Debugs
 mod Lines
+mod Shows
 mod Turns

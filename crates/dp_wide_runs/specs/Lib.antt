@@ -5,6 +5,7 @@ pub mod Given
 pub mod Kinds
 pub mod Lines
 pub mod Runs
+pub mod Shows
 pub mod Turns
 pub mod Verbose
 pub mod WideAudits

@@ -1,6 +1,7 @@
 -- Debugged runs: which turns a debugged run takes, what it counts, and its lines.
 use Rattle.std.proofs.Common.{◌≡◌, ℕ, true, false, [], ◌∷◌, List, Option, None, Some, Result, Ok, Err, refl}
 use Rattle.std.specs.Prelude.{codes, ⊤}
+use Rattle.std.specs.Fmt.{digits}
 use Rattle.dp_machine.specs.World.{World}
 use Rattle.dp_machine.specs.declared.event.Event.{Event as MachineEvent}
 use Rattle.dp_machine.specs.declared.event.Event.TheVariants.{Step, Timeout}
@@ -25,6 +26,7 @@ events_count : (held : Break) → (counted (counted (watching held) (Event (Step
 events_count held = refl
 
 line_of_a_halt : halt_text true 3 ≡ codes "break 3\n"
+unfolding digits
 line_of_a_halt = refl
 
 no_line_without_halt : halt_text false 3 ≡ []
@@ -49,7 +51,8 @@ unknown_has_no_halt watch w channel what = refl
 left_out_counts_nothing : (watch : Watch) (w : World) → beside_after (watched_after (λ (beside : ⊤) v turn. beside)) (watch, tt) w None ≡ (watch, tt)
 left_out_counts_nothing watch w = refl
 
-last_line : (held : Break) → watched_last {⊤} (record { held = held; taken = 12 }, tt) ≡ codes "end 12\n"
+last_line : (held : Break) → watched_last {P = ⊤} (record { held = held; taken = 12 }, tt) ≡ codes "end 12\n"
+unfolding digits
 last_line held = refl
 
 -- the fault of the break comes before that of the script
