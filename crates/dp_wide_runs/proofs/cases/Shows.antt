@@ -1,5 +1,5 @@
 -- The calls that turns show.
-use Rattle.std.proofs.Common.{◌≡◌, ℕ, true, false, [], None, Some, refl}
+use Rattle.std.proofs.Common.{◌≡◌, true, false, [], None, Some, refl}
 use Rattle.std.specs.Prelude.{codes}
 use Rattle.dp_machine.specs.declared.event.Event.TheVariants.{Step}
 use Rattle.dp_commands.specs.declared.script.Turn.TheVariants.{Event, Show}
