@@ -16,7 +16,7 @@ use Rattle.dp_commands.specs.declared.fault.PbxFault.TheVariants.{Coded, NoMemor
 use Rattle.dp_commands.specs.declared.script.ScriptLine.{ScriptLine}
 use Rattle.dp_commands.specs.declared.script.Turn.{Turn}
 use Rattle.dp_wide_runs.specs.Beside.{WritesBeside, above_by, turn_beside, without}
-use Rattle.dp_wide_runs.specs.Given.{noted_as}
+use Rattle.dp_wide_runs.specs.Given.{taken_as}
 use Rattle.dp_wide_runs.specs.Runs.{IsPlain, WideRun, WritesWide, at_first, contents_of, run_of, run_on}
 use Rattle.dp_wide_runs.specs.Turns.{Stops, no_stops, wide_status, wide_turn}
 use Rattle.dp_wide_runs.specs.Verbose.{HasPlainStatus, wide_status_of}
@@ -87,7 +87,7 @@ module _ {P : Type 0} where
   lines_of-plainly at [] = refl
   lines_of-plainly at (turn ∷ turns) =
       ap (λ (bytes : List ℕ). (bytes ++ (wide_turn (without at) turn).lines) ++ lines_of plainly (plainly at turn).state turns)
-      (nothing_above at.0.1 at.1 turn (noted_as (without at) turn))
+      (nothing_above at.0.1 at.1 turn (taken_as (without at) turn))
       ∙ ap (λ (bytes : List ℕ). (wide_turn (without at) turn).lines ++ bytes) (lines_of-plainly (plainly at turn).state turns)
 
   pub writes_plainly : (beside : P) (given : Result WideRun PbxFault) (old new : Option (List ℕ)) (result : Result ℕ PbxFault)

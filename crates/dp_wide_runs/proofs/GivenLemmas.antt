@@ -17,7 +17,7 @@ use Rattle.dp_commands.specs.declared.script.Turn.TheVariants.{Event, Show}
 use Rattle.dp_wide_runs.specs.Given.{AreAllGiven, IsKnown, call_line, first_given, given_as, line_by, meeting, meetings, step_given, turns_given, wide_trace}
 use Rattle.dp_wide_runs.specs.Lines.{stepped_by}
 use Rattle.dp_wide_runs.specs.Shows.{call_in, call_unknown, call_value, value_line}
-use Rattle.dp_wide_runs.specs.Turns.{Stops, call_turn, first_turn, pass_turn, place_after, place_of_unknown, step_turn, told_turn, unknown_at, value_turn, wide_meanings, wide_turn}
+use Rattle.dp_wide_runs.specs.Turns.{Stops, call_turn, first_turn, pass_turn, place_after, place_of_unknown, step_turn, stepless_turn, unknown_at, value_turn, wide_meanings, wide_turn}
 use Rattle.dp_wide_runs.specs.declared.wide_turn.WideTurn.{WideTurn}
 use Rattle.dp_wide_runs.specs.declared.wide_turn.WideTurn.TheVariants.{Plain, Further, Pass}
 
@@ -83,14 +83,14 @@ call_stays : (stops : Stops) (w : World) (turn : Turn) (call : ℕ × List ℕ) 
 call_stays stops w turn call None has = has
 call_stays stops w turn call (Some value) has = value_stays stops w call value (call_unknown w call) has
 
-told_stays : (stops : Stops) (w : World) (turn : Turn) (call : Option (ℕ × List ℕ)) → stops.has_stopped ≡ true
-    → (told_turn stops w turn call).state.0.has_stopped ≡ true
-told_stays stops w turn None has = has
-told_stays stops w turn (Some call) has = call_stays stops w turn call (call_value w call) has
+stepless_stays : (stops : Stops) (w : World) (turn : Turn) (call : Option (ℕ × List ℕ)) → stops.has_stopped ≡ true
+    → (stepless_turn stops w turn call).state.0.has_stopped ≡ true
+stepless_stays stops w turn None has = has
+stepless_stays stops w turn (Some call) has = call_stays stops w turn call (call_value w call) has
 
 first_stays : (stops : Stops) (w : World) (turn : Turn) (channel : Option ℕ) → stops.has_stopped ≡ true
     → (first_turn stops w turn channel).state.0.has_stopped ≡ true
-first_stays stops w turn None has = told_stays stops w turn (call_in turn) has
+first_stays stops w turn None has = stepless_stays stops w turn (call_in turn) has
 first_stays stops w turn (Some channel) has = step_stays stops w channel (unknown_at w channel) has
 
 further_stays : (over : Bool) (stops : Stops) (w : World) (channel : ℕ) → stops.has_stopped ≡ true
@@ -148,25 +148,25 @@ call_is_told : (stops : Stops) (w : World) (number : ℕ) (name : List ℕ) (cal
 call_is_told stops w number name call None on none = record { world = refl; is = refl; on = on }
 call_is_told stops w number name call (Some value) on none = value_is_told stops w number name call value (call_unknown w call) on none
 
-told_is_told : (stops : Stops) (w : World) (number : ℕ) (name : List ℕ) (call : Option (ℕ × List ℕ))
-    → stops.line_is_over ≡ false → (told_turn stops w (Show number name) call).state.0.has_stopped ≡ false
-    → IsTold w (told_turn stops w (Show number name) call).state (told_turn stops w (Show number name) call).lines (Show number name)
+stepless_is_told : (stops : Stops) (w : World) (number : ℕ) (name : List ℕ) (call : Option (ℕ × List ℕ))
+    → stops.line_is_over ≡ false → (stepless_turn stops w (Show number name) call).state.0.has_stopped ≡ false
+    → IsTold w (stepless_turn stops w (Show number name) call).state (stepless_turn stops w (Show number name) call).lines (Show number name)
     (line_by w (Show number name) call)
-told_is_told stops w number name None on none = record { world = refl; is = refl; on = on }
-told_is_told stops w number name (Some call) on none = call_is_told stops w number name call (call_value w call) on none
+stepless_is_told stops w number name None on none = record { world = refl; is = refl; on = on }
+stepless_is_told stops w number name (Some call) on none = call_is_told stops w number name call (call_value w call) on none
 
-told_is_given : (stops : Stops) (w : World) (turn : Turn) → stops.line_is_over ≡ false
-    → (told_turn stops w turn (call_in turn)).state.0.has_stopped ≡ false
-    → IsGiven w (told_turn stops w turn (call_in turn)).state (told_turn stops w turn (call_in turn)).lines (Some turn)
-told_is_given stops w (Event event) on none = record { as_turn = Event event; is = refl; world = refl; line = refl; on = on }
-told_is_given stops w (Show number name) on none =
-    let told = told_is_told stops w number name (call_in (Show number name)) on none in
+stepless_is_given : (stops : Stops) (w : World) (turn : Turn) → stops.line_is_over ≡ false
+    → (stepless_turn stops w turn (call_in turn)).state.0.has_stopped ≡ false
+    → IsGiven w (stepless_turn stops w turn (call_in turn)).state (stepless_turn stops w turn (call_in turn)).lines (Some turn)
+stepless_is_given stops w (Event event) on none = record { as_turn = Event event; is = refl; world = refl; line = refl; on = on }
+stepless_is_given stops w (Show number name) on none =
+    let told = stepless_is_told stops w number name (call_in (Show number name)) on none in
     record { as_turn = Show number name; is = refl; world = told.world; line = told.is; on = told.on }
 
 first_is_given : (stops : Stops) (w : World) (turn : Turn) (channel : Option ℕ) → stops.line_is_over ≡ false
     → (first_turn stops w turn channel).state.0.has_stopped ≡ false
     → IsGiven w (first_turn stops w turn channel).state (first_turn stops w turn channel).lines (first_given w turn channel)
-first_is_given stops w turn None on none = told_is_given stops w turn on none
+first_is_given stops w turn None on none = stepless_is_given stops w turn on none
 first_is_given stops w turn (Some channel) on none = step_is_given stops w channel (unknown_at w channel) none
 
 further_is_given : (over : Bool) (stops : Stops) (w : World) (channel : ℕ) → over ≡ false

@@ -12,7 +12,7 @@ use Rattle.dp_commands.specs.declared.script.Turn.TheVariants.{Event, Show}
 use Rattle.dp_wide_runs.specs.Debugging.{shows, without_shows}
 use Rattle.dp_wide_runs.specs.Lines.{stepped_by}
 use Rattle.dp_wide_runs.specs.Shows.{call_in, call_unknown, call_value}
-use Rattle.dp_wide_runs.specs.Turns.{Stops, call_turn, first_turn, pass_turn, place_of_unknown, step_turn, told_turn, unknown_at, value_turn, wide_turn}
+use Rattle.dp_wide_runs.specs.Turns.{Stops, call_turn, first_turn, pass_turn, place_of_unknown, step_turn, stepless_turn, unknown_at, value_turn, wide_turn}
 use Rattle.dp_wide_runs.specs.declared.wide_turn.WideTurn.{WideTurn}
 use Rattle.dp_wide_runs.specs.declared.wide_turn.WideTurn.TheVariants.{Plain, Further, Pass}
 
@@ -66,7 +66,7 @@ call_core stops w number name call (Some value) = value_core stops w call value 
 
 -- a value that is shown changes nothing of it
 show_core : (stops : Stops) (w : World) (number : ℕ) (name : List ℕ) (call : Option (ℕ × List ℕ))
-    → core (told_turn stops w (Show number name) call).state ≡ (stops.line_is_over, w)
+    → core (stepless_turn stops w (Show number name) call).state ≡ (stops.line_is_over, w)
 show_core stops w number name None = refl
 show_core stops w number name (Some call) = call_core stops w number name call (call_value w call)
 

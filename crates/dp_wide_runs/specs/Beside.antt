@@ -9,9 +9,9 @@ use Rattle.dp_commands.specs.Turns.{Taken, WritesTurnsBy}
 use Rattle.dp_commands.specs.declared.fault.PbxFault.{PbxFault}
 use Rattle.dp_commands.specs.declared.fault.PbxFault.TheVariants.{Coded, NoMemory}
 use Rattle.dp_commands.specs.declared.script.Turn.{Turn}
-use Rattle.dp_wide_runs.specs.Given.{noted_as, step_given, told_noted}
+use Rattle.dp_wide_runs.specs.Given.{taken_as, step_given, stepless_taken}
 use Rattle.dp_wide_runs.specs.Runs.{WideRun}
-use Rattle.dp_wide_runs.specs.Turns.{Stops, no_stops, pass_refusal, step_turn, told_turn, wide_status, wide_turn}
+use Rattle.dp_wide_runs.specs.Turns.{Stops, no_stops, pass_refusal, step_turn, stepless_turn, wide_status, wide_turn}
 use Rattle.dp_wide_runs.specs.declared.wide_turn.WideTurn.{WideTurn}
 use Rattle.dp_wide_runs.specs.declared.wide_turn.WideTurn.TheVariants.{Plain, Further, Pass}
 
@@ -53,18 +53,18 @@ step_beside after above at w number unknown =
     (step_turn at.0 w number unknown)
 
 -- the result of a turn of a plain script that steps no channel, given the call that it shows
-abbrev pub told_beside : {P : Type 0} → (P → World → Turn → P) → (P → World → Turn → List ℕ) → Stops × P → World → Turn → Option (ℕ × List ℕ)
+abbrev pub stepless_beside : {P : Type 0} → (P → World → Turn → P) → (P → World → Turn → List ℕ) → Stops × P → World → Turn → Option (ℕ × List ℕ)
     → Taken ((Stops × P) × World)
-told_beside after above at w turn call =
-    taken_with (beside_after after at.1 w (told_noted w turn call)) (above_given above at.1 w (told_noted w turn call))
-    (told_turn at.0 w turn call)
+stepless_beside after above at w turn call =
+    taken_with (beside_after after at.1 w (stepless_taken w turn call)) (above_given above at.1 w (stepless_taken w turn call))
+    (stepless_turn at.0 w turn call)
 
 -- the result of a turn: as without further state, with more text above its lines
 abbrev pub turn_beside : {P : Type 0} → (P → World → Turn → P) → (P → World → Turn → List ℕ) → (Refusal → List ℕ)
     → (Stops × P) × World → WideTurn → Taken ((Stops × P) × World)
 turn_beside after above above_refusal at turn =
-    taken_with (beside_after after at.0.1 at.1 (noted_as (without at) turn))
-    (above_by above above_refusal at.0.1 at.1 turn (noted_as (without at) turn)) (wide_turn (without at) turn)
+    taken_with (beside_after after at.0.1 at.1 (taken_as (without at) turn))
+    (above_by above above_refusal at.0.1 at.1 turn (taken_as (without at) turn)) (wide_turn (without at) turn)
 
 -- the output and result of a run, given the run or the fault of its texts, and the first further state; after the last turn are the lines
 -- that the further state has then

@@ -32,26 +32,26 @@ given_as at (Plain turn) = first_given at.1 turn (stepped_by turn)
 given_as at (Further number) = if at.0.line_is_over then None else step_given number (unknown_at at.1 number)
 given_as at (Pass number) = option_map (λ place. Event (Redirect number (place_after place))) (place_of_unknown at.1 number)
 
--- a turn that shows this call, given its value, if it has one: the value is shown without the plain script's turn
-abbrev pub call_noted : Turn → Option (List ℕ) → Option Turn
-call_noted turn None = Some turn
-call_noted turn (Some value) = None
+-- the plain script's turn as which a turn that shows a call is taken, given the value of the call: none if it has a value
+abbrev pub call_taken : Turn → Option (List ℕ) → Option Turn
+call_taken turn None = Some turn
+call_taken turn (Some value) = None
 
--- a turn of a plain script that steps no channel, given the call that it shows
-abbrev pub told_noted : World → Turn → Option (ℕ × List ℕ) → Option Turn
-told_noted w turn None = Some turn
-told_noted w turn (Some call) = call_noted turn (call_value w call)
+-- the plain script's turn as which a turn that steps no channel is taken, given the call that it shows
+abbrev pub stepless_taken : World → Turn → Option (ℕ × List ℕ) → Option Turn
+stepless_taken w turn None = Some turn
+stepless_taken w turn (Some call) = call_taken turn (call_value w call)
 
--- a turn of a plain script, given the channel of which it is a step
-abbrev pub first_noted : World → Turn → Option ℕ → Option Turn
-first_noted w turn None = told_noted w turn (call_in turn)
-first_noted w turn (Some number) = step_given number (unknown_at w number)
+-- the plain script's turn as which a turn is taken, given the channel of which it is a step
+abbrev pub first_taken : World → Turn → Option ℕ → Option Turn
+first_taken w turn None = stepless_taken w turn (call_in turn)
+first_taken w turn (Some number) = step_given number (unknown_at w number)
 
--- the turn that a run gives on to be taken as in a plain script: that which a turn is given as, but none if the value of a call is asked
-abbrev pub noted_as : Stops × World → WideTurn → Option Turn
-noted_as at (Plain turn) = first_noted at.1 turn (stepped_by turn)
-noted_as at (Further number) = given_as at (Further number)
-noted_as at (Pass number) = given_as at (Pass number)
+-- the plain script's turn as which a turn is taken: that which it is given as, but none if it shows the value of a call
+abbrev pub taken_as : Stops × World → WideTurn → Option Turn
+taken_as at (Plain turn) = first_taken at.1 turn (stepped_by turn)
+taken_as at (Further number) = given_as at (Further number)
+taken_as at (Pass number) = given_as at (Pass number)
 
 -- a turn of a plain script, and the world that it meets
 pub record Meets : Type 0 where

@@ -90,13 +90,13 @@ call_turn stops w turn call None = plain_turn stops w turn
 call_turn stops w turn call (Some value) = value_turn stops w call value (call_unknown w call)
 
 -- the result of a turn that steps no channel, given the call that it shows
-abbrev pub told_turn : Stops → World → Turn → Option (ℕ × List ℕ) → Taken (Stops × World)
-told_turn stops w turn None = plain_turn stops w turn
-told_turn stops w turn (Some call) = call_turn stops w turn call (call_value w call)
+abbrev pub stepless_turn : Stops → World → Turn → Option (ℕ × List ℕ) → Taken (Stops × World)
+stepless_turn stops w turn None = plain_turn stops w turn
+stepless_turn stops w turn (Some call) = call_turn stops w turn call (call_value w call)
 
 -- the result of a turn, given the channel that it steps
 abbrev pub first_turn : Stops → World → Turn → Option ℕ → Taken (Stops × World)
-first_turn stops w turn None = told_turn stops w turn (call_in turn)
+first_turn stops w turn None = stepless_turn stops w turn (call_in turn)
 first_turn stops w turn (Some number) = step_turn stops w number (unknown_at w number)
 
 -- the result of a further step of a line: it is left out if the line is over

@@ -283,7 +283,7 @@ impl<M: Manner> WideRunner<M> {
     }
 
     /// Takes a turn of a plain script that steps no channel. A call is shown with the value of its group.
-    fn take_told(
+    fn take_stepless(
         &mut self,
         alloc: Global,
         machine: &mut Machine<WideApps>,
@@ -291,11 +291,11 @@ impl<M: Manner> WideRunner<M> {
         block: &mut Block,
     ) -> Result<bool, NoMemory>
         ensures lines { OnOk result (block.new.whole ≡ block.old.whole
-            ++ (beside.told_beside M.after M.above self.old machine.old turn.now (shows.call_in turn.now)).lines) }
+            ++ (beside.stepless_beside M.after M.above self.old machine.old turn.now (shows.call_in turn.now)).lines) }
         ensures state { OnOk result ((self.new, machine.new)
-            ≡ (beside.told_beside M.after M.above self.old machine.old turn.now (shows.call_in turn.now)).state) }
+            ≡ (beside.stepless_beside M.after M.above self.old machine.old turn.now (shows.call_in turn.now)).state) }
         ensures refused { IfOk result (λ refused. refused
-            ≡ (beside.told_beside M.after M.above self.old machine.old turn.now (shows.call_in turn.now)).refused) }
+            ≡ (beside.stepless_beside M.after M.above self.old machine.old turn.now (shows.call_in turn.now)).refused) }
         ensures err { OnErr result (block.new.whole ≡ block.old.whole) }
     {
         let Some(call) = shown_call(turn) else {
@@ -325,7 +325,7 @@ impl<M: Manner> WideRunner<M> {
     {
         match stepped_by(turn) {
             Some(channel) => self.take_step(alloc, machine, channel, block),
-            None => self.take_told(alloc, machine, turn, block),
+            None => self.take_stepless(alloc, machine, turn, block),
         }
     }
 
