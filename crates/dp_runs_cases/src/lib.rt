@@ -16,6 +16,8 @@ mod verbose;
 #[cfg(test)]
 mod wide_audits;
 #[cfg(test)]
+mod wide_debug;
+#[cfg(test)]
 mod wide_runs;
 #[cfg(test)]
 mod wide_verbose;

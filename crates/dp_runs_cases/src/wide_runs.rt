@@ -50,6 +50,21 @@ exten => s,1,While(1)\nexten => t,1,NoOp()\nexten => t,2,NoOp()¦¦start main s\
 exten => s,1,While(1)\nexten => s,2,NoOp()¦¦start main s\npass 1\nstep 1\npass 1\npass 2\nhangup 1\npass 1→started 1\nok 1 -> ready main,s,2\nran 1 main,s,2 NoOp -> ready main,s,3\nrefused 41 NotReady\nrefused 40 NoChannel\nok 1 -> ended\nrefused 49 Ended\nstatus 1
 ";
 
+/// The same for calls that are shown.
+const CALLS: &str = r"
+# A call is shown with its value in the channel.
+exten => s,1,Set(X=a-b-c)¦¦start main s\nstep 1\nshow 1 CUT(X,-,2)\nshow 1 LEN(${X})\nshow 1 X→started 1\nran 1 main,s,1 Set -> ready main,s,2\nCUT(X,-,2)=b\nLEN(${X})=5\nX=a-b-c\nstatus 0
+exten => s,1,NoOp()¦¦start main s\nglobal DB(k)=a b\nshow 1 DB(k)→started 1\nok\nDB(k)=a b\nstatus 0
+# It is not shown while something in it is unknown, and the run has stopped once.
+exten => s,1,NoOp()¦¦start main s\nshow 1 DB(k)\nstep 1\nlet 1 DB(k)=5\nshow 1 DB(k)→started 1\nunknown 1 DB(k) -> ready main,s,1\nran 1 main,s,1 NoOp -> ready main,s,2\nok 1 -> ready main,s,2\nDB(k)=5\nstatus 4
+exten => s,1,NoOp()¦¦start main s\nhangup 1\nshow 1 DB(a)\nshow 1 LEN(${DB(b)})→started 1\nok 1 -> ended\nunknown 1 DB(a) -> ended\nunknown 1 DB(b) -> ended\nstatus 4
+exten => s,1,NoOp()¦¦assume DB\nstart main s\nshow 1 DB(k)→ok\nstarted 1\nDB(k)=\nstatus 0
+# Without a channel it is refused.
+exten => s,1,NoOp()¦¦start main s\nshow 9 DB(k)→started 1\nrefused 40 NoChannel\nstatus 1
+# Other names are shown as in a run without the option.
+exten => s,1,NoOp()¦¦start main s\nlet 1 A)=5\nshow 1 A)\nshow 1 DB(k\nshow 1 DB(k):1→started 1\nok 1 -> ready main,s,1\nA)=5\nDB(k=\nDB(k):1=\nstatus 0
+";
+
 /// The same for faulty lines.
 const FAULTS: &str = r"
 exten => s,1,NoOp()¦¦start main s\nlet 1 =5→fault 70 BadScript line 2
@@ -90,5 +105,5 @@ impl Question for WideRun {
 /// Runs stop before anything unknown, and go on once a fact is stated.
 #[test]
 fn runs_stop_before_the_unknown(rt: HostRuntime) -> Result<(), Fail> {
-    check_all::<WideRun>(rt.alloc(), &[STOPS, FACTS, FAULTS])
+    check_all::<WideRun>(rt.alloc(), &[STOPS, FACTS, CALLS, FAULTS])
 }

@@ -16,7 +16,7 @@ use Rattle.dp_commands.specs.declared.fault.PbxFault.TheVariants.{Coded, NoMemor
 use Rattle.dp_commands.specs.declared.script.ScriptLine.{ScriptLine}
 use Rattle.dp_commands.specs.declared.script.Turn.{Turn}
 use Rattle.dp_wide_runs.specs.Beside.{WritesBeside, above_by, turn_beside, without}
-use Rattle.dp_wide_runs.specs.Given.{given_as}
+use Rattle.dp_wide_runs.specs.Given.{taken_as}
 use Rattle.dp_wide_runs.specs.Runs.{IsPlain, WideRun, WritesWide, at_first, contents_of, run_of, run_on}
 use Rattle.dp_wide_runs.specs.Turns.{Stops, no_stops, wide_status, wide_turn}
 use Rattle.dp_wide_runs.specs.Verbose.{HasPlainStatus, wide_status_of}
@@ -26,7 +26,7 @@ use Rattle.dp_wide_runs.proofs.RunsLemmas.{plain_run}
 
 module _ {P : Type 0} (after : P → World → Turn → P) (above : P → World → Turn → List ℕ) (above_refusal : Refusal → List ℕ) where
   -- without the further state, the turns lead to the same
-  state_past-beside : (at : (Stops × P) × World) (turns : List WideTurn)
+  pub state_past-beside : (at : (Stops × P) × World) (turns : List WideTurn)
       → without (state_past (turn_beside after above above_refusal) at turns) ≡ state_past wide_turn (without at) turns
   state_past-beside at [] = refl
   state_past-beside at (turn ∷ turns) = state_past-beside (turn_beside after above above_refusal at turn).state turns
@@ -47,26 +47,26 @@ module _ {P : Type 0} (after : P → World → Turn → P) (above : P → World 
       (state_past-beside ((no_stops, beside), run.world) run.turns)
       ∙ ap (λ (refused : Bool). wide_status (state_past wide_turn (at_first run) run.turns).0 refused) (refused_in-beside ((no_stops, beside), run.world) run.turns)
 
-  status_when : (beside : P) (given : Result WideRun PbxFault) (old new : Option (List ℕ)) (status : ℕ)
-      → WritesBeside after above above_refusal beside old new given (Ok status) → HasPlainStatus given status
-  status_when beside (Ok ran) old new status written run is =
+  status_when : (last : P → List ℕ) (beside : P) (given : Result WideRun PbxFault) (old new : Option (List ℕ)) (status : ℕ)
+      → WritesBeside after above above_refusal last beside old new given (Ok status) → HasPlainStatus given status
+  status_when last beside (Ok ran) old new status written run is =
       let same : ran ≡ run = cc in
       written.1 ∙ (status_beside beside ran ∙ ap wide_status_of same)
-  status_when beside (Err fault) old new status written run is = absurd written
+  status_when last beside (Err fault) old new status written run is = absurd written
 
-  pub same_status : (beside : P) (given : Result WideRun PbxFault) (old new : Option (List ℕ)) (result : Result ℕ PbxFault)
-      → WritesBeside after above above_refusal beside old new given result → IfOk result (HasPlainStatus given)
-  same_status beside given old new (Ok status) written = status_when beside given old new status written
-  same_status beside given old new (Err fault) written = tt
+  pub same_status : (last : P → List ℕ) (beside : P) (given : Result WideRun PbxFault) (old new : Option (List ℕ)) (result : Result ℕ PbxFault)
+      → WritesBeside after above above_refusal last beside old new given result → IfOk result (HasPlainStatus given)
+  same_status last beside given old new (Ok status) written = status_when last beside given old new status written
+  same_status last beside given old new (Err fault) written = tt
 
   -- the turns of the machine and the lines of a run that has begun
-  pub begun_beside : (beside : P) (runner : Stops × P) (machine world : World) (kept lines : List (ScriptLine WideTurn)) (old new : Option (List ℕ)) (result : Result ℕ PbxFault)
+  pub begun_beside : (last : P → List ℕ) (beside : P) (runner : Stops × P) (machine world : World) (kept lines : List (ScriptLine WideTurn)) (old new : Option (List ℕ)) (result : Result ℕ PbxFault)
       → runner ≡ (no_stops, beside) → machine ≡ world → kept ≡ lines
-      → WritesTurnsBy (turn_beside after above above_refusal) (λ at. []) (λ at. wide_status at.0.0) (runner, machine) (turns_of kept) old new result
-      → WritesBeside after above above_refusal beside old new (Ok (run_on world (turns_of lines))) result
-  begun_beside beside runner machine world kept lines old new result first opens tells written =
+      → WritesTurnsBy (turn_beside after above above_refusal) (λ at. last at.0.1) (λ at. wide_status at.0.0) (runner, machine) (turns_of kept) old new result
+      → WritesBeside after above above_refusal last beside old new (Ok (run_on world (turns_of lines))) result
+  begun_beside last beside runner machine world kept lines old new result first opens tells written =
       let Writes : Stops × P → World → List (ScriptLine WideTurn) → Type 0 = λ at w held.
-      WritesTurnsBy (turn_beside after above above_refusal) (λ at. []) (λ at. wide_status at.0.0) (at, w) (turns_of held) old new result in
+      WritesTurnsBy (turn_beside after above above_refusal) (λ at. last at.0.1) (λ at. wide_status at.0.0) (at, w) (turns_of held) old new result in
       subst (λ (at : Stops × P). Writes at world lines) first
       (subst (λ (w : World). Writes runner w lines) opens (subst (λ (held : List (ScriptLine WideTurn)). Writes runner machine held) tells written))
 
@@ -87,11 +87,11 @@ module _ {P : Type 0} where
   lines_of-plainly at [] = refl
   lines_of-plainly at (turn ∷ turns) =
       ap (λ (bytes : List ℕ). (bytes ++ (wide_turn (without at) turn).lines) ++ lines_of plainly (plainly at turn).state turns)
-      (nothing_above at.0.1 at.1 turn (given_as (without at) turn))
+      (nothing_above at.0.1 at.1 turn (taken_as (without at) turn))
       ∙ ap (λ (bytes : List ℕ). (wide_turn (without at) turn).lines ++ bytes) (lines_of-plainly (plainly at turn).state turns)
 
   pub writes_plainly : (beside : P) (given : Result WideRun PbxFault) (old new : Option (List ℕ)) (result : Result ℕ PbxFault)
-      → WritesBeside (λ p v t. p) (λ p v t. []) (λ r. []) beside old new given result → WritesWide old new given result
+      → WritesBeside (λ p v t. p) (λ p v t. []) (λ r. []) (λ p. []) beside old new given result → WritesWide old new given result
   writes_plainly beside (Ok run) old new (Ok status) written = (
     subst (λ (bytes : List ℕ). Appends old new (bytes ++ [])) (lines_of-plainly ((no_stops, beside), run.world) run.turns) written.0,
     written.1 ∙ status_beside (λ p v t. p) (λ p v t. []) (λ r. []) beside run,
@@ -120,22 +120,22 @@ plain_by_status given (Ok status) has = plain_when given status has
 plain_by_status given (Err fault) has = tt
 
 -- a refused result stays refused, whatever comes after it
-next_refused : {X Y : Type 0} (fault : PbxFault) (read : Result X PbxFault) (next : X → Result Y PbxFault) → Refuses (reason_of fault) read
+pub next_refused : {X Y : Type 0} (fault : PbxFault) (read : Result X PbxFault) (next : X → Result Y PbxFault) → Refuses (reason_of fault) read
     → Refuses (reason_of fault) (read >>= next)
 next_refused (Coded code line) (Ok x) next refused = absurd cc
 next_refused (Coded code line) (Err given) next refused = let same : given ≡ Coded code line = cc in ap Err same
 next_refused NoMemory read next refused = tt
 
 -- a run whose dialplan is refused
-run_refused : (plan : List ℕ) (queues second_plan : Option (List ℕ)) (script : List ℕ) (fault : PbxFault)
+pub run_refused : (plan : List ℕ) (queues second_plan : Option (List ℕ)) (script : List ℕ) (fault : PbxFault)
     → Refuses (reason_of fault) (plan_fault (plan_and_notes plan)) → Refuses (reason_of fault) (run_of plan queues second_plan script)
 unfolding run_of
 run_refused plan queues second_plan script fault refused =
     next_refused fault (contents_of plan queues second_plan script) _ (next_refused fault (files_of plan queues) _ (next_refused fault (plan_fault (plan_and_notes plan)) _ refused))
 
-module _ {P : Type 0} (after : P → World → Turn → P) (above : P → World → Turn → List ℕ) (above_refusal : Refusal → List ℕ) (beside : P) (old : Option (List ℕ)) where
+module _ {P : Type 0} (after : P → World → Turn → P) (above : P → World → Turn → List ℕ) (above_refusal : Refusal → List ℕ) (last : P → List ℕ) (beside : P) (old : Option (List ℕ)) where
   refused_beside : (given : Result WideRun PbxFault) (fault : PbxFault) → Refuses (reason_of fault) given
-      → WritesBeside after above above_refusal beside old old given (Err fault)
+      → WritesBeside after above above_refusal last beside old old given (Err fault)
   refused_beside (Ok run) (Coded code line) refused = absurd cc
   refused_beside (Err given) (Coded code line) refused = (Appends-nil old, cc)
   refused_beside (Ok run) NoMemory refused = record { count = 0; within = omega arith; written = Appends-nil old }
@@ -143,6 +143,6 @@ module _ {P : Type 0} (after : P → World → Turn → P) (above : P → World 
 
   -- nothing is written if the dialplan of a run is refused
   pub plan_refused : (plan : List ℕ) (queues second_plan : Option (List ℕ)) (script : List ℕ) (fault : PbxFault)
-      → Refuses (reason_of fault) (plan_fault (plan_and_notes plan)) → WritesBeside after above above_refusal beside old old (run_of plan queues second_plan script) (Err fault)
+      → Refuses (reason_of fault) (plan_fault (plan_and_notes plan)) → WritesBeside after above above_refusal last beside old old (run_of plan queues second_plan script) (Err fault)
   plan_refused plan queues second_plan script fault refused =
       refused_beside (run_of plan queues second_plan script) fault (run_refused plan queues second_plan script fault refused)

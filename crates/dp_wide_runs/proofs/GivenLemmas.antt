@@ -1,6 +1,6 @@
 -- What a run with facts gives the machine: only steps ahead of which everything is known, and a plain script if it ends with status 0.
 use Rattle.std.proofs.Common.{◌≡◌, ℕ, Bool, true, false, List, [], ◌∷◌, ◌++◌, Option, Some, None, length, map, suc, refl, ap, subst, sym, ◌∙◌, if◌then◌else◌}
-use Rattle.std.specs.List.{All}
+use Rattle.std.specs.List.{All, AllByRecursion}
 use Rattle.std.specs.Option.{option_map, option_to_list}
 use Rattle.std.proofs.lemmas.Bool.{or_parts}
 use Rattle.std.proofs.lemmas.List.Elements.{All-append, All-cons, All-nil}
@@ -14,9 +14,10 @@ use Rattle.dp_commands.specs.Trace.{after_turn_by, trace_by}
 use Rattle.dp_commands.specs.Turns.{lines_of, refused_in, state_past}
 use Rattle.dp_commands.specs.declared.script.Turn.{Turn}
 use Rattle.dp_commands.specs.declared.script.Turn.TheVariants.{Event, Show}
-use Rattle.dp_wide_runs.specs.Given.{AreAllGiven, IsKnown, first_given, given_as, meeting, meetings, step_given, turns_given}
+use Rattle.dp_wide_runs.specs.Given.{AreAllGiven, IsKnown, call_line, first_given, given_as, line_by, meeting, meetings, step_given, turns_given, wide_trace}
 use Rattle.dp_wide_runs.specs.Lines.{stepped_by}
-use Rattle.dp_wide_runs.specs.Turns.{Stops, first_turn, pass_turn, place_after, place_of_unknown, step_turn, unknown_at, wide_meanings, wide_turn}
+use Rattle.dp_wide_runs.specs.Shows.{call_in, call_unknown, call_value, value_line}
+use Rattle.dp_wide_runs.specs.Turns.{Stops, call_turn, first_turn, pass_turn, place_after, place_of_unknown, step_turn, stepless_turn, unknown_at, value_turn, wide_meanings, wide_turn}
 use Rattle.dp_wide_runs.specs.declared.wide_turn.WideTurn.{WideTurn}
 use Rattle.dp_wide_runs.specs.declared.wide_turn.WideTurn.TheVariants.{Plain, Further, Pass}
 
@@ -72,9 +73,24 @@ step_stays : (stops : Stops) (w : World) (channel : ℕ) (unknown : Option Unkno
 step_stays stops w channel None has = has
 step_stays stops w channel (Some what) has = refl
 
+value_stays : (stops : Stops) (w : World) (call : ℕ × List ℕ) (value : List ℕ) (unknown : Option (List ℕ)) → stops.has_stopped ≡ true
+    → (value_turn stops w call value unknown).state.0.has_stopped ≡ true
+value_stays stops w call value None has = has
+value_stays stops w call value (Some what) has = refl
+
+call_stays : (stops : Stops) (w : World) (turn : Turn) (call : ℕ × List ℕ) (value : Option (List ℕ)) → stops.has_stopped ≡ true
+    → (call_turn stops w turn call value).state.0.has_stopped ≡ true
+call_stays stops w turn call None has = has
+call_stays stops w turn call (Some value) has = value_stays stops w call value (call_unknown w call) has
+
+stepless_stays : (stops : Stops) (w : World) (turn : Turn) (call : Option (ℕ × List ℕ)) → stops.has_stopped ≡ true
+    → (stepless_turn stops w turn call).state.0.has_stopped ≡ true
+stepless_stays stops w turn None has = has
+stepless_stays stops w turn (Some call) has = call_stays stops w turn call (call_value w call) has
+
 first_stays : (stops : Stops) (w : World) (turn : Turn) (channel : Option ℕ) → stops.has_stopped ≡ true
     → (first_turn stops w turn channel).state.0.has_stopped ≡ true
-first_stays stops w turn None has = has
+first_stays stops w turn None has = stepless_stays stops w turn (call_in turn) has
 first_stays stops w turn (Some channel) has = step_stays stops w channel (unknown_at w channel) has
 
 further_stays : (over : Bool) (stops : Stops) (w : World) (channel : ℕ) → stops.has_stopped ≡ true
@@ -105,7 +121,7 @@ record IsGiven (w : World) (after : Stops × World) (lines : List ℕ) (given : 
   as_turn : Turn
   is : given ≡ Some as_turn
   world : after.1 ≡ (after_turn_by wide_meanings w as_turn).world
-  line : lines ≡ (after_turn_by wide_meanings w as_turn).line
+  line : lines ≡ line_by w as_turn (call_in as_turn)
   on : after.0.line_is_over ≡ false
 
 step_is_given : (stops : Stops) (w : World) (channel : ℕ) (unknown : Option Unknown) → (step_turn stops w channel unknown).state.0.has_stopped ≡ false
@@ -113,10 +129,44 @@ step_is_given : (stops : Stops) (w : World) (channel : ℕ) (unknown : Option Un
 step_is_given stops w channel None none = record { as_turn = Event (Step channel); is = refl; world = refl; line = refl; on = refl }
 step_is_given stops w channel (Some what) none = absurd (true_is_false none)
 
+-- a turn that steps no channel and does not stop: it changes no more than the plain script's turn, and has this line
+record IsTold (w : World) (after : Stops × World) (lines : List ℕ) (turn : Turn) (line : List ℕ) : Type 0 where
+  world : after.1 ≡ (after_turn_by wide_meanings w turn).world
+  is : lines ≡ line
+  on : after.0.line_is_over ≡ false
+
+value_is_told : (stops : Stops) (w : World) (number : ℕ) (name : List ℕ) (call : ℕ × List ℕ) (value : List ℕ) (unknown : Option (List ℕ))
+    → stops.line_is_over ≡ false → (value_turn stops w call value unknown).state.0.has_stopped ≡ false
+    → IsTold w (value_turn stops w call value unknown).state (value_turn stops w call value unknown).lines (Show number name) (value_line call.1 value)
+value_is_told stops w number name call value None on none = record { world = refl; is = refl; on = on }
+value_is_told stops w number name call value (Some what) on none = absurd (true_is_false none)
+
+call_is_told : (stops : Stops) (w : World) (number : ℕ) (name : List ℕ) (call : ℕ × List ℕ) (value : Option (List ℕ))
+    → stops.line_is_over ≡ false → (call_turn stops w (Show number name) call value).state.0.has_stopped ≡ false
+    → IsTold w (call_turn stops w (Show number name) call value).state (call_turn stops w (Show number name) call value).lines (Show number name)
+    (call_line w (Show number name) call value)
+call_is_told stops w number name call None on none = record { world = refl; is = refl; on = on }
+call_is_told stops w number name call (Some value) on none = value_is_told stops w number name call value (call_unknown w call) on none
+
+stepless_is_told : (stops : Stops) (w : World) (number : ℕ) (name : List ℕ) (call : Option (ℕ × List ℕ))
+    → stops.line_is_over ≡ false → (stepless_turn stops w (Show number name) call).state.0.has_stopped ≡ false
+    → IsTold w (stepless_turn stops w (Show number name) call).state (stepless_turn stops w (Show number name) call).lines (Show number name)
+    (line_by w (Show number name) call)
+stepless_is_told stops w number name None on none = record { world = refl; is = refl; on = on }
+stepless_is_told stops w number name (Some call) on none = call_is_told stops w number name call (call_value w call) on none
+
+stepless_is_given : (stops : Stops) (w : World) (turn : Turn) → stops.line_is_over ≡ false
+    → (stepless_turn stops w turn (call_in turn)).state.0.has_stopped ≡ false
+    → IsGiven w (stepless_turn stops w turn (call_in turn)).state (stepless_turn stops w turn (call_in turn)).lines (Some turn)
+stepless_is_given stops w (Event event) on none = record { as_turn = Event event; is = refl; world = refl; line = refl; on = on }
+stepless_is_given stops w (Show number name) on none =
+    let told = stepless_is_told stops w number name (call_in (Show number name)) on none in
+    record { as_turn = Show number name; is = refl; world = told.world; line = told.is; on = told.on }
+
 first_is_given : (stops : Stops) (w : World) (turn : Turn) (channel : Option ℕ) → stops.line_is_over ≡ false
     → (first_turn stops w turn channel).state.0.has_stopped ≡ false
     → IsGiven w (first_turn stops w turn channel).state (first_turn stops w turn channel).lines (first_given w turn channel)
-first_is_given stops w turn None on none = record { as_turn = turn; is = refl; world = refl; line = refl; on = on }
+first_is_given stops w turn None on none = stepless_is_given stops w turn on none
 first_is_given stops w turn (Some channel) on none = step_is_given stops w channel (unknown_at w channel) none
 
 further_is_given : (over : Bool) (stops : Stops) (w : World) (channel : ℕ) → over ≡ false
@@ -166,9 +216,18 @@ all_given at (turn ∷ turns) on taken none =
       each = ap (λ (ts : List Turn). length ts) given ∙ ap suc rest.each;
       trace =
           ap (λ (bytes : List ℕ). bytes ++ lines_of wide_turn next turns) one.line
-          ∙ (ap (λ (bytes : List ℕ). (after_turn_by wide_meanings at.1 one.as_turn).line ++ bytes) (rest.trace ∙ ap (λ w. trace_by wide_meanings w later) one.world)
-          ∙ sym (ap (λ (ts : List Turn). trace_by wide_meanings at.1 ts) given));
+          ∙ (ap (λ (bytes : List ℕ). line_by at.1 one.as_turn (call_in one.as_turn) ++ bytes) (rest.trace ∙ ap (λ w. wide_trace w later) one.world)
+          ∙ sym (ap (λ (ts : List Turn). wide_trace at.1 ts) given));
       world =
           rest.world ∙ (ap (λ w. world_after wide_meanings w (events_in later)) one.world
           ∙ (sym (world_past at.1 one.as_turn later) ∙ sym (ap (λ (ts : List Turn). world_after wide_meanings at.1 (events_in ts)) given)));
     }
+
+-- without calls, the trace is that of the plain script
+pub trace_without_calls : (w : World) (turns : List Turn) → AllByRecursion (λ turn. call_in turn ≡ None) turns
+    → wide_trace w turns ≡ trace_by wide_meanings w turns
+trace_without_calls w [] none = refl
+trace_without_calls w (turn ∷ turns) none =
+    ap (λ (call : Option (ℕ × List ℕ)). line_by w turn call ++ wide_trace (after_turn_by wide_meanings w turn).world turns) none.0
+    ∙ ap (λ (bytes : List ℕ). (after_turn_by wide_meanings w turn).line ++ bytes)
+    (trace_without_calls (after_turn_by wide_meanings w turn).world turns none.1)

@@ -1,4 +1,5 @@
 mod BesideLemmas
+mod DebugLemmas
 mod FunctionsLemmas
 mod GivenLemmas
 mod KindsLemmas
@@ -6,4 +7,5 @@ mod LinesLemmas
 mod OnwardLemmas
 mod PartsLemmas
 mod RunsLemmas
+mod ShowsLemmas
 mod cases

@@ -1,4 +1,6 @@
 -- Worked cases, computed from the definitions themselves.
 mod Audits
+mod Debugs
 mod Lines
+mod Shows
 mod Turns

@@ -1,9 +1,11 @@
 pub mod Beside
+pub mod Debugging
 pub mod FunctionsCalled
 pub mod Given
 pub mod Kinds
 pub mod Lines
 pub mod Runs
+pub mod Shows
 pub mod Turns
 pub mod Verbose
 pub mod WideAudits

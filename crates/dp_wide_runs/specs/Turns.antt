@@ -1,4 +1,5 @@
--- The result of each turn of a script with facts: no step goes to the machine while something is unknown ahead of its channel.
+-- The result of each turn of a script with facts: no step goes to the machine while something is unknown ahead of its channel, and no value
+-- is shown of a call while it is unknown.
 use Rattle.std.specs.Prelude.{ℕ, ◌+◌, ◌-◌, ◌^◌, min, Bool, true, false, List, [], ◌∷◌, ◌++◌, Option, Some, None, codes, decimal, if◌then◌else◌}
 use Rattle.std.specs.Option.{option_and_then, option_map}
 use Rattle.dp_app.specs.Rows.{Meanings, with_functions}
@@ -19,6 +20,7 @@ use Rattle.dp_commands.specs.Turns.{Taken}
 use Rattle.dp_commands.specs.declared.script.Turn.{Turn}
 use Rattle.dp_commands.specs.declared.script.Turn.TheVariants.{Event}
 use Rattle.dp_wide_runs.specs.Lines.{stepped_by}
+use Rattle.dp_wide_runs.specs.Shows.{call_in, call_unknown, call_value, value_line}
 use Rattle.dp_wide_runs.specs.declared.wide_turn.WideTurn.{WideTurn}
 use Rattle.dp_wide_runs.specs.declared.wide_turn.WideTurn.TheVariants.{Plain, Further, Pass}
 
@@ -36,12 +38,12 @@ unknown_name (Application name) = name
 unknown_name (Group name) = name
 unknown_name (Asked name) = name
 
--- the line of a step that is not taken, `unknown CH WHAT -> STATE`
+-- the line of a step that is not taken, and of a value that is not shown, `unknown CH WHAT -> STATE`
 abbrev pub unknown_line : World → ℕ → Unknown → List ℕ
 unknown_line w number what =
     codes "unknown " ++ decimal number ++ codes " " ++ unknown_name what ++ (codes " -> " ++ state_text w number) ++ 10 ∷ []
 
--- where a run has stopped: whether the steps of the current line are over, and whether a step was ever not taken
+-- where a run has stopped: whether the steps of the current line are over, and whether a step was ever not taken, or a value not shown
 pub record Stops : Type 0 where
   pub line_is_over : Bool
   pub has_stopped : Bool
@@ -72,9 +74,29 @@ abbrev pub step_turn : Stops → World → ℕ → Option Unknown → Taken (Sto
 step_turn stops w number None = plain_turn (after_step stops) w (Event (Step number))
 step_turn stops w number (Some what) = record { state = (at_stop, w); lines = unknown_line w number what; refused = false }
 
+-- the stops after a call was shown whose value is unknown: the steps of the line are not over
+abbrev pub after_unknown : Stops → Stops
+after_unknown stops = record { line_is_over = stops.line_is_over; has_stopped = true }
+
+-- the result of a `show` of a call whose value is this, given what is unknown in it
+abbrev pub value_turn : Stops → World → ℕ × List ℕ → List ℕ → Option (List ℕ) → Taken (Stops × World)
+value_turn stops w call value None = record { state = (stops, w); lines = value_line call.1 value; refused = false }
+value_turn stops w call value (Some what) =
+    record { state = (after_unknown stops, w); lines = unknown_line w call.0 (Group what); refused = false }
+
+-- the result of a `show` of a call, given its value; without a channel it has none, and the `show` is refused as that of any name is
+abbrev pub call_turn : Stops → World → Turn → ℕ × List ℕ → Option (List ℕ) → Taken (Stops × World)
+call_turn stops w turn call None = plain_turn stops w turn
+call_turn stops w turn call (Some value) = value_turn stops w call value (call_unknown w call)
+
+-- the result of a turn that steps no channel, given the call that it shows
+abbrev pub stepless_turn : Stops → World → Turn → Option (ℕ × List ℕ) → Taken (Stops × World)
+stepless_turn stops w turn None = plain_turn stops w turn
+stepless_turn stops w turn (Some call) = call_turn stops w turn call (call_value w call)
+
 -- the result of a turn, given the channel that it steps
 abbrev pub first_turn : Stops → World → Turn → Option ℕ → Taken (Stops × World)
-first_turn stops w turn None = plain_turn stops w turn
+first_turn stops w turn None = stepless_turn stops w turn (call_in turn)
 first_turn stops w turn (Some number) = step_turn stops w number (unknown_at w number)
 
 -- the result of a further step of a line: it is left out if the line is over
@@ -118,6 +140,6 @@ wide_turn at (Plain turn) = first_turn at.0 at.1 turn (stepped_by turn)
 wide_turn at (Further number) = further_turn at.0 at.1 number
 wide_turn at (Pass number) = pass_turn at.0 at.1 number (place_of_unknown at.1 number)
 
--- the status of a run: 1 if a turn was refused, else 4 if a step was not taken
+-- the status of a run: 1 if a turn was refused, else 4 if a step was not taken or a value not shown
 abbrev pub wide_status : Stops → Bool → ℕ
 wide_status stops refused = if refused then 1 else (if stops.has_stopped then 4 else 0)

@@ -1,6 +1,6 @@
 -- Verbose runs of a script with facts: above a turn that goes to the machine is the text of a verbose run of a plain script, and above a
 -- pass that is refused is its explanation.
-use Rattle.std.specs.Prelude.{◌≡◌, ℕ, List, Option, Result, Ok}
+use Rattle.std.specs.Prelude.{◌≡◌, ℕ, List, [], Option, Result, Ok}
 use Rattle.dp_machine.specs.World.{World}
 use Rattle.dp_machine.specs.declared.refusal.Refusal.{Refusal}
 use Rattle.dp_commands.specs.Turns.{refused_in, state_past}
@@ -26,7 +26,7 @@ above_refusal explanation refusal = indented (explanation refusal)
 -- the output and result of a verbose run, given the run or the fault of its texts, and the dialplan that is first in force
 abbrev pub WritesWideVerbose : (Refusal → List ℕ) → InForce → Option (List ℕ) → Option (List ℕ) → Result WideRun PbxFault → Result ℕ PbxFault → Type 0
 WritesWideVerbose explanation in_force old new given result =
-    WritesBeside in_force_after (above_turn explanation) (above_refusal explanation) in_force old new given result
+    WritesBeside in_force_after (above_turn explanation) (above_refusal explanation) (λ in_force. []) in_force old new given result
 
 -- the status of a run: 1 if a turn was refused, else 4 if a step was not taken, else 0
 abbrev pub wide_status_of : WideRun → ℕ

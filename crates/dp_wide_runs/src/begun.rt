@@ -1,16 +1,17 @@
 //! The start of a run of a script with facts.
-ghost use Rattle.std.specs.Prelude.{◌≡◌, IfOk, false};
+ghost use Rattle.std.specs.Prelude.{◌≡◌, IfOk, false, filter, not};
 ghost use Rattle.std.specs.Option.{option_map};
 ghost use Rattle.dp_conf.specs.Answers.{Answers};
 ghost use Rattle.dp_queue.specs.Rest.{IsAtRest};
 ghost use Rattle.dp_commands.specs.Faults.{is_write_failed, reason_of};
 ghost use Rattle.dp_commands.specs.Script.{turns_of};
+ghost use Rattle.dp_wide_runs.specs.Debugging.{is_show as is_plain_show, shows as shows_a_value};
 ghost use Rattle.dp_wide_runs.specs.Lines.{wide_script_of};
 ghost use Rattle.dp_wide_runs.specs.Runs as spec;
 
 use crate::wide_lines::WideLines;
 use crate::wide_turn::WideTurn;
-use dp_commands::{Files, PbxFault, RunTexts, ScriptLine, read_files, read_script_by};
+use dp_commands::{Files, PbxFault, RunTexts, ScriptLine, Turn, read_files, read_script_by};
 use dp_machine::Machine;
 use dp_wide::WideApps;
 use std::alloc::Global;
@@ -51,6 +52,33 @@ fn read_texts(alloc: Global, texts: RunTexts<'_>) -> Result<WideContents, PbxFau
     }
 }
 
+/// Whether a turn of a plain script shows a value.
+fn is_show(turn: &Turn) -> bool
+    ensures { result ≡ is_plain_show turn.now }
+{
+    match turn {
+        Turn::Event(_) => false,
+        Turn::Show { .. } => true,
+    }
+}
+
+/// Whether a turn shows a value.
+fn shows(turn: &WideTurn) -> bool
+    ensures { result ≡ shows_a_value turn.now }
+{
+    match turn {
+        WideTurn::Plain(turn) => is_show(turn),
+        WideTurn::Further { .. } | WideTurn::Pass { .. } => false,
+    }
+}
+
+/// Leaves out the lines that show a value.
+fn skip_shows(lines: &mut Vec<ScriptLine<WideTurn>>)
+    ensures { lines.new.items ≡ filter (λ line. not (shows_a_value line.turn)) lines.old.items }
+{
+    lines.retain(|line| !shows(&line.turn));
+}
+
 /// The state of a run before its first turn: its machine, and the lines of its script. It is dropped in one function, so that the drop is
 /// proved once.
 pub(crate) struct WideBegun {
@@ -69,6 +97,8 @@ impl Drop for WideBegun {
 
 impl WideBegun {
     ghost use Rattle.std.specs.Prelude.{◌≡◌};
+    ghost use Rattle.dp_commands.specs.Script.{turns_of};
+    ghost use Rattle.dp_wide_runs.specs.Debugging.{without_shows};
 
     /// The machine and the lines.
     pub(crate) fn into_parts(self) -> (Machine<WideApps>, Vec<ScriptLine<WideTurn>>)
@@ -77,6 +107,17 @@ impl WideBegun {
     {
         let WideBegun { machine, lines } = self;
         (machine, lines)
+    }
+
+    /// The same run without the turns that show a value.
+    #[tactic(auto, using(crate::proofs::ShowsLemmas::turns_of_skipped))]
+    pub(crate) fn without_shows(self) -> Self
+        ensures machine { result.machine ≡ self.machine }
+        ensures turns { turns_of result.lines.items ≡ without_shows (turns_of self.lines.items) }
+    {
+        let WideBegun { machine, mut lines } = self;
+        skip_shows(&mut lines);
+        WideBegun { machine, lines }
     }
 }
 

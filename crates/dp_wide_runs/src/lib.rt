@@ -1,8 +1,9 @@
-//! The commands over the wide table: runs of a script that states facts, which stop before anything unknown, and audits for some kinds of
-//! findings.
+//! The commands over the wide table: runs of a script that states facts, which stop before anything unknown, with a debugger or without,
+//! and audits for some kinds of findings.
 #![tactic(auto)]
 
 mod begun;
+mod debug;
 mod functions_called;
 mod kinds;
 pub mod laws;
@@ -17,6 +18,7 @@ mod wide_finding;
 mod wide_lines;
 mod wide_turn;
 
+pub use debug::{debug_wide, debug_wide_verbose};
 pub use kinds::{AuditChoice, KindChoice, are_kinds};
 pub use run::run_wide;
 pub use verbose::run_wide_verbose;

@@ -13,6 +13,7 @@ use dp_commands::{
 use dp_machine::{Machine, NoMemory, Refusal};
 use dp_wide::WideApps;
 use std::alloc::Global;
+use std::marker::Model;
 
 /// How a run with facts takes the turns of a plain script that it is given.
 pub(crate) trait Manner: Drop {
@@ -24,6 +25,9 @@ pub(crate) trait Manner: Drop {
 
     // The text above the line of a pass that is refused.
     ghost above_refusal: { refusals → List ℕ };
+
+    // The lines after the last turn.
+    ghost last: { Self → List ℕ };
 
     /// Gives the machine one turn, and adds its line to the waiting lines, with the text above it. It says whether the turn was refused. It
     /// fails only if memory runs out; then no line was added.
@@ -45,11 +49,24 @@ pub(crate) trait Manner: Drop {
     fn push_above(block: &mut Block, refusal: Refusal) -> Result<(), NoMemory>
         ensures kept { block.new.whole ≡ block.old.whole }
         ensures ok { OnOk result (block.new.begun ≡ block.old.begun ++ above_refusal refusal) };
+
+    /// Adds the lines after the last turn to the waiting lines. It fails only if memory runs out; then no line was added.
+    fn push_last(&self, block: &mut Block) -> Result<(), NoMemory>
+        ensures ok { OnOk result (block.new.whole ≡ block.old.whole ++ last self.now) }
+        ensures err { OnErr result (block.new.whole ≡ block.old.whole) };
 }
 
-/// Turns that are taken without further lines.
+/// Turns that are taken without further lines. Contracts see nothing of it.
 #[derive(Drop)]
 pub(crate) struct Plain;
+
+impl Model for Plain {
+    ghost use Rattle.std.specs.Prelude.{⊤};
+
+    ghost Value = { ⊤ };
+
+    ghost view = { λ _. tt };
+}
 
 impl Manner for Plain {
     ghost after = { λ manner _ _. manner };
@@ -57,6 +74,8 @@ impl Manner for Plain {
     ghost above = { λ _ _ _. [] };
 
     ghost above_refusal = { λ _. [] };
+
+    ghost last = { λ _. [] };
 
     fn give_turn(
         &mut self,
@@ -74,6 +93,10 @@ impl Manner for Plain {
     fn push_above(_block: &mut Block, _refusal: Refusal) -> Result<(), NoMemory> {
         Ok(())
     }
+
+    fn push_last(&self, _block: &mut Block) -> Result<(), NoMemory> {
+        Ok(())
+    }
 }
 
 impl<'a, E: Explanations> Manner for VerboseTaker<'a, E> {
@@ -82,6 +105,8 @@ impl<'a, E: Explanations> Manner for VerboseTaker<'a, E> {
     ghost above = { verbose.above_turn E.explanation_of };
 
     ghost above_refusal = { verbose.above_refusal E.explanation_of };
+
+    ghost last = { λ _. [] };
 
     fn give_turn(
         &mut self,
@@ -98,5 +123,9 @@ impl<'a, E: Explanations> Manner for VerboseTaker<'a, E> {
         ensures ok { OnOk result (block.new.begun ≡ block.old.begun ++ verbose.above_refusal E.explanation_of refusal) }
     {
         push_explanation::<E>(block, refusal)
+    }
+
+    fn push_last(&self, _block: &mut Block) -> Result<(), NoMemory> {
+        Ok(())
     }
 }

@@ -13,13 +13,13 @@ use dp_conf::WriteTold;
 use std::alloc::Global;
 
 /// Takes the turns of a run that has begun, and writes all their lines.
-fn run_begun<M: Manner, W: WriteTold>(
+pub(crate) fn run_begun<M: Manner, W: WriteTold>(
     alloc: Global,
     begun: WideBegun,
     manner: M,
     writer: &mut W,
 ) -> Result<u8, PbxFault>
-    ensures writes { WritesBeside M.after M.above M.above_refusal manner (W.contents writer.old) (W.contents writer.new)
+    ensures writes { WritesBeside M.after M.above M.above_refusal M.last manner (W.contents writer.old) (W.contents writer.new)
         (Ok (spec.run_on begun.machine (turns_of begun.lines.items))) result }
     ensures told { W.has_failed writer.new ≡ (W.has_failed writer.old || is_write_failed result) }
 {
@@ -34,7 +34,7 @@ pub(crate) fn run_texts<M: Manner, W: WriteTold>(
     manner: M,
     writer: &mut W,
 ) -> Result<u8, PbxFault>
-    ensures writes { WritesBeside M.after M.above M.above_refusal manner (W.contents writer.old) (W.contents writer.new)
+    ensures writes { WritesBeside M.after M.above M.above_refusal M.last manner (W.contents writer.old) (W.contents writer.new)
         (spec.run_of_texts texts.entry) result }
     ensures told { W.has_failed writer.new ≡ (W.has_failed writer.old || is_write_failed result) }
 {
@@ -44,7 +44,9 @@ pub(crate) fn run_texts<M: Manner, W: WriteTold>(
 
 /// Runs a script that may state facts on a dialplan with its queues over the wide table, and writes the trace as it goes, a block of lines
 /// at a time. A step is taken only if nothing is unknown ahead of its channel; else its line is `unknown CH WHAT -> STATE`, and the further
-/// steps of the same line of the script are left out. The status is 1 if a turn was refused, else 4 if a step was not taken, else 0.
+/// steps of the same line of the script are left out. A `show` of a call, whose name has a `(` and ends with `)`, shows the value of its
+/// group as the arguments of an entry of the channel read it; while a group in it is unknown, its line is `unknown CH WHAT -> STATE` too.
+/// The status is 1 if a turn was refused, else 4 if a step was not taken or a value not shown, else 0.
 ///
 /// The texts are read first, with the same faults as in [`dp_commands::run_script`]. If memory runs out the lines of the earlier turns are
 /// written. If memory runs out or a write fails, what was written stays written.

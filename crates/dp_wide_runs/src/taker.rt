@@ -1,14 +1,15 @@
 //! How the turns of a script with facts are taken.
 ghost use Rattle.std.specs.Prelude.{◌≡◌, ◌++◌, ◌∷◌, [], IfOk, OnOk, OnErr, Some};
-ghost use Rattle.std.specs.Option.{option_map};
+ghost use Rattle.std.specs.Option.{option_and_then, option_map};
 ghost use Rattle.dp_commands.specs.Trace.{refusal_text};
+ghost use Rattle.dp_wide_runs.specs.Shows as shows;
 ghost use Rattle.dp_wide_runs.specs.Turns as spec;
 
 use crate::manner::Manner;
 use crate::wide_lines::stepped_by;
 use crate::wide_turn::WideTurn;
 use dp_commands::{Block, Taker, Turn, push_after, push_refused, push_short};
-use dp_machine::{Event, Machine, NoMemory, Phase, Place, Refusal, Text, Unknown};
+use dp_machine::{Event, Expanded, Machine, NoMemory, Phase, Place, Refusal, Text, Unknown};
 use dp_wide::WideApps;
 use std::alloc::Global;
 use std::marker::Model;
@@ -101,6 +102,87 @@ fn place_past(
     }
 }
 
+/// A call that a script shows in a channel.
+#[derive(Clone, Copy)]
+struct Call<'a> {
+    channel: u32,
+    name: &'a [u8],
+}
+
+/// Whether a text has a `(`.
+fn has_opening(text: &[u8]) -> bool
+    ensures { result ≡ shows.has_opening text.now }
+{
+    text.iter().any(|byte| *byte == b'(')
+}
+
+/// Whether the last byte of a text, if it has one, is `)`.
+fn is_closed(text: &[u8]) -> bool
+    ensures { result ≡ shows.is_closed text.now }
+{
+    match text.last() {
+        Some(byte) => *byte == b')',
+        None => false,
+    }
+}
+
+/// Whether a name is a call: it has a `(`, and ends with `)`.
+fn is_call(name: &[u8]) -> bool
+    ensures { result ≡ shows.is_call name.now }
+{
+    has_opening(name) && is_closed(name)
+}
+
+/// The call that a turn shows.
+fn shown_call(turn: &Turn) -> Option<Call<'_>>
+    ensures { option_map (λ call. (call.channel, call.name.now)) result ≡ shows.call_in turn.now }
+{
+    match turn {
+        Turn::Show { channel, name } if is_call(name.bytes()) => Some(Call {
+            channel: *channel,
+            name: name.bytes(),
+        }),
+        _ => None,
+    }
+}
+
+/// The group of a name, `${NAME}`.
+fn group_of(alloc: Global, name: &[u8]) -> Result<Vec<u8>, NoMemory>
+    ensures { IfOk result (λ group. group.items ≡ shows.group_of name.now) }
+{
+    let mut group = Vec::from_slice(alloc, b"${")?;
+    group.extend_from_slice(name)?;
+    group.push(b'}')?;
+    Ok(group)
+}
+
+/// The expansion of the group of a call in its channel; None if there is no such channel.
+fn expand_call(
+    alloc: Global,
+    machine: &Machine<WideApps>,
+    call: Call<'_>,
+) -> Result<Option<Expanded>, NoMemory>
+    ensures value { IfOk result (λ expanded. option_map (λ known. known.bytes.items) expanded
+        ≡ shows.call_value machine.now (call.entry.channel, call.entry.name.now)) }
+    ensures unknown { IfOk result (λ expanded. option_and_then (λ known. option_map (λ group. group.items) known.unknown) expanded
+        ≡ shows.call_unknown machine.now (call.entry.channel, call.entry.name.now)) }
+{
+    let group = group_of(alloc, call.name)?;
+    machine.expand(alloc, call.channel, &group)
+}
+
+/// Adds the line of a call with its value to the waiting lines.
+fn push_value(block: &mut Block, name: &[u8], value: &[u8]) -> Result<(), NoMemory>
+    ensures line { OnOk result (block.new.whole ≡ block.old.whole ++ shows.value_line name.now value.now) }
+    ensures err { OnErr result (block.new.whole ≡ block.old.whole) }
+{
+    block.begin_line();
+    block.push(name)?;
+    block.push_byte(b'=')?;
+    block.push(value)?;
+    block.end_line()
+}
+
 /// A run over the wide table, which stops before anything unknown. Contracts see it as where it has stopped, and how turns are taken.
 pub(crate) struct WideRunner<M> {
     line_is_over: bool,
@@ -127,8 +209,10 @@ impl<M> Model for WideRunner<M> {
 }
 
 impl<M: Manner> WideRunner<M> {
-    ghost use Rattle.std.specs.Prelude.{◌≡◌, ◌++◌, IfOk, OnOk, OnErr, Some};
+    ghost use Rattle.std.specs.Prelude.{◌≡◌, ◌++◌, IfOk, OnOk, OnErr, Some, false};
+    ghost use Rattle.std.specs.Option.{option_map};
     ghost use Rattle.dp_wide_runs.specs.Beside as beside;
+    ghost use Rattle.dp_wide_runs.specs.Shows as shows;
     ghost use Rattle.dp_wide_runs.specs.Turns as spec;
 
     /// The state before the first turn.
@@ -170,6 +254,59 @@ impl<M: Manner> WideRunner<M> {
         self.manner.give_turn(alloc, machine, &step, block)
     }
 
+    /// Shows a call that has this expansion; if a group in it is unknown, adds the line that says which. It is never refused.
+    fn show_call(
+        &mut self,
+        machine: &Machine<WideApps>,
+        call: Call<'_>,
+        expanded: Expanded,
+        block: &mut Block,
+    ) -> Result<bool, NoMemory>
+        ensures lines { OnOk result (block.new.whole ≡ block.old.whole ++ (spec.value_turn self.old.0 machine.now (call.entry.channel, call.entry.name.now)
+            expanded.bytes.items (option_map (λ group. group.items) expanded.unknown)).lines) }
+        ensures state { OnOk result ((self.new.0, machine.now) ≡ (spec.value_turn self.old.0 machine.now (call.entry.channel, call.entry.name.now)
+            expanded.bytes.items (option_map (λ group. group.items) expanded.unknown)).state) }
+        ensures manner { self.new.1 ≡ self.old.1 }
+        ensures refused { IfOk result (λ refused. refused ≡ false) }
+        ensures err { OnErr result (block.new.whole ≡ block.old.whole) }
+    {
+        let Expanded { bytes, unknown } = expanded;
+        match unknown {
+            Some(group) => {
+                let unknown = Unknown::Group(Text::new(group));
+                push_unknown(block, machine, call.channel, &unknown)?;
+                self.has_stopped = true;
+            }
+            None => push_value(block, call.name, &bytes)?,
+        }
+        Ok(false)
+    }
+
+    /// Takes a turn of a plain script that steps no channel. A call is shown with the value of its group.
+    fn take_stepless(
+        &mut self,
+        alloc: Global,
+        machine: &mut Machine<WideApps>,
+        turn: &Turn,
+        block: &mut Block,
+    ) -> Result<bool, NoMemory>
+        ensures lines { OnOk result (block.new.whole ≡ block.old.whole
+            ++ (beside.stepless_beside M.after M.above self.old machine.old turn.now (shows.call_in turn.now)).lines) }
+        ensures state { OnOk result ((self.new, machine.new)
+            ≡ (beside.stepless_beside M.after M.above self.old machine.old turn.now (shows.call_in turn.now)).state) }
+        ensures refused { IfOk result (λ refused. refused
+            ≡ (beside.stepless_beside M.after M.above self.old machine.old turn.now (shows.call_in turn.now)).refused) }
+        ensures err { OnErr result (block.new.whole ≡ block.old.whole) }
+    {
+        let Some(call) = shown_call(turn) else {
+            return self.manner.give_turn(alloc, machine, turn, block);
+        };
+        match expand_call(alloc, machine, call)? {
+            Some(expanded) => self.show_call(machine, call, expanded, block),
+            None => self.manner.give_turn(alloc, machine, turn, block),
+        }
+    }
+
     /// Takes a turn of a plain script.
     fn take_plain(
         &mut self,
@@ -188,7 +325,7 @@ impl<M: Manner> WideRunner<M> {
     {
         match stepped_by(turn) {
             Some(channel) => self.take_step(alloc, machine, channel, block),
-            None => self.manner.give_turn(alloc, machine, turn, block),
+            None => self.take_stepless(alloc, machine, turn, block),
         }
     }
 
@@ -240,7 +377,6 @@ impl<M: Manner> WideRunner<M> {
 }
 
 impl<M: Manner> Taker for WideRunner<M> {
-    ghost use Rattle.std.specs.Prelude.{[]};
     ghost use Rattle.dp_wide_runs.specs.Beside.{turn_beside};
     ghost use Rattle.dp_wide_runs.specs.Turns.{wide_status};
 
@@ -250,7 +386,7 @@ impl<M: Manner> Taker for WideRunner<M> {
 
     ghost step = { turn_beside M.after M.above M.above_refusal };
 
-    ghost last = { λ _. [] };
+    ghost last = { λ runner. M.last runner.1 };
 
     ghost status = { λ runner refused. wide_status runner.0 refused };
 
@@ -268,8 +404,8 @@ impl<M: Manner> Taker for WideRunner<M> {
         }
     }
 
-    fn finish(&self, _block: &mut Block) -> Result<(), NoMemory> {
-        Ok(())
+    fn finish(&self, block: &mut Block) -> Result<(), NoMemory> {
+        self.manner.push_last(block)
     }
 
     fn status(&self, refused: bool) -> u8 {

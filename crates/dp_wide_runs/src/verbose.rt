@@ -30,7 +30,7 @@ fn run_in_force<E: Explanations, W: WriteTold>(
 /// Runs a script that may state facts as [`crate::run_wide`] does, and writes more above some of the lines: above the line of a step that
 /// runs an entry `FILE:LINE APP(ARGS)`, with its expanded arguments, and above the line of a refusal its explanation. Each is indented by
 /// two blanks. FILE and LINE are where the entry's line comes from, after a reload in the second dialplan. Nothing is added above the line
-/// of a step that is not taken.
+/// of a step that is not taken, or of a call.
 pub fn run_wide_verbose<E: Explanations, W: WriteTold>(
     alloc: Global,
     texts: RunTexts<'_>,
