@@ -1,0 +1,6 @@
+mod AnsweringLemmas
+mod ContextsLemmas
+mod FlowLemmas
+mod TellingLemmas
+mod UnchangedLemmas
+mod cases

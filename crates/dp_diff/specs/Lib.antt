@@ -1,0 +1,5 @@
+pub mod Answering
+pub mod Differences
+pub mod Faults
+pub mod Printing
+pub mod steps
