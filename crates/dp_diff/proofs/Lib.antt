@@ -3,4 +3,3 @@ mod ContextsLemmas
 mod FlowLemmas
 mod TellingLemmas
 mod UnchangedLemmas
-mod cases
