@@ -3,3 +3,5 @@ mod ContextsLemmas
 mod FlowLemmas
 mod TellingLemmas
 mod UnchangedLemmas
+mod WritingLemmas
+mod cases
