@@ -1,5 +1,5 @@
 -- The contexts of two dialplans, as they are gone through.
-use Rattle.std.proofs.Common.{◌≡◌, ℕ, suc, ◌+◌, nat_lt, Bool, true, false, cond, not, ◌||◌, List, [], ◌∷◌, ◌++◌, length, map, filter, Option, Some, None, refl, ap, ◌∙◌, sym, arith}
+use Rattle.std.proofs.Common.{◌≡◌, ℕ, suc, ◌+◌, nat_lt, Bool, true, false, cond, not, ◌||◌, List, [], ◌∷◌, ◌++◌, length, map, filter, Some, None, refl, ap, ◌∙◌, sym, arith}
 use Rattle.std.proofs.lemmas.Bool.Decides.{nat_tests}
 use Rattle.std.specs.List.{flat_map, list_any, position_or_len}
 use Rattle.std.proofs.lemmas.Grind.{flat_map-append}
@@ -8,7 +8,7 @@ use Rattle.dp_conf.specs.Words.{same_text}
 use Rattle.dp_plan.specs.Contexts.{PlanContext}
 use Rattle.dp_plan.specs.Lookup.{number_of}
 use Rattle.dp_plan.specs.Plan.{PlanOf, is_named}
-use Rattle.dp_diff.specs.Differences.{Difference, differences, differences_in, names_of, contexts_of}
+use Rattle.dp_diff.specs.Differences.{Difference, differences, differences_in, names_of}
 use Rattle.dp_diff.specs.steps.Telling.{new_in}
 
 module _ (before : PlanOf) (differences_of : List ℕ → List Difference) where
@@ -40,8 +40,8 @@ contexts_apart before after =
     let names = filter (λ name. not (is_named (names_of before) name)) (names_of after) in
     flat_map-append (differences_in before after) (names_of before) names
     ∙ (ap (λ (ds : List Difference). ds ++ flat_map (differences_in before after) names)
-          (flat_map-map (differences_in before after) (λ (context : PlanContext). context.name) before.contexts)
-      ∙ ap (λ (ds : List Difference). in_contexts (before, after) before.contexts ++ ds) (only_new before (differences_in before after) after.contexts))
+    (flat_map-map (differences_in before after) (λ (context : PlanContext). context.name) before.contexts)
+    ∙ ap (λ (ds : List Difference). in_contexts (before, after) before.contexts ++ ds) (only_new before (differences_in before after) after.contexts))
 
 -- the same contexts of the same dialplans have the same differences
 pub in_contexts_of : (change plans : PlanOf × PlanOf) (contexts others : List PlanContext) → change ≡ plans → contexts ≡ others → in_contexts change contexts ≡ in_contexts plans others

@@ -1,9 +1,8 @@
 -- Differences that are told one after another.
-use Rattle.std.proofs.Common.{◌≡◌, ℕ, ◌+◌, ◌-◌, ◌^◌, ◌<◌, ◌≤◌, Bool, ◌||◌, List, [], ◌∷◌, ◌++◌, Option, Some, None, Result, Ok, Err, length, take, drop, get_or, refl, ap, subst, ◌∙◌, sym, arith, min, add-zero, true, false, cond}
+use Rattle.std.proofs.Common.{◌≡◌, ℕ, ◌+◌, ◌-◌, ◌^◌, ◌<◌, Bool, ◌||◌, List, [], ◌∷◌, ◌++◌, Option, Some, None, Result, Ok, Err, length, take, drop, get_or, refl, ap, subst, ◌∙◌, sym, arith, min, add-zero, true, false, cond}
 use Rattle.std.specs.Io.KnownBytes.{Appends}
 use Rattle.std.specs.List.{find, flat_map}
 use Rattle.std.proofs.Math.Bool.{or-false}
-use Rattle.std.proofs.Math.Nat.{min-eq_left, min-eq_right}
 use Rattle.std.proofs.lemmas.Grind.{flat_map-append}
 use Rattle.std.proofs.lemmas.List.{append_assoc, append-nil, length-append, take-append-drop, take_more}
 use Rattle.dp_conf.specs.Fronts.{AppendsFront}
@@ -130,7 +129,7 @@ module _ {X : Type 0} (f : X → List Difference) (xs : List X) (i : ℕ) (x : X
   failed_at w v u s t fault so_far failed =
       let P : List Difference → Type 0 = λ ds. HasFailed w s u ds fault in
       subst P all_of_them (failed_before w u s (flat_map f (take i xs) ++ f x) (flat_map f (drop (i + 1) xs)) fault
-          (failed_after w v u s t (flat_map f (take i xs)) (f x) fault so_far failed))
+      (failed_after w v u s t (flat_map f (take i xs)) (f x) fault so_far failed))
 
 -- nothing is told of an entry that does the same, and of one whose place was taken
 pub not_changed : (context : List ℕ) (after : List Entry) (place entry : Entry) (other : Option Entry) → entry ≡ place → other ≡ find (shares_place place) after → is_kept entry other ≡ true → changed context after place ≡ []

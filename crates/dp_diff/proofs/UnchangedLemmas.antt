@@ -1,15 +1,15 @@
 -- A dialplan has no differences from itself.
-use Rattle.std.proofs.Common.{◌≡◌, ℕ, Bool, true, false, cond, not, ◌&&◌, ◌||◌, List, [], ◌∷◌, ◌++◌, Option, Some, None, filter, map, refl, sym, ap, ◌∙◌}
-use Rattle.std.specs.List.{find, flat_map, list_any}
+use Rattle.std.proofs.Common.{◌≡◌, ℕ, Bool, true, false, cond, ◌&&◌, ◌||◌, List, [], ◌∷◌, ◌++◌, Some, None, map, refl, sym, ap, ◌∙◌}
+use Rattle.std.specs.List.{find, flat_map}
 use Rattle.std.specs.Char.{to_ascii_lowercase}
 use Rattle.std.specs.Cmp.Lexicographic.{nat_list_eq_equiv}
 use Rattle.std.proofs.lemmas.List.{append_assoc}
 use Rattle.dp_conf.specs.Words.{same_text, same_word}
-use Rattle.dp_plan.specs.Plan.{PlanOf, kept_by, is_named}
+use Rattle.dp_plan.specs.Plan.{PlanOf, kept_by}
 use Rattle.dp_plan.specs.Ranking.{shares_place}
 use Rattle.dp_plan.specs.declared.entry.Entry.{Entry}
 use Rattle.dp_diff.specs.Answering.{answering, has_place, searched}
-use Rattle.dp_diff.specs.Differences.{Difference, added, changed, changed_to, contexts_of, differences, differences_in, does_same, names_of}
+use Rattle.dp_diff.specs.Differences.{Difference, added, changed, changed_to, contexts_of, differences, differences_in, does_same}
 use Rattle.dp_diff.specs.steps.Places.{shares_place_equiv}
 
 both_true : (a b : Bool) → a ≡ true → b ≡ true → (a && b) ≡ true
@@ -20,7 +20,7 @@ both_true false b h k = h
 does_same-refl : (e : Entry) → does_same e e ≡ true
 does_same-refl e =
     both_true (same_word e.application e.application) (same_text e.arguments e.arguments)
-      (nat_list_eq_equiv.refl (map to_ascii_lowercase e.application)) (nat_list_eq_equiv.refl e.arguments)
+    (nat_list_eq_equiv.refl (map to_ascii_lowercase e.application)) (nat_list_eq_equiv.refl e.arguments)
 
 -- an entry is found at its own place, if none before it has the place
 found_itself : (before after : List Entry) (e : Entry) → has_place before e ≡ false → find (shares_place e) (before ++ e ∷ after) ≡ Some e
@@ -61,23 +61,23 @@ module _ (context : List ℕ) where
     by without with_it true taken = without
     by without with_it false free =
         ap (λ (ds : List Difference). ds ++ flat_map (changed context (before ++ e ∷ rest)) rest)
-          (ap (changed_to context e) (found_itself before rest e free) ∙ changed_to-itself context e)
+        (ap (changed_to context e) (found_itself before rest e free) ∙ changed_to-itself context e)
         ∙ (ap (λ (all : List Entry). flat_map (changed context all) rest) (sym (append_assoc before (e ∷ []) rest)) ∙ with_it)
 
   none_added : (before entries : List Entry) → flat_map (added context (before ++ entries)) entries ≡ []
   none_added before [] = refl
   none_added before (e ∷ entries) =
       ap (λ t. cond t [] ((record { context = context; before = None; after = Some e }) ∷ []) ++ flat_map (added context (before ++ e ∷ entries)) entries)
-        (there_itself before entries e)
+      (there_itself before entries e)
       ∙ (ap (λ (all : List Entry). flat_map (added context all) entries) (sym (append_assoc before (e ∷ []) entries))
-        ∙ none_added (before ++ e ∷ []) entries)
+      ∙ none_added (before ++ e ∷ []) entries)
 
 -- a context has no differences
 none_in : (plan : PlanOf) (context : List ℕ) → differences_in plan plan context ≡ []
 unfolding answering
 none_in plan context =
     ap (λ (ds : List Difference). ds ++ flat_map (added context (kept_by has_place [] (searched plan context))) (kept_by has_place [] (searched plan context)))
-      (none_changed context [] (searched plan context))
+    (none_changed context [] (searched plan context))
     ∙ none_added context [] (kept_by has_place [] (searched plan context))
 
 -- nothing comes of nothing

@@ -1,5 +1,5 @@
 -- Differences, computed from the definitions themselves.
-use Rattle.std.proofs.Common.{◌≡◌, ℕ, List, [], ◌∷◌, ◌++◌, Option, Some, None, refl}
+use Rattle.std.proofs.Common.{◌≡◌, ℕ, List, [], ◌∷◌, ◌++◌, Some, None, refl}
 use Rattle.std.specs.Prelude.{codes, decimal}
 use Rattle.dp_lookup.specs.SearchOrder.{visit}
 use Rattle.dp_pattern.specs.Name.{Meaning, Plain, Pattern}

@@ -1,5 +1,4 @@
 -- Entries as places: two are equal if their names have one meaning and their priorities are equal.
-use Rattle.std.specs.Prelude.{nat_eq}
 use Rattle.std.specs.Cmp.{IsEquivalence, and_equiv, on_equiv, nat_eq_equiv}
 use Rattle.std.specs.Cmp.Lexicographic.{nat_list_eq_equiv}
 use Rattle.dp_pattern.specs.Spelling.{spelling}

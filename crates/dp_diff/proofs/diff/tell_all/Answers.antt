@@ -19,9 +19,9 @@ returns-in_err-tell_contexts g c =
     let fault = c.in_err-tell_contexts.field-0.0 in
     let P : List Difference → Type 0 = λ ds. HasFailed w c.args.sheet.now v ds fault in
     rw (p.1, p.2) (subst P (sym (contexts_apart before after)) (failed_before w v c.args.sheet.now
-        (in_contexts (before, after) before.contexts) (in_new_contexts (before, after) before after.contexts) fault
-        (subst P (in_contexts_of c.in_ok-change.change (before, after) c.contexts.result.now before.contexts c.in_ok-change.ensures c.contexts.ensures)
-            c.in_err-tell_contexts.ensures.tells)))
+    (in_contexts (before, after) before.contexts) (in_new_contexts (before, after) before after.contexts) fault
+    (subst P (in_contexts_of c.in_ok-change.change (before, after) c.contexts.result.now before.contexts c.in_ok-change.ensures c.contexts.ensures)
+    c.in_err-tell_contexts.ensures.tells)))
 
 -- the differences in the contexts of the dialplan before the change are told, and then those in the others
 pub returns : goal.returns
@@ -38,8 +38,8 @@ returns g c =
     let Q : List Difference → Type 0 = λ ds. Tells v c.tell_contexts.new.sheet u c.tell_new_contexts.new.sheet ds result in
     let R : List Difference → Type 0 = λ ds. Tells w c.args.sheet.now u c.tell_new_contexts.new.sheet ds result in
     subst R (sym (contexts_apart before after)) (tells_after w v u c.args.sheet.now c.tell_contexts.new.sheet c.tell_new_contexts.new.sheet
-        (in_contexts (before, after) before.contexts) (in_new_contexts (before, after) before after.contexts) result
-        (subst P (in_contexts_of c.in_ok-change.change (before, after) c.contexts.result.now before.contexts c.in_ok-change.ensures c.contexts.ensures)
-            c.in_ok-tell_contexts.ensures.tells)
-        (subst Q (in_new_contexts_of c.tell_contexts.new.change (before, after) before c.contexts-2.result.now after.contexts
-            (c.in_ok-tell_contexts.ensures.same ∙ c.in_ok-change.ensures) c.contexts-2.ensures) c.tell_new_contexts.ensures.tells))
+    (in_contexts (before, after) before.contexts) (in_new_contexts (before, after) before after.contexts) result
+    (subst P (in_contexts_of c.in_ok-change.change (before, after) c.contexts.result.now before.contexts c.in_ok-change.ensures c.contexts.ensures)
+    c.in_ok-tell_contexts.ensures.tells)
+    (subst Q (in_new_contexts_of c.tell_contexts.new.change (before, after) before c.contexts-2.result.now after.contexts
+    (c.in_ok-tell_contexts.ensures.same ∙ c.in_ok-change.ensures) c.contexts-2.ensures) c.tell_new_contexts.ensures.tells))

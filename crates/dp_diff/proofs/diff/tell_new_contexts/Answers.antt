@@ -1,4 +1,4 @@
-use Rattle.std.proofs.Common.{◌∙◌, List, ap, refl, subst}
+use Rattle.std.proofs.Common.{◌∙◌, List, refl, subst}
 use Rattle.std.proofs.lemmas.Result.{err_from_is_err_and}
 use Rattle.dp_plan.specs.Contexts.{PlanContext}
 use Rattle.dp_diff.specs.Differences.{Difference, differences_in}
@@ -25,8 +25,8 @@ returns-in_err-tell_new_context-clause-tells g c =
     let fault = c.in_err-tell_new_context.field-0.0 in
     let P : List Difference → Type 0 = λ ds. HasFailed v c.loop-context.sheet u ds fault in
     rw (p.1, p.2) (failed_at (λ (context : PlanContext). new_in (differences_in c.args.change.now.0 c.args.change.now.1) c.args.before.now context.name) c.args.contexts.now c.loop-context.context-index c.context-item.result
-        c.loop-context-test.true c.context-item.is w v u c.args.sheet.now c.loop-context.sheet fault c.loop-context.invariant.told
-        (subst P (new_differences_at c.loop-context.change c.args.change.now c.args.before.now c.context-item.result.name c.context-item.result.name c.loop-context.invariant.same refl) c.in_err-tell_new_context.ensures.tells))
+    c.loop-context-test.true c.context-item.is w v u c.args.sheet.now c.loop-context.sheet fault c.loop-context.invariant.told
+    (subst P (new_differences_at c.loop-context.change c.args.change.now c.args.before.now c.context-item.result.name c.context-item.result.name c.loop-context.invariant.same refl) c.in_err-tell_new_context.ensures.tells))
 
 -- the differences in one more context are told
 pub loop-context-preserved : goal.loop-context-preserved

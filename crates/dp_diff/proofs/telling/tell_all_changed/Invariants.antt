@@ -8,5 +8,5 @@ use Rattle.dp_diff.proofs.telling.tell_all_changed.Given as goal
 abbrev pub invariant-loop-place : goal.invariant-loop-place
 invariant-loop-place g l =
     HasTold (writer_of (g.W.WriteTold.contents l.fn.writer) (g.W.WriteTold.has_failed l.fn.writer)) l.fn.sheet
-        (writer_of (g.W.WriteTold.contents l.writer) (g.W.WriteTold.has_failed l.writer)) l.sheet
-        (flat_map (changed l.context l.after.keys) (take l.place-index l.before))
+    (writer_of (g.W.WriteTold.contents l.writer) (g.W.WriteTold.has_failed l.writer)) l.sheet
+    (flat_map (changed l.context l.after.keys) (take l.place-index l.before))

@@ -19,8 +19,8 @@ returns-in_err-tell_all_changed g c =
     let fault = c.in_err-tell_all_changed.field-0.0 in
     let P : List Entry → Type 0 = λ entries. HasFailed w c.args.sheet.now v (flat_map f entries) fault in
     rw (p.1, p.2) (failed_before w v c.args.sheet.now (flat_map f c.args.before.now.keys)
-        (flat_map (added c.args.context.now c.args.before.now.keys) c.args.after.now.keys) fault
-        (subst P c.as_slice.ensures.keys c.in_err-tell_all_changed.ensures))
+    (flat_map (added c.args.context.now c.args.before.now.keys) c.args.after.now.keys) fault
+    (subst P c.as_slice.ensures.keys c.in_err-tell_all_changed.ensures))
 
 -- the differences at the entries that are new are told after those at the others
 pub returns : goal.returns
@@ -35,5 +35,5 @@ returns g c =
     let P : List Entry → Type 0 = λ entries. HasTold w c.args.sheet.now v c.tell_all_changed.new.sheet (flat_map f entries) in
     let Q : List Entry → Type 0 = λ entries. Tells v c.tell_all_changed.new.sheet u c.tell_all_added.new.sheet (flat_map h entries) c.tell_all_added.result in
     tells_after w v u c.args.sheet.now c.tell_all_changed.new.sheet c.tell_all_added.new.sheet
-        (flat_map f c.args.before.now.keys) (flat_map h c.args.after.now.keys) c.tell_all_added.result
-        (subst P c.as_slice.ensures.keys c.in_ok-tell_all_changed.ensures) (subst Q c.as_slice-2.ensures.keys c.tell_all_added.ensures)
+    (flat_map f c.args.before.now.keys) (flat_map h c.args.after.now.keys) c.tell_all_added.result
+    (subst P c.as_slice.ensures.keys c.in_ok-tell_all_changed.ensures) (subst Q c.as_slice-2.ensures.keys c.tell_all_added.ensures)

@@ -12,4 +12,4 @@ returns-clause-tells g c =
     let P : List ℕ → Type 0 = λ bytes. Appends (contents c.args.writer.now) (contents c.write_told.new.self) bytes in
     let wrote = subst P (c.deref.ensures.value ∙ ap (λ (s : SheetOf). s.waiting) c.self.view_is) c.in_ok-write_told.ensures.ok in
     told_sent (contents c.args.writer.now) (contents c.write_told.new.self) (failed c.args.writer.now) (failed c.write_told.new.self)
-        c.args.self.now _ wrote c.clear.ensures.items (ap (λ (s : SheetOf). s.count) c.self.view_is) c.in_ok-write_told.ensures.told
+    c.args.self.now _ wrote c.clear.ensures.items (ap (λ (s : SheetOf). s.count) c.self.view_is) c.in_ok-write_told.ensures.told
