@@ -1,12 +1,11 @@
 //! What answers differently after a change of a dialplan, worked out by hand from the rules.
 use dp_case_tables::{Question, bytes_of, check, check_same, check_that, push_bytes};
 use dp_conf::Told;
-use dp_diff::{DiffFault, Dialplan, NoMemory, write_differences};
+use dp_diff::{Dialplan, DiffFault, NoMemory, write_differences};
 use std::alloc::Global;
-use std::io;
 use std::io::{ErrorKind, Write};
-use std::str;
 use std::test::Fail;
+use std::{io, str};
 
 /// The lines of the dialplans before and after a change, separated by ` | `; and the lines that are written, with the number of differences
 /// after them. If the first header is left out, the context is `a`, and `exten => ` is left out too.
@@ -111,7 +110,7 @@ struct Outcome {
 }
 
 /// Writes the differences of two dialplans to a writer that may fail.
-fn outcome(
+fn outcome_of(
     alloc: Global,
     before: &Dialplan,
     after: &Dialplan,
@@ -169,8 +168,8 @@ fn plan_of(alloc: Global, lines: &str) -> Result<Dialplan, Fail> {
 }
 
 /// Adds what was returned.
-fn push_result(out: &mut String, result: Result<u64, DiffFault>) -> Result<(), NoMemory> {
-    match result {
+fn push_result(out: &mut String, returned: Result<u64, DiffFault>) -> Result<(), NoMemory> {
+    match returned {
         Ok(count) => write!(out, "{count}"),
         Err(DiffFault::WriteFailed) => out.push_str("a write failed"),
         Err(DiffFault::NoMemory) => out.push_str("out of memory"),
@@ -187,7 +186,7 @@ impl Question for Changes {
         };
         let before = plan_of(alloc, before)?;
         let after = plan_of(alloc, after)?;
-        let outcome = outcome(alloc, &before, &after, None);
+        let outcome = outcome_of(alloc, &before, &after, None);
         let mut out = String::new(alloc);
         push_bytes(&mut out, &outcome.held)?;
         push_result(&mut out, outcome.result)?;
@@ -216,7 +215,7 @@ fn many(alloc: Global, arguments: &str, more: &str) -> Result<Dialplan, Fail> {
 fn check_one_of_many(alloc: Global) -> Result<(), Fail> {
     let before = many(alloc, "x", "exten => s,1,NoOp()\n")?;
     let after = many(alloc, "x", "exten => s,1,Hangup()\n")?;
-    let outcome = outcome(alloc, &before, &after, None);
+    let outcome = outcome_of(alloc, &before, &after, None);
     check_that(outcome.result == Ok(1), "one difference")?;
     check_same(
         "one of many",
@@ -233,7 +232,7 @@ fn check_failure(
     whole: &[u8],
     fails_at: usize,
 ) -> Result<(), Fail> {
-    let outcome = outcome(alloc, before, after, Some(fails_at));
+    let outcome = outcome_of(alloc, before, after, Some(fails_at));
     check_that(
         outcome.result == Err(DiffFault::WriteFailed) && outcome.has_failed,
         "the failed write is told",
@@ -248,7 +247,7 @@ fn check_failure(
 fn check_blocks(alloc: Global) -> Result<(), Fail> {
     let before = many(alloc, "x", "")?;
     let after = many(alloc, "y", "")?;
-    let all = outcome(alloc, &before, &after, None);
+    let all = outcome_of(alloc, &before, &after, None);
     check_that(all.result == Ok(u64::from(MANY)), "all entries differ")?;
     check_that(
         all.writes > 2 && all.writes < 100,
