@@ -88,3 +88,7 @@ differences_at change plans name other same is = λ i. differences_in (same i).0
 
 pub new_differences_at : (change plans : PlanOf × PlanOf) (before : PlanOf) (name other : List ℕ) → change ≡ plans → name ≡ other → new_in (differences_in change.0 change.1) before name ≡ new_in (differences_in plans.0 plans.1) before other
 new_differences_at change plans before name other same is = λ i. new_in (differences_in (same i).0 (same i).1) before (is i)
+
+pub unnumbered_by_name : (plan : PlanOf) (name : List ℕ) → is_named (names_of plan) name ≡ false → number_of plan name ≡ None
+unnumbered_by_name plan name unknown =
+    ap (λ t. cond t (Some (position_or_len (same_text name) (names_of plan))) None) (position_within (same_text name) (names_of plan) ∙ unknown)

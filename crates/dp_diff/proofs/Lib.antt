@@ -1,3 +1,4 @@
+mod AlikeLemmas
 mod AnsweringLemmas
 mod ContextsLemmas
 mod FlowLemmas

@@ -23,7 +23,7 @@ does_same-refl e =
     (nat_list_eq_equiv.refl (map to_ascii_lowercase e.application)) (nat_list_eq_equiv.refl e.arguments)
 
 -- an entry is found at its own place, if none before it has the place
-found_itself : (before after : List Entry) (e : Entry) → has_place before e ≡ false → find (shares_place e) (before ++ e ∷ after) ≡ Some e
+pub found_itself : (before after : List Entry) (e : Entry) → has_place before e ≡ false → find (shares_place e) (before ++ e ∷ after) ≡ Some e
 found_itself [] after e free = ap (λ t. cond t (Some e) (find (shares_place e) after)) (shares_place_equiv.refl e)
 found_itself (x ∷ before) after e free = by (found_itself before after e) (shares_place e x) free where
   by : (has_place before e ≡ false → find (shares_place e) (before ++ e ∷ after) ≡ Some e)
@@ -32,7 +32,7 @@ found_itself (x ∷ before) after e free = by (found_itself before after e) (sha
   by later false free_there = later free_there
 
 -- its place is there
-there_itself : (before after : List Entry) (e : Entry) → has_place (before ++ e ∷ after) e ≡ true
+pub there_itself : (before after : List Entry) (e : Entry) → has_place (before ++ e ∷ after) e ≡ true
 there_itself [] after e = ap (λ t. t || has_place after e) (shares_place_equiv.refl e)
 there_itself (x ∷ before) after e = ap (λ t. shares_place e x || t) (there_itself before after e) ∙ or_true (shares_place e x) where
   or_true : (t : Bool) → (t || true) ≡ true
@@ -81,7 +81,7 @@ none_in plan context =
     ∙ none_added context [] (kept_by has_place [] (searched plan context))
 
 -- nothing comes of nothing
-flat_map-none : {X Y : Type 0} (f : X → List Y) → ((x : X) → f x ≡ []) → (xs : List X) → flat_map f xs ≡ []
+pub flat_map-none : {X Y : Type 0} (f : X → List Y) → ((x : X) → f x ≡ []) → (xs : List X) → flat_map f xs ≡ []
 flat_map-none f none [] = refl
 flat_map-none {X} {Y} f none (x ∷ xs) = ap (λ (ys : List Y). ys ++ flat_map f xs) (none x) ∙ flat_map-none f none xs
 
