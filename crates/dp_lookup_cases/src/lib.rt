@@ -1,8 +1,11 @@
-//! Cases of look-ups through lists of entries and through tries, and of their use in an audit, as tables with their answers.
+//! Cases of look-ups through lists of entries and through tries, of their use in an audit, and of what answers differently after a change,
+//! as tables with their answers.
 //!
 //! A crate with tests is proved twice, so the cases of the libraries are in crates of their own, where each is proved once.
 #![tactic(auto)]
 
+#[cfg(test)]
+mod differences;
 #[cfg(test)]
 mod endless;
 #[cfg(test)]

@@ -1,0 +1,6 @@
+pub mod Alike
+pub mod Answering
+pub mod Differences
+pub mod Faults
+pub mod Printing
+pub mod steps

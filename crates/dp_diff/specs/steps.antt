@@ -1,0 +1,3 @@
+-- The steps of private functions. No public clause depends on them.
+pub mod Places
+pub mod Telling
