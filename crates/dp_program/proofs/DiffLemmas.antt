@@ -71,7 +71,7 @@ load_read path source read given asked given-is asked-is plan loaded reads same 
     Reads-weaker (λ text. text ≡ Ok read) (LoadsFrom path loaded)
     (λ text is. subst (LoadsFrom path loaded) (sym is) (
       subst (λ (text : List ℕ). Answers (λ plan. plan) reason_of (without_place loaded) (plan_in text)) given-is
-      (subst (λ (plan : Result PlanOf PbxFault). Answers (λ plan. plan) reason_of plan (plan_in given)) (sym same) answers),
+          (subst (λ (plan : Result PlanOf PbxFault). Answers (λ plan. plan) reason_of plan (plan_in given)) (sym same) answers),
       subst (λ (text : List ℕ). StandsIn (place_in_file path text) loaded) asked-is stands,
     )) reads
 

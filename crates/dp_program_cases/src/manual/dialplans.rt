@@ -211,4 +211,29 @@ late,123,1 NoOp
 $ pbx match night.conf main 200
 late,200,1 NoOp
 ? 0
+@ before.conf
+[main]
+exten => 100,1,Dial(SIP/100,20)
+ same => n,Hangup()
+include => night
+
+[night]
+exten => _1XX,1,Playback(closed)
+@
+@ after.conf
+[main]
+exten => 100,1,Dial(SIP/100,30)
+include => night
+
+[night]
+exten => _1XX,1,Playback(closed)
+ same => n,Hangup()
+@
+$ pbx diff before.conf after.conf
+- main,100,1 Dial(SIP/100,20)
++ main,100,1 Dial(SIP/100,30)
+- main,100,2 Hangup()
++ main,_1XX,2 Hangup()
++ night,_1XX,2 Hangup()
+? 1
 "##;

@@ -426,6 +426,28 @@ run --asterisk --explain @faulty @untold.script→1→→@faulty:2: fault 4 NoEq
 run --asterisk --explain --reload @missing @first @untold.script→1→→fault 7 ReadFailed¶  @missing¶  a file could not be opened or read¶
 ";
 
+/// `diff`.
+const DIFFS: &str = "\
+diff @first @first→0→→
+diff @changing @changed→1→- main,100,1 NoOp(a)¶- main,100,2 NoOp(b)¶+ main,_1XX,2 Hangup()¶→
+diff @priorities @calls→1→- main,123,1 NoOp(one)¶- main,_X.,1 NoOp(other)¶- main,_X.,2 NoOp(two)¶+ calls,123,1 NoOp(one)¶+ calls,_1XX,1 NoOp(three)¶+ calls,_X.,1 NoOp(any)¶+ calls,_X.,2 NoOp(two)¶→
+diff @cycle @chain→1→+ main,_1XX,1 NoOp()¶+ main,123,1 Hangup()¶+ main,123,2 Hangup()¶+ late,123,1 Hangup()¶+ late,123,2 Hangup()¶+ late,_1XX,1 NoOp()¶→
+diff @empty @cycle→0→→
+# Each dialplan is read with the files that it includes.
+diff --asterisk @pieces @first→1→- main,100,2 Hangup()¶+ main,100,2 Goto(200,1)¶- main,s,1 Goto(100,1)¶+ main,200,1 Hangup()¶→
+diff @pieces @pieces --asterisk→0→→
+# The fault of the first dialplan comes first.
+diff @faulty @missing→1→→fault 4 NoEquals line 2¶
+diff @missing @faulty→1→→fault 7 ReadFailed¶
+diff @first @faulty→1→→fault 4 NoEquals line 2¶
+diff --explain @first @missing→1→→fault 7 ReadFailed¶  @missing¶  a file could not be opened or read¶
+diff @long @faulty→1→→fault 8 TooLong¶
+diff --asterisk @parted @missing→1→→@inner:2: fault 23 BadApplication¶@parted:4: fault 20 BadPriority¶@parted:5: fault 7 ReadFailed nowhere.conf¶
+diff --asterisk @first @faulty→1→→@faulty:2: fault 4 NoEquals¶
+diff --asterisk @missing @faulty→1→→fault 7 ReadFailed¶
+diff --asterisk --explain @first @missing→1→→fault 7 ReadFailed¶  @missing¶  a file could not be opened or read¶
+";
+
 /// `debug --asterisk`.
 const ASTERISK_DEBUGS: &str = "\
 # A step that is not taken is no event, and neither is a line that shows a value. A pass is one.
@@ -586,7 +608,7 @@ check @empty←[main]¶exten => 100,1,NoOp(hello)¶exten => 100,2,Goto(200,1)¶e
 ";
 
 /// All the tables.
-const TABLES: [&str; 16] = [
+const TABLES: [&str; 17] = [
     CHECKS,
     LISTS,
     MATCHES,
@@ -597,6 +619,7 @@ const TABLES: [&str; 16] = [
     RUNS,
     ASTERISK_RUNS,
     ASTERISK_DEBUGS,
+    DIFFS,
     TESTS,
     VERBOSE_RUNS,
     THREAD_RUNS,

@@ -67,6 +67,10 @@ run --asterisk --verbose --threads 2 @missing @missing→the argument '--asteris
 run --threads 0 --asterisk @missing @missing→the argument '--asterisk' cannot be used with '--threads <N>'→pbx run [OPTIONS] <FILE> <SCRIPT>
 run --asterisk @missing→the following required arguments were not provided:¶  <SCRIPT>→pbx run --asterisk <FILE> <SCRIPT>
 run --threads 2 @missing→the following required arguments were not provided:¶  <SCRIPT>→pbx run --threads <N> <FILE> <SCRIPT>
+diff→the following required arguments were not provided:¶  <OLD>¶  <NEW>→pbx diff <OLD> <NEW>
+diff @usual→the following required arguments were not provided:¶  <NEW>→pbx diff <OLD> <NEW>
+diff @usual @usual @usual→unexpected argument '@usual' found→pbx diff [OPTIONS] <OLD> <NEW>
+diff --clock friday a b→the following required arguments were not provided:¶  --asterisk→pbx diff [OPTIONS] <OLD> <NEW>
 debug @missing @missing→the following required arguments were not provided:¶  --break <CONTEXT,EXTEN,PRIORITY>→pbx debug --break <CONTEXT,EXTEN,PRIORITY> <FILE> <SCRIPT>
 debug --clock friday --break main,s,1 a b→the following required arguments were not provided:¶  --asterisk→pbx debug [OPTIONS] --break <CONTEXT,EXTEN,PRIORITY> <FILE> <SCRIPT>
 debug --asterisk --clock friday --break main,s,1 a b→invalid value 'friday' for '--clock <MOMENT>': a moment is written like 'fri 2026-11-27 09:30'→pbx debug [OPTIONS] --break <CONTEXT,EXTEN,PRIORITY> <FILE> <SCRIPT>
@@ -118,6 +122,7 @@ Commands:
   debug    Run a script of events on a dialplan, and halt before the steps at a place
   test     Run the tests of a dialplan
   audit    Print what the writer of a dialplan may not have meant
+  diff     Print what answers differently in two dialplans
   reach    Prove which entries a call from a context can never run
   explain  Print what the manual says about a fault
   help     Print this message or the help of the given subcommand(s)
@@ -137,12 +142,13 @@ Examples:
   pbx debug --break main,100,2 extensions.conf calls.script
   pbx test office.test
   pbx audit extensions.conf
+  pbx diff extensions.conf new.conf
   pbx reach extensions.conf from-carrier --to international
   pbx explain 20
   pbx < joined.conf
 
-Status: 0; 1 if a fault was printed, an event was refused, a test failed, an audit found something or a context may be reached; 2 if
-the command line was refused; 4 if a run with --asterisk stopped because something is unknown.
+Status: 0; 1 if a fault was printed, an event was refused, a test failed, an audit or a comparison found something or a context may be
+reached; 2 if the command line was refused; 4 if a run with --asterisk stopped because something is unknown.
 ";
 
 /// The help for `check`.
@@ -478,7 +484,36 @@ Example:
 const VERSION: &str = "pbx 0.1.0 logic dac8208d650f15bf\n";
 
 /// Command lines that ask for help or for the version, and their output.
-const HELPS: [(&str, &str); 16] = [
+/// The help for `diff`.
+const DIFF_HELP: &str = "\
+Print what answers differently in two dialplans
+
+Usage: pbx diff [OPTIONS] <OLD> <NEW>
+
+Arguments:
+  <OLD>  The dialplan before a change
+  <NEW>  The dialplan after it
+
+Options:
+      --asterisk        Read included files, templates and block comments
+      --clock <MOMENT>  With --asterisk: the moment by which includes with times are read, like 'fri 2026-11-27 09:30'
+      --explain         Print below each fault, and below each note of `check`, where it is and what the manual says about it
+  -h, --help            Print help
+
+Prints what answers differently in NEW than in OLD: for each context, name and priority the entry of OLD after `-`, and that of NEW
+after `+`, as `CONTEXT,NAME,PRIORITY APPLICATION(ARGUMENTS)`. A context answers with its own entries and then with those of its
+includes. The spelling of a name and a label make no difference. The status is 1 if there is a difference.
+
+With --asterisk included files, templates and block comments are read too. If lines have faults, each fault is printed on standard
+error with its file and line, and the status is 1.
+
+Example:
+  $ pbx diff extensions.conf new.conf
+  - main,100,2 Hangup()
+  + main,100,2 Playback(goodbye)
+";
+
+const HELPS: [(&str, &str); 17] = [
     ("help", PBX_HELP),
     ("-h", PBX_HELP),
     ("--help", PBX_HELP),
@@ -491,6 +526,7 @@ const HELPS: [(&str, &str); 16] = [
     ("debug --help", DEBUG_HELP),
     ("test --help", TEST_HELP),
     ("audit --help", AUDIT_HELP),
+    ("diff --help", DIFF_HELP),
     ("help reach", REACH_HELP),
     ("help explain", EXPLAIN_HELP),
     ("--version", VERSION),

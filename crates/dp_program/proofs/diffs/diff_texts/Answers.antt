@@ -13,9 +13,8 @@ returns-clause-serves g c =
     let before = c.args.paths.now.before.now in
     let after = c.args.paths.now.after.now in
     let read : List ℕ → Source = with_text (with_text (g.F.ReadFiles.source_at c.args.files.now) before (text_now c.args.texts.before.now).text) after (text_now c.args.texts.after.now).text in
-    let both = c.made_files-both.ensures ∙ ap (λ (files : List ℕ → Source). with_text files after (text_now c.args.texts.after.now).text) c.made_files-made.ensures in
-    (
+    let both = c.made_files-both.ensures ∙ ap (λ (files : List ℕ → Source). with_text files after (text_now c.args.texts.after.now).text) c.made_files-made.ensures in (
       subst (λ (answered : Result ℕ Faulted). DiffsFiles read before after old new answered) (sym c.without_hint.ensures.same)
-      (subst (λ (made : List ℕ → Source). DiffsFiles made before after old new c.serve_diff.result) both c.serve_diff.ensures.serves),
+          (subst (λ (made : List ℕ → Source). DiffsFiles made before after old new c.serve_diff.result) both c.serve_diff.ensures.serves),
       c.without_hint.ensures.nothing,
     )
