@@ -118,3 +118,9 @@ request_numbers command some = asked_numbers command (asks (takes_clock_by comma
 pub has_later : (kinds next : Kinds) (kind : ErrorKind) → kinds ≡ [] → (kind ≡ OutOfMemory) ⊎ IsAmong kind next → (kind ≡ OutOfMemory) ⊎ IsAmong kind (or_else kinds next)
 has_later [] next kind none has = has
 has_later (first ∷ kinds) next kind none has = absurd cc
+
+-- a refusal for which there is no kind is out of memory
+pub none_left : (kinds : Kinds) (kind : ErrorKind) → kinds ≡ [] → (kind ≡ OutOfMemory) ⊎ IsAmong kind kinds → kind ≡ OutOfMemory
+none_left [] kind none (inl memory) = memory
+none_left [] kind none (inr among) = absurd among
+none_left (first ∷ kinds) kind none has = absurd cc
