@@ -28,8 +28,8 @@ ran 1 main,s,4 Set -> ready main,s,5
 LANG=de
 CALLERID(name)=Front desk
 DB(desk/last)=5551234
-CDR(userfield)=
-? 0
+unknown 2 CDR(userfield) -> ready main,s,1
+? 4
 @ several.conf
 [main]
 exten => s,1,MSet(A=1,B=<${A}>)
