@@ -21,6 +21,7 @@ use Rattle.dp_diff.proofs.UnchangedLemmas.{flat_map-none, found_itself, there_it
 -- ---- equal places
 
 module _ (e f : Entry) (same : shares_place e f ≡ true) where
+  -- equal places are equal to the same ones, so the same is found at them
   at_equal : (x : Entry) → shares_place e x ≡ shares_place f x
   at_equal x = shares_place_equiv.congr e f x same
 
@@ -69,6 +70,7 @@ find-answering plan context e = find-kept_by e [] (searched plan context) refl
 
 -- ---- one context
 
+-- both parts of an empty list are empty
 nothing_first : {X : Type 0} (xs ys : List X) → xs ++ ys ≡ [] → xs ≡ []
 nothing_first [] ys none = refl
 nothing_first (x ∷ xs) ys none = absurd cc
@@ -77,10 +79,12 @@ nothing_second : {X : Type 0} (xs ys : List X) → xs ++ ys ≡ [] → ys ≡ []
 nothing_second [] ys none = none
 nothing_second (x ∷ xs) ys none = absurd cc
 
+-- an entry without a difference is kept
 if_nothing : (t : Bool) (d : Difference) → cond t [] (d ∷ []) ≡ [] → t ≡ true
 if_nothing true d none = refl
 if_nothing false d none = absurd cc
 
+-- an entry is kept exactly if what answers after it does the same
 is_kept-alike : (f : Entry) (m : Option Entry) → is_kept f m ≡ true → AnswersAlike (Some f) m
 is_kept-alike f None kept = absurd cc
 is_kept-alike f (Some g) kept = kept
@@ -89,6 +93,7 @@ alike-is_kept : (f : Entry) (m : Option Entry) → AnswersAlike (Some f) m → i
 alike-is_kept f None alike = absurd alike
 alike-is_kept f (Some g) alike = alike
 
+-- something answers both times
 alike-is_some : (l m : Option Entry) → AnswersAlike l m → is_some m ≡ true → is_some l ≡ true
 alike-is_some None None alike there = there
 alike-is_some None (Some g) alike there = absurd alike
@@ -198,6 +203,7 @@ none_in before after alike context =
     ap (λ (ds : List Difference). ds ++ flat_map (added context L) M) (none_changed context M [] (searched before context) each)
     ∙ none_added context L [] M each
 
+-- there are no differences, if all contexts answer alike
 pub none_if_alike : (before after : PlanOf) → AnswerAlike before after → differences before after ≡ []
 unfolding differences
 none_if_alike before after alike = flat_map-none (differences_in before after) (none_in before after alike) (contexts_of before after)
@@ -234,6 +240,7 @@ searched-unknown plan context unknown =
     ap (λ (number : Option ℕ). flat_map (entries_at plan) (option_map_or (visit plan []) number []))
     (unnumbered_by_name plan context unknown)
 
+-- without differences, all contexts answer alike
 pub alike_without : (before after : PlanOf) → differences before after ≡ [] → AnswerAlike before after
 unfolding differences
 alike_without before after none context place =

@@ -6,6 +6,7 @@ use Rattle.dp_conf.specs.Fronts.{IsFront, AppendsFront}
 use Rattle.dp_conf.proofs.ToldLemmas.{IsFront-append, IsFront-trans}
 use Rattle.dp_diff.specs.steps.Telling.{Flows}
 
+-- a text is a prefix of itself
 IsFront-refl : (xs : List ℕ) → IsFront xs xs
 IsFront-refl xs = ap (λ (t : List ℕ). take (length xs) t) (sym (append-nil xs)) ∙ IsFront-append xs []
 

@@ -22,6 +22,7 @@ pub text_of-append : (xs ys : List Difference) → text_of (xs ++ ys) ≡ text_o
 unfolding text_of
 text_of-append xs ys = flat_map-append difference_lines xs ys
 
+-- the text of no differences, and of one
 pub text_of-nil : text_of [] ≡ []
 unfolding text_of
 text_of-nil = refl

@@ -12,6 +12,7 @@ use Rattle.dp_diff.specs.Answering.{answering, has_place, searched}
 use Rattle.dp_diff.specs.Differences.{Difference, added, changed, changed_to, contexts_of, differences, differences_in, does_same}
 use Rattle.dp_diff.specs.steps.Places.{shares_place_equiv}
 
+-- two tests that hold hold together
 both_true : (a b : Bool) → a ≡ true → b ≡ true → (a && b) ≡ true
 both_true true b h k = k
 both_true false b h k = h
@@ -44,8 +45,8 @@ changed_to-itself : (context : List ℕ) (e : Entry) → changed_to context e (S
 changed_to-itself context e =
     ap (λ t. cond t [] ((record { context = context; before = Some e; after = Some e }) ∷ [])) (does_same-refl e)
 
--- no entry that answers is changed, and none is added
 module _ (context : List ℕ) where
+  -- no entry that answers is changed
   none_changed : (before entries : List Entry) → flat_map (changed context (before ++ kept_by has_place before entries)) (kept_by has_place before entries) ≡ []
   none_changed before [] = refl
   none_changed before (e ∷ entries) = by (none_changed before entries) (none_changed (before ++ e ∷ []) entries) (has_place before e) refl where
@@ -64,6 +65,7 @@ module _ (context : List ℕ) where
         (ap (changed_to context e) (found_itself before rest e free) ∙ changed_to-itself context e)
         ∙ (ap (λ (all : List Entry). flat_map (changed context all) rest) (sym (append_assoc before (e ∷ []) rest)) ∙ with_it)
 
+  -- and none is added
   none_added : (before entries : List Entry) → flat_map (added context (before ++ entries)) entries ≡ []
   none_added before [] = refl
   none_added before (e ∷ entries) =
@@ -85,6 +87,7 @@ pub flat_map-none : {X Y : Type 0} (f : X → List Y) → ((x : X) → f x ≡ [
 flat_map-none f none [] = refl
 flat_map-none {X} {Y} f none (x ∷ xs) = ap (λ (ys : List Y). ys ++ flat_map f xs) (none x) ∙ flat_map-none f none xs
 
+-- no context has differences
 pub differences-same : (plan : PlanOf) → differences plan plan ≡ []
 unfolding differences
 differences-same plan = flat_map-none (differences_in plan plan) (none_in plan) (contexts_of plan plan)

@@ -17,6 +17,7 @@ pub record WriterOf : Type 0 where
   pub contents : Option (List ℕ)
   pub failed : Bool
 
+-- a writer that contains this
 abbrev pub writer_of : Option (List ℕ) → Bool → WriterOf
 writer_of contents failed = record { contents = contents; failed = failed }
 
