@@ -1,9 +1,8 @@
 -- Debugged runs: which turns a debugged run takes, what it counts, and its lines.
-use Rattle.std.proofs.Common.{◌≡◌, ℕ, true, false, [], ◌∷◌, List, Option, None, Some, Result, Ok, Err, refl}
+use Rattle.std.proofs.Common.{◌≡◌, ℕ, true, false, [], ◌∷◌, None, Some, Err, refl}
 use Rattle.std.specs.Prelude.{codes, ⊤}
 use Rattle.std.specs.Fmt.{digits}
 use Rattle.dp_machine.specs.World.{World}
-use Rattle.dp_machine.specs.declared.event.Event.{Event as MachineEvent}
 use Rattle.dp_machine.specs.declared.event.Event.TheVariants.{Step, Timeout}
 use Rattle.dp_machine.specs.declared.unknown.Unknown.{Unknown}
 use Rattle.dp_debug.specs.declared.breaks.Break.{Break}
@@ -11,9 +10,9 @@ use Rattle.dp_commands.specs.Debug.{Watch, break_of, halt_text}
 use Rattle.dp_commands.specs.declared.fault.Code.TheVariants.{BadBreak, BadScript}
 use Rattle.dp_commands.specs.declared.fault.PbxFault.TheVariants.{Coded}
 use Rattle.dp_commands.specs.declared.script.Turn.TheVariants.{Event, Show}
-use Rattle.dp_wide_runs.specs.Beside.{above_pass, beside_after, step_beside}
+use Rattle.dp_wide_runs.specs.Beside.{beside_after, step_beside}
 use Rattle.dp_wide_runs.specs.Debugging.{counted, halt_before, watched_above, watched_after, watched_last, watching, wide_debug_of, without_shows}
-use Rattle.dp_wide_runs.specs.Turns.{Stops, at_stop, no_stops, unknown_line}
+use Rattle.dp_wide_runs.specs.Turns.{at_stop, no_stops, unknown_line}
 use Rattle.dp_wide_runs.specs.declared.wide_turn.WideTurn.TheVariants.{Plain, Further, Pass}
 
 -- a `show` is left out, and nothing else
