@@ -88,11 +88,11 @@ debugs_verbosely_lacks paths held old (Ok texts) = verbose_debug_lacks (in_force
 debugs_verbosely_lacks paths held old (Err fault) = Appends-nil old
 
 wide_debug_lacks : (old : Option (List ℕ)) (given : Result WideDebug PbxFault) → DebugsWide old old given (Err NoMemory)
-wide_debug_lacks old (Ok debug) = (record { count = 0; within = omega arith; written = Appends-nil old }, tt)
+wide_debug_lacks old (Ok debugged) = (record { count = 0; within = omega arith; written = Appends-nil old }, tt)
 wide_debug_lacks old (Err fault) = (Appends-nil old, tt)
 
 wide_verbose_debug_lacks : (in_force : InForce) (old : Option (List ℕ)) (given : Result WideDebug PbxFault) → DebugsWideVerbosely in_force old old given (Err NoMemory)
-wide_verbose_debug_lacks in_force old (Ok debug) = (record { count = 0; within = omega arith; written = Appends-nil old }, tt)
+wide_verbose_debug_lacks in_force old (Ok debugged) = (record { count = 0; within = omega arith; written = Appends-nil old }, tt)
 wide_verbose_debug_lacks in_force old (Err fault) = (Appends-nil old, tt)
 
 debugs_wide_verbosely_lacks : (places : PlacesOf) (held : List ℕ) (old : Option (List ℕ)) (texts : Result (OfRun (List ℕ)) PbxFault)

@@ -1,6 +1,7 @@
 use Rattle.std.proofs.Common.{ℕ, List, ap, ◌∙◌}
 use Rattle.dp_program.specs.Dialplans.{read_now}
-use Rattle.dp_program.specs.TestFiles.{inputs_by, queues_now, reloads_now}
+use Rattle.dp_program.specs.QueueTexts.{queues_now}
+use Rattle.dp_program.specs.TestFiles.{inputs_by, reloads_now}
 use Rattle.dp_program.proofs.test_inputs.read_inputs.Goals as goal
 
 pub returns : goal.returns
