@@ -17,6 +17,6 @@ returns-in-CheckBothIncluding-clause-serves g c =
     let moment : Option Moment = moment_in (option_map (λ word. word.now) c.args.options.clock) in
     rw c.in-CheckBothIncluding.is (
       subst (λ (answered : Result ℕ Faulted). ChecksBothIncluding moment plan queues files old new answered) (sym c.without_hint-in-CheckBothIncluding.ensures.same)
-      (subst (λ (moment : Option Moment). ChecksBothIncluding moment plan queues files old new c.serve_check_both_including.result) c.moment_in-moment.ensures c.serve_check_both_including.ensures.serves),
+          (subst (λ (moment : Option Moment). ChecksBothIncluding moment plan queues files old new c.serve_check_both_including.result) c.moment_in-moment.ensures c.serve_check_both_including.ensures.serves),
       c.without_hint-in-CheckBothIncluding.ensures.nothing,
     )
