@@ -89,8 +89,8 @@ pub fn read_break(alloc: Global, text: &[u8]) -> Result<Break, PbxFault>
     }
 }
 
-/// Adds the line of a halt after a number of events, `break TAKEN`, to the line that was begun. It fails only if memory runs out.
-pub fn push_halt(out: &mut Block, taken: u64) -> Result<(), NoMemory>
+/// Adds the line of a halt after a number of events.
+pub(crate) fn push_halt(out: &mut Block, taken: u64) -> Result<(), NoMemory>
     ensures kept { out.new.whole ≡ out.old.whole }
     ensures ok { OnOk result (out.new.begun ≡ out.old.begun ++ spec.halt_line taken) }
 {

@@ -28,7 +28,7 @@ mod verbose_debug;
 pub use begun::{Files, read_files};
 pub use block::Block;
 pub use candidates::match_all;
-pub use debug::{debug_script, push_end, push_halt, read_break};
+pub use debug::{debug_script, push_end, read_break};
 pub use explained::{FileLine, line_in};
 pub use explanations::Explanations;
 pub use fault::{Code, PbxFault};
