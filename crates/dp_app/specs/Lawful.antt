@@ -11,7 +11,7 @@ use Rattle.dp_vars.specs.Variables.{Named}
 use Rattle.dp_app.specs.Rows.{Row, Rows}
 use Rattle.dp_app.specs.Cells.{CellOf}
 use Rattle.dp_app.specs.declared.moves.Move.{Move}
-use Rattle.dp_app.specs.declared.moves.Move.TheVariants.{Next, Jump, Park, Hang}
+use Rattle.dp_app.specs.declared.moves.Move.TheVariants.{Next, Jump, Enter, Park, Hang}
 use Rattle.dp_app.specs.declared.phase.Phase.{Phase}
 use Rattle.dp_app.specs.declared.phase.Phase.TheVariants.{Ready, Digits, Pause, Queued, Talking, Dialling, Ended}
 use Rattle.dp_app.specs.declared.place.Place.{Place}
@@ -75,6 +75,7 @@ MayPark count Ended = ⊥
 abbrev pub MayGo : ℕ → Move → Type 0
 MayGo count Next = Unit {0}
 MayGo count (Jump target) = Unit {0}
+MayGo count (Enter parts) = Unit {0}
 MayGo count (Park phase) = MayPark count phase
 MayGo count Hang = Unit {0}
 
@@ -82,6 +83,7 @@ MayGo count Hang = Unit {0}
 abbrev pub ParksNowhere : Move → Type 0
 ParksNowhere Next = Unit {0}
 ParksNowhere (Jump target) = Unit {0}
+ParksNowhere (Enter parts) = Unit {0}
 ParksNowhere (Park phase) = ⊥
 ParksNowhere Hang = Unit {0}
 
@@ -99,6 +101,7 @@ waiting_parked lists number Ended = lists
 abbrev pub waiting_after : List (List ℕ) → ℕ → Move → List (List ℕ)
 waiting_after lists number Next = lists
 waiting_after lists number (Jump target) = lists
+waiting_after lists number (Enter parts) = lists
 waiting_after lists number (Park phase) = waiting_parked lists number phase
 waiting_after lists number Hang = lists
 

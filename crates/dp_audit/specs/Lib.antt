@@ -5,6 +5,7 @@ pub mod Findings
 pub mod Hidden
 pub mod Labels
 pub mod Loops
+pub mod Missing
 pub mod Orders
 pub mod Pieces
 pub mod Runs

@@ -18,7 +18,7 @@ use std::marker::Model;
 
 /// A dialplan with its finder, and the allocator that the finder came from. A contract sees it as the dialplan.
 #[derive(Drop)]
-pub(crate) struct PlanFinder<'a> {
+pub struct PlanFinder<'a> {
     alloc: Global,
     plan: &'a Dialplan,
     finder: Finder,
@@ -36,8 +36,8 @@ impl<'a> Model for PlanFinder<'a> {
 }
 
 impl<'a> PlanFinder<'a> {
-    /// The dialplan with the tables that its look-ups search.
-    pub(crate) fn new(alloc: Global, plan: &'a Dialplan) -> Result<Self, NoMemory>
+    /// The dialplan with the tables that its look-ups search. It fails only if memory runs out.
+    pub fn new(alloc: Global, plan: &'a Dialplan) -> Result<Self, NoMemory>
         ensures { IfOk result (λ held. held ≡ plan.now) }
     {
         let finder = Finder::build(alloc, plan)?;
@@ -49,12 +49,12 @@ impl<'a> PlanFinder<'a> {
     }
 
     /// The allocator.
-    pub(crate) fn alloc(&self) -> Global {
+    pub fn alloc(&self) -> Global {
         self.alloc
     }
 
     /// The dialplan.
-    pub(crate) fn plan(&self) -> &'a Dialplan
+    pub fn plan(&self) -> &'a Dialplan
         ensures { result.now ≡ self.now }
     {
         self.plan
@@ -80,7 +80,7 @@ impl<'a> PlanFinder<'a> {
     }
 
     /// The entry that is found for the extension of the context at the priority.
-    pub(crate) fn find(&mut self, context: &Text, exten: &[u8], priority: u32) -> Option<EntryId>
+    pub fn find(&mut self, context: &Text, exten: &[u8], priority: u32) -> Option<EntryId>
         ensures found { result ≡ found_entry self.old (search_order self.old context.now) exten.now priority }
         ensures same { self.new ≡ self.old }
     {

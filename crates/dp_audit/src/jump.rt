@@ -20,7 +20,7 @@ pub struct Jump {
 }
 
 /// How the application with this name jumps, if it does.
-pub(crate) fn jump_of(name: &[u8]) -> Option<Jump>
+pub fn jump_of(name: &[u8]) -> Option<Jump>
     ensures { result ≡ spec.jump_of name.now }
 {
     if same_word(name, b"Goto") {
@@ -52,9 +52,9 @@ pub(crate) fn jump_of(name: &[u8]) -> Option<Jump>
 
 /// The targets of an entry: at most two.
 #[derive(Clone, Copy)]
-pub(crate) struct Targets<'a> {
-    pub(crate) first: Option<&'a [u8]>,
-    pub(crate) second: Option<&'a [u8]>,
+pub struct Targets<'a> {
+    pub first: Option<&'a [u8]>,
+    pub second: Option<&'a [u8]>,
 }
 
 /// A side of a choice. A side of blanks alone counts as absent.
@@ -90,8 +90,9 @@ fn sides_of(arguments: &[u8]) -> Targets<'_>
     }
 }
 
-/// The targets in the arguments of an application that jumps.
-pub(crate) fn targets_in(jump: Jump, arguments: &[u8]) -> Targets<'_>
+/// The targets in the arguments of an application that jumps: the sides of a choice that have more than blanks, or the whole arguments,
+/// without blanks at their ends.
+pub fn targets_in(jump: Jump, arguments: &[u8]) -> Targets<'_>
     ensures { spec.texts_of_targets result ≡ spec.targets_in jump arguments.now }
 {
     if jump.is_choice {
@@ -105,10 +106,10 @@ pub(crate) fn targets_in(jump: Jump, arguments: &[u8]) -> Targets<'_>
 
 /// A target, in parts. A missing part is empty.
 #[derive(Clone, Copy)]
-pub(crate) struct JumpParts<'a> {
-    pub(crate) context: &'a [u8],
-    pub(crate) exten: &'a [u8],
-    pub(crate) priority: &'a [u8],
+pub struct JumpParts<'a> {
+    pub context: &'a [u8],
+    pub exten: &'a [u8],
+    pub priority: &'a [u8],
 }
 
 /// The last part of a target; for a subroutine, the part before its arguments.
@@ -125,7 +126,7 @@ fn priority_in(jump: Jump, part: &[u8]) -> &[u8]
 }
 
 /// The parts of a target's text, if there are one to three of them.
-pub(crate) fn parts_of(jump: Jump, text: &[u8]) -> Option<JumpParts<'_>>
+pub fn parts_of(jump: Jump, text: &[u8]) -> Option<JumpParts<'_>>
     ensures { option_map spec.seen result ≡ spec.parts_of jump text.now }
 {
     let (first, after) = first_argument(text);
@@ -177,7 +178,7 @@ fn stands(text: &[u8]) -> bool
 }
 
 /// Whether each part of a target is literal; with more than three parts, whether the whole text is.
-pub(crate) fn parts_stand(text: &[u8], parts: Option<JumpParts<'_>>) -> bool
+pub fn parts_stand(text: &[u8], parts: Option<JumpParts<'_>>) -> bool
     ensures { result ≡ spec.parts_stand text.now (option_map spec.seen parts.entry) }
 {
     match parts {

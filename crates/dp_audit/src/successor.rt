@@ -70,7 +70,7 @@ fn priority_in(number: u64) -> Option<u32>
 }
 
 /// The priority that a text names in an extension of the context: the number that it writes, else the priority of the label.
-fn priority_of(
+pub fn priority_of(
     finder: &mut PlanFinder<'_>,
     context: &Text,
     exten: &[u8],

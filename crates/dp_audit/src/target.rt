@@ -12,7 +12,7 @@ use dp_plan::{Entry, EntryId, MOST_PRIORITY, NoMemory, Text};
 use std::alloc::Global;
 
 /// The extension of a target: the given one, or the entry's own if its name is plain.
-fn exten_of<'a>(name: &'a Name, part: &'a [u8]) -> Option<&'a [u8]>
+pub fn exten_of<'a>(name: &'a Name, part: &'a [u8]) -> Option<&'a [u8]>
     ensures { option_map (λ exten. exten.now) result ≡ spec.exten_of name.now part.now }
 {
     if !part.is_empty() {
@@ -90,7 +90,7 @@ fn leads(
 }
 
 /// Whether a target is literal and leads nowhere.
-fn is_missing(
+pub(crate) fn is_missing(
     finder: &mut PlanFinder<'_>,
     own: &Text,
     name: &Name,

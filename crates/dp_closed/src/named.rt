@@ -79,6 +79,9 @@ impl Claim<'_> {
             DialStatus::NoAnswer.name(),
             DialStatus::Congestion.name(),
             DialStatus::ChanUnavail.name(),
+            DialStatus::DontCall.name(),
+            DialStatus::Torture.name(),
+            DialStatus::InvalidArgs.name(),
             b"CANCEL".as_slice(),
         ];
         self.tells(b"DIALSTATUS", &texts)

@@ -2,6 +2,7 @@ pub mod AskLemmas
 pub mod DigitLemmas
 pub mod IsolationLemmas
 pub mod LookupLemmas
+pub mod PlanLemmas
 pub mod RefusedLemmas
 pub mod ReplayLemmas
 pub mod ServedLemmas

@@ -1,6 +1,7 @@
 -- What a step over a lawful table preserves of a channel.
 use Rattle.std.proofs.Common.{◌≡◌, ◌≤◌, if◌then◌else◌, codes, ℕ, Bool, true, false, List, length, Option, Some, None, Ok, refl, sym, ap, subst, ◌∙◌}
 use Rattle.dp_plan.specs.Plan.{PlanOf}
+use Rattle.dp_vars.specs.Stores.{Frame, innermost}
 use Rattle.dp_plan.specs.declared.entry.Entry.{Entry}
 use Rattle.dp_plan.specs.declared.entry.EntryId.{EntryId}
 use Rattle.dp_app.specs.Lawful.{ParksNowhere, IsLawful, IsLawfulRow, MayGo, MayPark, MayRun}
@@ -8,18 +9,18 @@ use Rattle.dp_conf.specs.Numbers.{most_priority}
 use Rattle.dp_app.specs.Rows.{Meanings, Row, Rows, after_dispatch}
 use Rattle.dp_app.specs.Cells.{CellOf}
 use Rattle.dp_app.specs.declared.moves.Move.{Move}
-use Rattle.dp_app.specs.declared.moves.Move.TheVariants.{Next, Jump, Park, Hang}
+use Rattle.dp_app.specs.declared.moves.Move.TheVariants.{Next, Jump, Enter, Park, Hang}
 use Rattle.dp_app.specs.declared.phase.Phase.{Phase}
 use Rattle.dp_app.specs.declared.phase.Phase.TheVariants.{Ready, Digits, Pause, Queued, Talking, Dialling, Ended}
 use Rattle.dp_app.specs.declared.place.Place.{Place}
 use Rattle.dp_app.specs.declared.touch.Touch.{Touch}
-use Rattle.dp_machine.specs.Channels.{hung_up, invalid, is_invalid, at_target, after_move, ready_in, runs_hang_up, after_application, without_frames}
+use Rattle.dp_machine.specs.Channels.{back_by, at_place_or_back, hung_up, invalid, is_invalid, at_target, after_move, ready_in, runs_hang_up, after_application, without_frames}
 use Rattle.dp_machine.specs.Events.{Applied, Own, application_outcome, cell_of, is_refused_at_once, after_run, step_at, unfound}
 use Rattle.dp_machine.specs.steps.Follows.{Follows}
 use Rattle.dp_machine.specs.Found.{Located, entry_found}
 use Rattle.dp_machine.specs.GoodWorld.{IsSoundIn, MayAct, queue_in, talk_in}
 use Rattle.dp_machine.specs.Seen.{arguments_seen}
-use Rattle.dp_machine.specs.Targets.{target_place}
+use Rattle.dp_machine.specs.Targets.{if_found, parts_place, target_place}
 use Rattle.dp_machine.specs.declared.channel.Channel.{Channel}
 use Rattle.dp_machine.specs.declared.exchange.Exchange.{Exchange}
 use Rattle.dp_machine.specs.declared.reply.Reply.TheVariants.{Invalid, NoEntry, Ran}
@@ -48,6 +49,15 @@ pub landed_sound : (plan : PlanOf) (c : Channel) (place : Option Place) → IsSo
 landed_sound plan c None = hung_up_sound plan c
 landed_sound plan c (Some place) = tt
 
+-- and one that goes back from a frame
+back_sound : (plan : PlanOf) (c : Channel) (frame : Option (Frame Place)) → IsSoundIn (back_by plan c frame).phase (back_by plan c frame)
+back_sound plan c None = hung_up_sound plan c
+back_sound plan c (Some frame) = tt
+
+pub entered_sound : (plan : PlanOf) (c : Channel) (place : Option Place) → IsSoundIn (at_place_or_back plan c place).phase (at_place_or_back plan c place)
+entered_sound plan c None = back_sound plan c (innermost c.store.frames)
+entered_sound plan c (Some place) = tt
+
 -- a channel that waits as its application allows is sound, if it is not closing and is at a priority of an entry
 pub parked_sound : (count : ℕ) (phase : Phase) (c : Channel) → MayPark count phase → c.place.priority ≤ most_priority → c.is_closing ≡ false
     → IsSoundIn phase (record c { phase = phase })
@@ -69,6 +79,7 @@ pub moved_sound : (plan : PlanOf) (count : ℕ) (c : Channel) (going : Move) →
     → c.place.priority ≤ most_priority → IsSoundIn (after_move plan c going).phase (after_move plan c going)
 moved_sound plan count c Next may closes within = tt
 moved_sound plan count c (Jump target) may closes within = landed_sound plan c (target_place plan c.place target)
+moved_sound plan count c (Enter parts) may closes within = entered_sound plan c (if_found plan (parts_place plan c.place parts))
 moved_sound plan count c (Park phase) may closes within = parked_sound count phase c may within (closed_false c.is_closing phase closes)
 moved_sound plan count c Hang may closes within = hung_up_sound plan c
 

@@ -8,7 +8,7 @@ use Rattle.dp_app.specs.Lawful.{ParksNowhere, IsLawful, IsLawfulRow, MayGo, MayP
 use Rattle.dp_app.specs.Rows.{Row, Meanings, after_dispatch}
 use Rattle.dp_app.specs.Cells.{CellOf}
 use Rattle.dp_app.specs.declared.moves.Move.{Move}
-use Rattle.dp_app.specs.declared.moves.Move.TheVariants.{Next, Jump, Park, Hang}
+use Rattle.dp_app.specs.declared.moves.Move.TheVariants.{Next, Jump, Enter, Park, Hang}
 use Rattle.dp_app.specs.declared.phase.Phase.{Phase}
 use Rattle.dp_app.specs.declared.phase.Phase.TheVariants.{Ready, Digits, Pause, Queued, Talking, Dialling, Ended as phase_ended}
 use Rattle.dp_app.specs.declared.place.Place.{Place}
@@ -18,10 +18,11 @@ use Rattle.dp_machine.specs.Events.{Own, application_outcome, cell_of, after_run
 use Rattle.dp_machine.specs.Found.{Located, entry_found}
 use Rattle.dp_machine.specs.GoodWorld.{IsSoundIn, IsSoundOwn, queue_in, talk_in}
 use Rattle.dp_machine.specs.Seen.{arguments_seen}
-use Rattle.dp_machine.specs.Targets.{target_place}
+use Rattle.dp_machine.specs.Targets.{if_found, parts_place, target_place}
 use Rattle.dp_machine.specs.declared.channel.Channel.{Channel}
 use Rattle.dp_machine.specs.declared.reply.Reply.TheVariants.{Invalid, NoEntry}
 use Rattle.dp_machine.specs.declared.shared_state.SharedState.{SharedState}
+use Rattle.dp_machine.proofs.StepLemmas.{entered_sound}
 use Rattle.dp_machine.proofs.TieLemmas.{Ties}
 use Rattle.dp_machine.proofs.TieQueues.{Rests}
 use Rattle.dp_machine.proofs.TieRows.{Acts}
@@ -50,6 +51,7 @@ pub after_move-sound : (plan : PlanOf) (c : Channel) (count : ℕ) (going : Move
     → c.place.priority ≤ most_priority → IsSoundIn (after_move plan c going).phase (after_move plan c going)
 after_move-sound plan c count Next may goes within = tt
 after_move-sound plan c count (Jump target) may goes within = at_target-sound plan c (target_place plan c.place target)
+after_move-sound plan c count (Enter parts) may goes within = entered_sound plan c (if_found plan (parts_place plan c.place parts))
 after_move-sound plan c count (Park phase) may goes within = parked-sound c count phase may within (stays c.is_closing goes)
   where
     stays : (b : Bool) → (b ≡ true → ⊥) → b ≡ false

@@ -6,16 +6,17 @@ use Rattle.dp_queue.specs.Joining.{waits_in, with_caller}
 use Rattle.dp_queue.specs.Queues.{QueueOf, QueuesOf}
 use Rattle.dp_queue.proofs.WaitingLemmas.{lines, waits_in-joined, waits_in-same}
 use Rattle.dp_plan.specs.Plan.{PlanOf}
+use Rattle.dp_vars.specs.Stores.{Frame, innermost}
 use Rattle.dp_app.specs.Lawful.{KeepsQueues, MayGo, MayPark, waiting_after, waiting_lists, waiting_parked}
 use Rattle.dp_app.specs.declared.moves.Move.{Move}
-use Rattle.dp_app.specs.declared.moves.Move.TheVariants.{Next, Jump, Park, Hang}
+use Rattle.dp_app.specs.declared.moves.Move.TheVariants.{Next, Jump, Enter, Park, Hang}
 use Rattle.dp_app.specs.declared.phase.Phase.{Phase}
 use Rattle.dp_app.specs.declared.phase.Phase.TheVariants.{Ready, Digits, Pause, Queued, Talking as PhaseTalking, Dialling, Ended}
 use Rattle.dp_app.specs.declared.place.Place.{Place}
 use Rattle.dp_app.specs.declared.touch.Touch.{Touch}
-use Rattle.dp_machine.specs.Channels.{hung_up, at_target, after_move, ready_in, runs_hang_up, without_frames}
+use Rattle.dp_machine.specs.Channels.{back_by, at_place_or_back, hung_up, at_target, after_move, ready_in, runs_hang_up, without_frames}
 use Rattle.dp_machine.specs.GoodWorld.{IsSoundIn, queue_in, talk_in}
-use Rattle.dp_machine.specs.Targets.{target_place}
+use Rattle.dp_machine.specs.Targets.{if_found, parts_place, target_place}
 use Rattle.dp_machine.specs.declared.channel.Channel.{Channel}
 use Rattle.dp_machine.proofs.TieQueues.{Rests, SameTies, if_false, if_true, ties-kept, ties-same}
 use Rattle.dp_machine.proofs.TieLemmas.{Ties}
@@ -47,6 +48,15 @@ hung_up-sound plan c = by (runs_hang_up plan c)
 pub at_target-rests : (plan : PlanOf) (c : Channel) (o : Option Place) → Rests (at_target plan c o).phase
 at_target-rests plan c None = hung_up-rests plan c
 at_target-rests plan c (Some place) = (refl, refl)
+
+-- nor does one that goes back from a frame
+back-rests : (plan : PlanOf) (c : Channel) (o : Option (Frame Place)) → Rests (back_by plan c o).phase
+back-rests plan c None = hung_up-rests plan c
+back-rests plan c (Some frame) = (refl, refl)
+
+at_place_or_back-rests : (plan : PlanOf) (c : Channel) (o : Option Place) → Rests (at_place_or_back plan c o).phase
+at_place_or_back-rests plan c None = back-rests plan c (innermost c.store.frames)
+at_place_or_back-rests plan c (Some place) = (refl, refl)
 
 -- a channel neither waits nor talks, before and after
 pub ties-rests : (number : ℕ) (before after : QueuesOf) (p r : Phase) → Ties number before after p → Rests p → Rests r → Ties number before after r
@@ -108,6 +118,9 @@ module _ (touch : Touch) (before after : QueuesOf) (keeps : KeepsQueues touch be
   ties-after_move plan number c (Jump target) p ties rests may waits =
       ties-rests number before after p (at_target plan c (target_place plan c.place target)).phase
       (ties-kept number before before after p (same-kept waits) ties) rests (at_target-rests plan c (target_place plan c.place target))
+  ties-after_move plan number c (Enter parts) p ties rests may waits =
+      ties-rests number before after p (at_place_or_back plan c (if_found plan (parts_place plan c.place parts))).phase
+      (ties-kept number before before after p (same-kept waits) ties) rests (at_place_or_back-rests plan c (if_found plan (parts_place plan c.place parts)))
   ties-after_move plan number c (Park phase) p ties rests may waits = ties-parked number p phase ties rests may waits
   ties-after_move plan number c Hang p ties rests may waits =
       ties-rests number before after p (hung_up plan c).phase (ties-kept number before before after p (same-kept waits) ties) rests (hung_up-rests plan c)

@@ -1,18 +1,18 @@
 -- How one channel changes: where it goes, and how it ends.
 use Rattle.std.specs.Prelude.{ℕ, ◌+◌, Bool, true, false, not, ◌&&◌, List, [], ◌∷◌, Option, Some, None, codes, if◌then◌else◌}
 use Rattle.dp_plan.specs.Plan.{PlanOf}
-use Rattle.dp_vars.specs.Stores.{set}
+use Rattle.dp_vars.specs.Stores.{Frame, innermost, set, without_frame}
 use Rattle.dp_app.specs.declared.moves.Move.{Move}
-use Rattle.dp_app.specs.declared.moves.Move.TheVariants.{Next, Jump, Park, Hang}
+use Rattle.dp_app.specs.declared.moves.Move.TheVariants.{Next, Jump, Enter, Park, Hang}
 use Rattle.dp_app.specs.declared.phase.Phase.{Phase}
 use Rattle.dp_app.specs.declared.phase.Phase.TheVariants.{Ready, Digits, Pause, Queued, Talking, Dialling, Ended}
 use Rattle.dp_app.specs.declared.place.Place.{Place}
 use Rattle.dp_machine.specs.Codes.{status_name}
 use Rattle.dp_machine.specs.Found.{is_found}
-use Rattle.dp_machine.specs.Targets.{place_of, target_place}
+use Rattle.dp_machine.specs.Targets.{if_found, parts_place, place_of, target_place}
 use Rattle.dp_machine.specs.declared.channel.Channel.{Channel}
 use Rattle.dp_machine.specs.declared.dial_status.DialStatus.{DialStatus}
-use Rattle.dp_machine.specs.declared.dial_status.DialStatus.TheVariants.{Answer, Busy, NoAnswer, Congestion, ChanUnavail}
+use Rattle.dp_machine.specs.declared.dial_status.DialStatus.TheVariants.{Answer, Busy, NoAnswer, Congestion, ChanUnavail, DontCall, Torture, InvalidArgs}
 
 -- the channel, ready at a place
 abbrev pub ready_at : Channel → Place → Channel
@@ -49,10 +49,21 @@ abbrev pub at_target : PlanOf → Channel → Option Place → Channel
 at_target plan c None = hung_up plan c
 at_target plan c (Some place) = ready_at c place
 
+-- the channel back at the place to which its innermost frame returns, without that frame; without a frame it is hung up
+abbrev pub back_by : PlanOf → Channel → Option (Frame Place) → Channel
+back_by plan c None = hung_up plan c
+back_by plan c (Some frame) = ready_at (record c { store = without_frame c.store }) frame.back
+
+-- the channel at a place, or without a place back from its innermost frame
+abbrev pub at_place_or_back : PlanOf → Channel → Option Place → Channel
+at_place_or_back plan c None = back_by plan c (innermost c.store.frames)
+at_place_or_back plan c (Some place) = ready_at c place
+
 -- the channel after a move
 abbrev pub after_move : PlanOf → Channel → Move → Channel
 after_move plan c Next = going_on c
 after_move plan c (Jump target) = at_target plan c (target_place plan c.place target)
+after_move plan c (Enter parts) = at_place_or_back plan c (if_found plan (parts_place plan c.place parts))
 after_move plan c (Park phase) = record c { phase = phase }
 after_move plan c Hang = hung_up plan c
 
@@ -129,6 +140,9 @@ ends_call Busy goes_on = false
 ends_call NoAnswer goes_on = false
 ends_call Congestion goes_on = false
 ends_call ChanUnavail goes_on = false
+ends_call DontCall goes_on = false
+ends_call Torture goes_on = false
+ends_call InvalidArgs goes_on = false
 
 -- the channel after its call to devices
 abbrev pub after_dialling : PlanOf → Channel → DialStatus → Bool → Channel

@@ -3,7 +3,7 @@ use Rattle.std.specs.Prelude.{ℕ, List, codes}
 use Rattle.dp_machine.specs.declared.refusal.Refusal.{Refusal}
 use Rattle.dp_machine.specs.declared.refusal.Refusal.TheVariants.{NoChannel, NotReady, NotWaiting, NoTimer, NoQueue, NobodyWaiting, NoMember, NotRinging, NotTalking, Ended, NumbersSpent, BadDigit, BadPlan, NotDialling}
 use Rattle.dp_machine.specs.declared.dial_status.DialStatus.{DialStatus}
-use Rattle.dp_machine.specs.declared.dial_status.DialStatus.TheVariants.{Answer, Busy, NoAnswer, Congestion, ChanUnavail}
+use Rattle.dp_machine.specs.declared.dial_status.DialStatus.TheVariants.{Answer, Busy, NoAnswer, Congestion, ChanUnavail, DontCall, Torture, InvalidArgs}
 
 -- the number of a refusal
 abbrev pub refusal_code : Refusal → ℕ
@@ -46,3 +46,6 @@ status_name Busy = codes "BUSY"
 status_name NoAnswer = codes "NOANSWER"
 status_name Congestion = codes "CONGESTION"
 status_name ChanUnavail = codes "CHANUNAVAIL"
+status_name DontCall = codes "DONTCALL"
+status_name Torture = codes "TORTURE"
+status_name InvalidArgs = codes "INVALIDARGS"

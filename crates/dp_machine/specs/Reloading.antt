@@ -1,5 +1,5 @@
 -- How another dialplan is put in force.
-use Rattle.std.specs.Prelude.{ℕ, List, Option, Some, None, Result, Ok, Err}
+use Rattle.std.specs.Prelude.{ℕ, Bool, true, false, List, Option, Some, None, Result, Ok, Err}
 use Rattle.dp_plan.specs.Loaded.{plan_and_notes}
 use Rattle.dp_plan.specs.Plan.{PlanOf}
 use Rattle.dp_plan.specs.declared.fault.LoadFault.{LoadFault}
@@ -9,6 +9,8 @@ use Rattle.dp_queue.specs.Counted.{counts_of}
 use Rattle.dp_vars.specs.Functions.{FunctionTable}
 use Rattle.dp_machine.specs.Seen.{globals_set}
 use Rattle.dp_machine.specs.World.{World}
+use Rattle.dp_machine.specs.declared.event.Event.{Event}
+use Rattle.dp_machine.specs.declared.event.Event.TheVariants.{Start, Step, Digit, Timeout, Poll, Hangup, DialResult, Offer, Answer, Decline, AgentDone, Reload, Assign, Redirect}
 use Rattle.dp_machine.specs.declared.refusal.Refusal.TheVariants.{BadPlan}
 use Rattle.dp_machine.specs.declared.reply.Reply.{Reply}
 use Rattle.dp_machine.specs.declared.reply.Reply.TheVariants.{Done, Refused}
@@ -35,3 +37,20 @@ reloaded_by functions w (Some plan) = (record { plan = plan; channels = w.channe
 -- the event `Reload`
 abbrev pub after_reload : FunctionTable → World → List ℕ → World × Reply
 after_reload functions w text = reloaded_by functions w (plan_in (plan_and_notes text))
+
+-- whether an event is a reload
+abbrev pub is_reload : Event → Bool
+is_reload (Start context exten caller) = false
+is_reload (Step number) = false
+is_reload (Digit number digit) = false
+is_reload (Timeout number) = false
+is_reload (Poll number) = false
+is_reload (Hangup number) = false
+is_reload (DialResult number status) = false
+is_reload (Offer queue) = false
+is_reload (Answer agent) = false
+is_reload (Decline agent) = false
+is_reload (AgentDone agent) = false
+is_reload (Reload text) = true
+is_reload (Assign channel name value) = false
+is_reload (Redirect number place) = false

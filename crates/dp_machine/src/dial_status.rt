@@ -16,6 +16,12 @@ pub enum DialStatus {
     Congestion,
     /// No device can be called.
     ChanUnavail,
+    /// With privacy or screening: the called side sent the caller away.
+    DontCall,
+    /// With privacy or screening: the called side sent the caller to the menus that keep callers busy.
+    Torture,
+    /// The arguments of `Dial` are not valid.
+    InvalidArgs,
 }
 
 impl DialStatus {
@@ -29,6 +35,9 @@ impl DialStatus {
             DialStatus::NoAnswer => b"NOANSWER",
             DialStatus::Congestion => b"CONGESTION",
             DialStatus::ChanUnavail => b"CHANUNAVAIL",
+            DialStatus::DontCall => b"DONTCALL",
+            DialStatus::Torture => b"TORTURE",
+            DialStatus::InvalidArgs => b"INVALIDARGS",
         }
     }
 }

@@ -37,7 +37,10 @@ fn ends_call(status: DialStatus, goes_on: bool) -> bool
         DialStatus::Busy
         | DialStatus::NoAnswer
         | DialStatus::Congestion
-        | DialStatus::ChanUnavail => false,
+        | DialStatus::ChanUnavail
+        | DialStatus::DontCall
+        | DialStatus::Torture
+        | DialStatus::InvalidArgs => false,
     }
 }
 

@@ -1,7 +1,7 @@
 //! The parts that belong to no single channel: the dialplan, and what all channels share.
 ghost use Rattle.std.specs.Prelude.{◌≡◌, [], IfOk, OnErr, OnOk};
 ghost use Rattle.dp_machine.specs.Reloading.{shared_with};
-ghost use Rattle.dp_machine.specs.Seen.{globals_set};
+ghost use Rattle.dp_machine.specs.Seen.{globals_of, globals_set};
 ghost use Rattle.dp_machine.specs.steps.Tables.{AreTables};
 ghost use Rattle.dp_machine.specs.World as worlds;
 
@@ -45,6 +45,16 @@ fn make_over<T: AppTable, C: Counts>(
     Ok(Groundwork { globals, tables })
 }
 
+/// The globals of a dialplan before the first phone call.
+#[tactic(auto, unfolding(crate::specs::Seen::globals_of))]
+fn opening_globals<T: AppTable>(alloc: Global, plan: &Dialplan) -> Result<Globals, NoMemory>
+    ensures { IfOk result (λ globals. globals ≡ globals_of T.Functions.table plan.now.globals) }
+{
+    let mut globals = Globals::new(alloc);
+    set_globals::<T::Functions, NoQueues>(alloc, &mut globals, &NoQueues, plan.globals())?;
+    Ok(globals)
+}
+
 /// The parts that another dialplan makes over the existing globals.
 fn renew<T: AppTable>(
     alloc: Global,
@@ -74,6 +84,22 @@ impl Exchange {
             plan: Directory::with(plan, tables),
             shared: SharedState { globals, queues },
         })
+    }
+
+    /// Puts back what all channels share as it is before the first phone call, with these queues. The dialplan stays, with its tables. If
+    /// memory runs out nothing changes.
+    pub(crate) fn restart<T: AppTable>(
+        &mut self,
+        alloc: Global,
+        queues: Queues,
+    ) -> Result<(), NoMemory>
+        ensures ok { OnOk result (worlds.world_in self.new [] ≡ worlds.opening_with T.Functions.table self.old.plan queues) }
+        ensures err { OnErr result (self.new ≡ self.old) }
+    {
+        let made = opening_globals::<T>(alloc, self.plan.plan());
+        let (globals, queues) = beside(made, queues)?;
+        self.shared = SharedState { globals, queues };
+        Ok(())
     }
 
     /// Puts another dialplan in force, and sets its globals over the existing ones. If memory runs out nothing changes.

@@ -1,8 +1,10 @@
 //! Laws of the machine about whole lists of events.
-ghost use Rattle.std.specs.Prelude.{◌≡◌, ℕ, List};
+ghost use Rattle.std.specs.Prelude.{◌≡◌, ℕ, List, false};
+ghost use Rattle.std.specs.List.{list_any};
 ghost use Rattle.dp_app.specs.Rows.{with_functions};
 ghost use Rattle.dp_machine.specs.Isolation.{AreSameBut, IsUnseen, replies_without, without};
-ghost use Rattle.dp_machine.specs.Replay.{replies_to, world_after};
+ghost use Rattle.dp_machine.specs.Reloading.{is_reload};
+ghost use Rattle.dp_machine.specs.Replay.{final_world, replies_to, world_after};
 ghost use Rattle.dp_machine.specs.World.{World};
 ghost use Rattle.dp_machine.specs.declared.event.Event.{Event};
 
@@ -18,4 +20,14 @@ pub fn isolation<T: AppTable>()
         ≡ replies_without channel events (replies_to (with_functions T.rows T.Functions.table) world events) }
     ensures world { (world : World) (events : List Event) (channel : ℕ) → IsUnseen (with_functions T.rows T.Functions.table) channel world events
         → AreSameBut channel (world_after (with_functions T.rows T.Functions.table) world (without channel events)) (world_after (with_functions T.rows T.Functions.table) world events) }
+{}
+
+/// An event that is no reload leaves the dialplan in force as it is, and so does a list of such events. This holds in every world, and over
+/// every table. This function does nothing.
+#[tactic(auto, using(crate::proofs::PlanLemmas::plan_stays, crate::proofs::PlanLemmas::plan_stays_after))]
+pub fn plan_stays<T: AppTable>()
+    ensures event { (world : World) (event : Event) → is_reload event ≡ false
+        → (final_world (with_functions T.rows T.Functions.table) world event).plan ≡ world.plan }
+    ensures events { (world : World) (events : List Event) → list_any is_reload events ≡ false
+        → (world_after (with_functions T.rows T.Functions.table) world events).plan ≡ world.plan }
 {}

@@ -255,6 +255,21 @@ impl<T: AppTable> Machine<T> {
         })
     }
 
+    /// Puts the machine back to before the first phone call, as `new` makes it of the dialplan in force and these queues: there are no
+    /// channels, and the globals are those of the dialplan. The tables that look-ups search are kept, so this takes no longer with a
+    /// larger dialplan unless it has more globals. If memory runs out the machine is as before.
+    pub fn restart(&mut self, alloc: Global, queues: Queues) -> Result<(), NoMemory>
+        requires { IsAtRest queues }
+        ensures ok { OnOk result (self.new ≡ worlds.opening_with T.Functions.table self.old.plan queues) }
+        ensures good { good.IsGoodWorld self.new }
+        ensures err { OnErr result (self.new ≡ self.old) }
+    {
+        self.exchange.restart::<T>(alloc, queues)?;
+        self.exchange.shared.queues.show_good();
+        self.channels = Vec::new(alloc);
+        Ok(())
+    }
+
     /// Applies one event, and gives the reply. A refused event changes nothing, and allocates only if it gives another dialplan, which must
     /// be loaded to decide that. If memory runs out the machine is as before.
     pub fn apply(&mut self, alloc: Global, event: Event) -> Result<Reply, NoMemory>

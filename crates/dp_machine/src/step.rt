@@ -20,7 +20,7 @@ use crate::refusal::Refusal;
 use crate::reply::Reply;
 use crate::seen::expand_arguments;
 use crate::shared_state::SharedState;
-use crate::target::land;
+use crate::target::{enter, land};
 use crate::templates::{Arguments, PreparedEntry};
 use dp_app::{AppNumber, AppTable, Cell, Exten, Move, Phase, Place};
 use dp_plan::{EntryId, NoMemory};
@@ -36,6 +36,7 @@ fn go(plan: &mut Directory, channel: &mut Channel, going: Option<Move>)
     match going {
         Some(Move::Next) => go_on(channel),
         Some(Move::Jump(target)) => land(plan, channel, target),
+        Some(Move::Enter(parts)) => enter(plan, channel, parts),
         Some(Move::Park(phase)) => channel.phase = phase,
         Some(Move::Hang) => hang_up(plan, channel),
         None => hang_up(plan, channel),

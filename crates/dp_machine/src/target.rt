@@ -3,6 +3,7 @@ ghost use Rattle.std.specs.Prelude.{◌≡◌, ◌≤◌, IfSome, length, revers
 ghost use Rattle.std.specs.Option.{option_map};
 ghost use Rattle.dp_machine.specs.Channels as channels;
 ghost use Rattle.dp_machine.specs.Targets as spec;
+ghost use Rattle.dp_vars.specs.Stores.{innermost};
 
 use crate::channel::Channel;
 use crate::directory::Directory;
@@ -151,6 +152,32 @@ fn land_at_existing(plan: &mut Directory, channel: &mut Channel, parts: TargetPa
     match existing_priority(plan, &channel.place, &parts) {
         Some(priority) => go_to_parts(channel, parts, priority),
         None => hang_up(plan, channel),
+    }
+}
+
+/// Takes the channel back to the place to which its innermost frame returns, or hangs it up if it has no frame.
+fn go_back(plan: &mut Directory, channel: &mut Channel)
+    ensures channel { channel.new ≡ channels.back_by plan.old channel.old (innermost channel.old.store.frames) }
+    ensures same { plan.new ≡ plan.old }
+{
+    match channel.store.pop_frame() {
+        Some(place) => {
+            channel.place = place;
+            channel.phase = Phase::Ready;
+        }
+        None => hang_up(plan, channel),
+    }
+}
+
+/// Makes the channel ready at the place that the parts name, if an entry is found there, else takes it back from its innermost frame.
+pub(crate) fn enter(plan: &mut Directory, channel: &mut Channel, parts: TargetParts)
+    ensures channel { channel.new ≡ channels.at_place_or_back plan.old channel.old
+        (spec.if_found plan.old (spec.parts_place plan.old channel.old.place parts)) }
+    ensures same { plan.new ≡ plan.old }
+{
+    match existing_priority(plan, &channel.place, &parts) {
+        Some(priority) => go_to_parts(channel, parts, priority),
+        None => go_back(plan, channel),
     }
 }
 

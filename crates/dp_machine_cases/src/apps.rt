@@ -89,6 +89,10 @@ fn push_move(out: &mut String, going: &Move) -> Result<(), NoMemory> {
     match going {
         Move::Next => out.push_str("next")?,
         Move::Jump(target) => push_jump(out, target)?,
+        Move::Enter(parts) => {
+            out.push_str("enter ")?;
+            push_parts(out, parts)?;
+        }
         Move::Park(_) => out.push_str("park")?,
         Move::Hang => out.push_str("hang")?,
     }

@@ -38,12 +38,15 @@ BadPlan 52 BadPlan
 NotDialling 53 NotDialling
 ";
 
-const STATUSES: [DialStatus; 5] = [
+const STATUSES: [DialStatus; 8] = [
     DialStatus::Answer,
     DialStatus::Busy,
     DialStatus::NoAnswer,
     DialStatus::Congestion,
     DialStatus::ChanUnavail,
+    DialStatus::DontCall,
+    DialStatus::Torture,
+    DialStatus::InvalidArgs,
 ];
 
 /// The results of a call to devices, each with its name.
@@ -52,6 +55,9 @@ Busy BUSY
 NoAnswer NOANSWER
 Congestion CONGESTION
 ChanUnavail CHANUNAVAIL
+DontCall DONTCALL
+Torture TORTURE
+InvalidArgs INVALIDARGS
 ";
 
 fn push_refusal(out: &mut String, refusal: Refusal) -> Result<(), NoMemory> {

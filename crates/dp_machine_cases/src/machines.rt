@@ -1,7 +1,7 @@
 //! Machines, their readers, runs of events, and copies of events.
 use dp_case_tables::{check_same, check_that};
 use dp_commands::{ScriptLine, Turn, read_script};
-use dp_machine::{EntryId, Event, NoMemory, Phase, Place, Refusal, Reply};
+use dp_machine::{EntryId, Event, NoMemory, Phase, Place, Queues, Refusal, Reply};
 use dp_machine_fixture::{Checked, Exchange, check_on, push_state, state_of};
 use std::alloc::Global;
 use std::test::Fail;
@@ -239,6 +239,51 @@ impl Checked for GoesOn {
     }
 }
 
+/// A dialplan whose calls change its global.
+const COUNTED: &[u8] =
+    b"[globals]\nN=1\n[main]\nexten => s,1,Set(GLOBAL(N)=${N}1)\nexten => s,2,NoOp()\n";
+
+fn check_global(machine: &Exchange, want: &[u8]) -> Result<(), Fail> {
+    check_that(machine.global(b"N") == want, "the global")
+}
+
+/// Puts the machine back, and again if memory runs out; then it is as before.
+fn restart(alloc: Global, machine: &mut Exchange) -> Result<(), Fail> {
+    let before = state_of(alloc, machine, 1)?;
+    if machine.restart(alloc, Queues::none(alloc)).is_err() {
+        check_unchanged(alloc, machine, &before)?;
+        check_global(machine, b"11")?;
+        machine.restart(alloc, Queues::none(alloc))?;
+    }
+    Ok(())
+}
+
+/// A machine that is put back has no channels and the first globals, so that its next phone call has number 1; after a reload it has those of
+/// the dialplan in force, and no others.
+struct PutBack;
+
+impl Checked for PutBack {
+    fn check(alloc: Global, machine: &mut Exchange) -> Result<(), Fail> {
+        for _turn in 0..2 {
+            run_of(
+                alloc,
+                machine,
+                b"start main s\nstart main s\nstep 1",
+                &mut Vec::new(alloc),
+            )?;
+            check_states(alloc, machine, "ready main,s,2\nready main,s,1\nnone\n")?;
+            check_global(machine, b"11")?;
+            restart(alloc, machine)?;
+            check_states(alloc, machine, "none\nnone\nnone\n")?;
+            check_global(machine, b"1")?;
+        }
+        run_of(alloc, machine, b"reload", &mut Vec::new(alloc))?;
+        check_global(machine, b"1")?;
+        machine.restart(alloc, Queues::none(alloc))?;
+        check_global(machine, b"")
+    }
+}
+
 /// An event of each kind.
 const EVENTS: &[u8] =
     b"start main 2-00 555\xFF\nstep 4294967295\ndigit 1 5\ntimeout 1\npoll 2\nhangup 3\nresult 4 BUSY\n\
@@ -292,7 +337,8 @@ fn machines_run_and_events_are_copied(rt: HostRuntime) -> Result<(), Fail> {
 
 fn check_again(alloc: Global) -> Result<(), Fail> {
     check_on::<GivenAgain>(alloc, PLAN)?;
-    check_on::<GoesOn>(alloc, PLAN)
+    check_on::<GoesOn>(alloc, PLAN)?;
+    check_on::<PutBack>(alloc, COUNTED)
 }
 
 /// What goes on after memory ran out.

@@ -50,6 +50,7 @@ abbrev pub own_functions : FunctionTable
 own_functions = record {
   value = own_value;
   knows = own_knows;
+  variable = standard_functions.variable;
   knows_name = own_knows_name;
   reads = own_reads;
   expression = own_expression;

@@ -64,6 +64,10 @@ impl Functions for OwnFunctions {
         StandardFunctions::value(alloc, scope, name, argument)
     }
 
+    fn variable<'a, B, C: Counts>(scope: &Scope<'a, B, C>, name: &[u8]) -> FoundValue<'a> {
+        variable(scope, name)
+    }
+
     fn knows_name<B, C: Counts>(scope: &Scope<'_, B, C>, name: &[u8]) -> bool {
         name != b"STATUS".as_slice() || is_set(scope, name)
     }

@@ -15,7 +15,7 @@ use Rattle.dp_machine.specs.declared.channel.Channel.{Channel}
 use Rattle.dp_machine.specs.declared.dial_status.DialStatus.{DialStatus}
 use Rattle.dp_machine.specs.declared.shared_state.SharedState.{SharedState}
 use Rattle.dp_app.specs.declared.moves.Move.{Move}
-use Rattle.dp_app.specs.declared.moves.Move.TheVariants.{Next, Jump, Park, Hang}
+use Rattle.dp_app.specs.declared.moves.Move.TheVariants.{Next, Jump, Enter, Park, Hang}
 use Rattle.dp_app.specs.declared.phase.Phase.TheVariants.{Ended}
 use Rattle.dp_app.specs.declared.place.Place.{Place}
 use Rattle.dp_pieces.specs.Bytes.{Within}
@@ -90,6 +90,7 @@ module _ (duties : List ℕ → Duties) (claim : Claim) (answers : EntryId → B
   in-after_move : (c : Channel) (move : Move) → IsChannelIn claim c → LeadsInto claim c.place move → IsChannelIn claim (after_move claim.plan c move)
   in-after_move c Next here leads = in-going_on c here
   in-after_move c (Jump target) here leads = in-at_target c (target_place claim.plan c.place target) here leads
+  in-after_move c (Enter parts) here leads = absurd leads
   in-after_move c (Park phase) here leads = record { place = here.place; store = here.store; caller = here.caller; phase = leads }
   in-after_move c Hang here leads = in-hung_up c here
 

@@ -15,7 +15,7 @@ use Rattle.dp_machine.specs.declared.shared_state.SharedState.{SharedState}
 use Rattle.dp_app.specs.Rows.{Outcome}
 use Rattle.dp_app.specs.Cells.{CellOf}
 use Rattle.dp_app.specs.declared.moves.Move.{Move}
-use Rattle.dp_app.specs.declared.moves.Move.TheVariants.{Next, Jump, Park, Hang}
+use Rattle.dp_app.specs.declared.moves.Move.TheVariants.{Next, Jump, Enter, Park, Hang}
 use Rattle.dp_app.specs.declared.phase.Phase.{Phase}
 use Rattle.dp_app.specs.declared.phase.Phase.TheVariants.{Ready, Digits, Pause, Queued, Talking, Dialling, Ended}
 use Rattle.dp_app.specs.declared.place.Place.{Place}
@@ -75,10 +75,11 @@ IsPhaseIn claim place (Talking queue agent goes_on) = Unit {0}
 IsPhaseIn claim place (Dialling goes_on has_timer) = Unit {0}
 IsPhaseIn claim place Ended = Unit {0}
 
--- where a move may lead
+-- where a move may lead; no application of this program's twenty-one enters a place or goes back
 abbrev pub LeadsInto : Claim → Place → Move → Type 0
 LeadsInto claim own Next = Unit {0}
 LeadsInto claim own (Jump target) = (place : Place) → target_place claim.plan own target ≡ Some place → Covers claim.plan claim.reach place
+LeadsInto claim own (Enter parts) = ⊥
 LeadsInto claim own (Park phase) = IsPhaseIn claim own phase
 LeadsInto claim own Hang = Unit {0}
 

@@ -15,8 +15,14 @@ const WIDE: &str = r"
 ¦exten => s,1,Set(A=${B}${UNIQUEID})→ok 0 findings\nstatus 0
 # The others are reported as without the option.
 ¦exten => s,1,Goto(9)\nexten => s,3,Hangup()\nexten => t,2,Hangup()\ninclude => main→Cycle main\nNoTarget main,s,1 9\nGap main,s,1 2\nNoFirst main,t,2\nok 4 findings\nstatus 1
-# A label that an application beyond the twenty-one may name is used. Its targets are not checked.
-¦exten => s,1,GotoIfTime(*,*,*,*?open:shut)\nexten => s,2(open),NoOp()\nexten => s,3(late),Hangup()→Unused main,s,3 late\nok 1 findings\nstatus 1
+# A label that an application beyond the twenty-one may name is used. The targets of `GotoIfTime` are checked after all others.
+¦exten => s,1,GotoIfTime(*,*,*,*?open:shut)\nexten => s,2(open),NoOp()\nexten => s,3(late),Hangup()→Unused main,s,3 late\nNoTarget main,s,1 shut\nok 2 findings\nstatus 1
+NoTarget¦exten => s,1,GotoIfTime(9:00-17:00,mon-fri,*,*?open,s,1:closed,s,1)\nexten => s,2,gotoiftime(*?${X},s,1)\nexten => s,3,Goto(9)\n[open]\nexten => s,1,Hangup()→NoTarget main,s,3 9\nNoTarget main,s,1 closed,s,1\nok 2 findings\nstatus 1
+# So are those of what an `ExecIf` may run, on both sides and in the old form.
+NoTarget¦exten => s,1,ExecIf($[${A} = 1]?Goto(far,s,1):Gosub(sub,s,1(a)))\nexten => s,2,ExecIf(${A}?NoOp(x):GotoIf(1?here:there))\nexten => s,3(here),ExecIf(${A},Goto,near,s,1)\nexten => s,4,execif(${A}?GotoIfTime(*?here:gone))\n[far]\nexten => s,1,Hangup()→NoTarget main,s,1 sub,s,1(a)\nNoTarget main,s,2 there\nNoTarget main,s,3 near,s,1\nNoTarget main,s,4 gone\nok 4 findings\nstatus 1
+# Without a side, with computed targets, or with an `ExecIf` inside another one, nothing is checked.
+NoTarget¦exten => s,1,ExecIf()\nexten => s,2,ExecIf(1?)\nexten => s,3,ExecIf(1?Goto(${B}):Goto($[1]))\nexten => s,4,ExecIf(1?ExecIf(1?Goto(gone)))\nexten => s,5,GotoIfTime()→ok 0 findings\nstatus 0
+Gap¦exten => s,1,GotoIfTime(*?gone)→ok 0 findings\nstatus 0
 ¦exten => s,1,ExecIf($[1]?Goto(end):Macro(none))\nexten => s,2(end),Hangup()→ok 0 findings\nstatus 0
 # A call goes on in another extension.
 ¦exten => 100,1,NoOp()\nexten => 100,2,Dial(Line/1)\nexten => _X.,1,NoOp()\nexten => _X.,2,NoOp()\nexten => _X.,3,Dial(Line/2)→FallsThrough main,100,2 main,_X.,3\nok 1 findings\nstatus 1

@@ -37,6 +37,12 @@ exten => s,1,NoOp()¦¦start main s\nlet 9 X=1→started 1\nrefused 40 NoChannel
 # The result of an application that runs outside, and how the call goes on.
 exten => s,1,VoiceMail(1)\nexten => s,2,Set(A=${VMSTATUS})¦¦start main s\nstep 1\nlet 1 VMSTATUS=OK\ngo 1\nstep 1\nshow 1 A→started 1\nran 1 main,s,1 VoiceMail -> pause\nok 1 -> pause\nok 1 -> ready main,s,2\nran 1 main,s,2 Set -> ready main,s,3\nA=OK\nstatus 0
 exten => s,1,Read(PIN,beep)\nexten => s,2,GotoIf($[${PIN} = 42]?4)\nexten => s,4,NoOp()¦¦start main s\nstep 1\ngo 1\nstep 1\nlet 1 PIN=42\nstep 1→started 1\nran 1 main,s,1 Read -> pause\nok 1 -> ready main,s,2\nunknown 1 PIN -> ready main,s,2\nok 1 -> ready main,s,2\nran 1 main,s,2 GotoIf -> ready main,s,4\nstatus 4
+# The results of a call to devices that a plain script does not have.
+exten => s,1,Dial(SIP/1)\nexten => s,2,NoOp(${DIALSTATUS})¦¦start main s\nstep 1\nresult 1 TORTURE\nshow 1 DIALSTATUS→started 1\nran 1 main,s,1 Dial -> dialling\nok 1 -> ready main,s,2\nDIALSTATUS=TORTURE\nstatus 0
+exten => s,1,Dial(SIP/1,,g)¦¦start main s\nresult 1 DONTCALL\nstep 1\nresult 1 INVALIDARGS\nresult 9 DONTCALL→started 1\nrefused 53 NotDialling\nran 1 main,s,1 Dial -> dialling\nok 1 -> ready main,s,2\nrefused 40 NoChannel\nstatus 1
+# A macro that is not there, and keys that are deleted with those below them.
+exten => s,1,Macro(none,x)\nexten => s,2,NoOp(${ARG1})¦¦start main s\nstep 1 2→started 1\nran 1 main,s,1 Macro -> ready main,s,2\nran 1 main,s,2 NoOp -> ready main,s,3\nstatus 0
+exten => s,1,Set(DB(a/b)=1)\nexten => s,2,DBdeltree(a)\nexten => s,3,Set(A=<${DB(a/b)}${DB(a/c)}>)\nexten => s,4,Set(A=${DB(b)})¦¦start main s\nstep 1 4\nshow 1 A→started 1\nran 1 main,s,1 Set -> ready main,s,2\nran 1 main,s,2 DBdeltree -> ready main,s,3\nran 1 main,s,3 Set -> ready main,s,4\nunknown 1 DB(b) -> ready main,s,4\nA=<>\nstatus 4
 # The clock.
 exten => s,1,GotoIfTime(9:00-17:00,mon-fri,*,*?3)\nexten => s,3,NoOp()¦¦start main s\nstep 1\nclock wed 2026-11-25 10:30\nstep 1→started 1\nunknown 1 CLOCK -> ready main,s,1\nok\nran 1 main,s,1 GotoIfTime -> ready main,s,3\nstatus 4
 # What nothing set is empty if the script says so, in the functions that it names and in no others.
@@ -55,6 +61,8 @@ const CALLS: &str = r"
 # A call is shown with its value in the channel.
 exten => s,1,Set(X=a-b-c)¦¦start main s\nstep 1\nshow 1 CUT(X,-,2)\nshow 1 LEN(${X})\nshow 1 X→started 1\nran 1 main,s,1 Set -> ready main,s,2\nCUT(X,-,2)=b\nLEN(${X})=5\nX=a-b-c\nstatus 0
 exten => s,1,NoOp()¦¦start main s\nglobal DB(k)=a b\nshow 1 DB(k)→started 1\nok\nDB(k)=a b\nstatus 0
+# The name of the channel is shown like a call.
+exten => s,1,Set(A=${CHANNEL})¦¦start main s\nshow 1 CHANNEL\nstep 1\nlet 1 CHANNEL=SIP/1-01\nshow 1 CHANNEL\nstep 1\nshow 1 A→started 1\nunknown 1 CHANNEL -> ready main,s,1\nunknown 1 CHANNEL -> ready main,s,1\nok 1 -> ready main,s,1\nCHANNEL=SIP/1-01\nran 1 main,s,1 Set -> ready main,s,2\nA=SIP/1-01\nstatus 4
 # It is not shown while something in it is unknown, and the run has stopped once.
 exten => s,1,NoOp()¦¦start main s\nshow 1 DB(k)\nstep 1\nlet 1 DB(k)=5\nshow 1 DB(k)→started 1\nunknown 1 DB(k) -> ready main,s,1\nran 1 main,s,1 NoOp -> ready main,s,2\nok 1 -> ready main,s,2\nDB(k)=5\nstatus 4
 exten => s,1,NoOp()¦¦start main s\nhangup 1\nshow 1 DB(a)\nshow 1 LEN(${DB(b)})→started 1\nok 1 -> ended\nunknown 1 DB(a) -> ended\nunknown 1 DB(b) -> ended\nstatus 4

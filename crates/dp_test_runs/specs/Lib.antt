@@ -10,3 +10,4 @@ pub mod Tap
 pub mod Tests
 pub mod Traces
 pub mod Verdicts
+pub mod steps

@@ -8,7 +8,7 @@ use crate::ran::{RanEntries, give};
 use crate::settling::settle;
 use crate::turns::{event_given, refusal_without};
 use dp_commands::ScriptLine;
-use dp_machine::{Event, Machine, NoMemory, Refusal, Reply};
+use dp_machine::{Event, Machine, NoMemory, Queues, Refusal, Reply};
 use dp_wide::WideApps;
 use dp_wide_runs::WideTurn;
 use std::alloc::Global;
@@ -75,9 +75,12 @@ fn offered_by(reply: Reply) -> Option<u32>
 }
 
 impl Course {
-    ghost use Rattle.std.specs.Prelude.{◌≡◌, OnOk, Some, fold};
+    ghost use Rattle.std.specs.Prelude.{◌≡◌, [], OnOk, Some, fold};
     ghost use Rattle.std.specs.Option.{option_map};
     ghost use Rattle.dp_commands.specs.Script.{line_turns, turns_of};
+    ghost use Rattle.dp_machine.specs.World.{opening_with};
+    ghost use Rattle.dp_queue.specs.Rest.{IsAtRest};
+    ghost use Rattle.dp_wide.specs.Functions.{wide_functions};
     ghost use Rattle.dp_test_runs.specs.Courses as spec;
     ghost use Rattle.dp_test_runs.specs.Tests as tests;
 
@@ -95,18 +98,27 @@ impl Course {
         }
     }
 
-    /// The entries that ran, and the dialplans that were put in force.
-    pub(crate) fn into_ran(self) -> (RanEntries, Items<PlanChange>)
-        ensures { result ≡ (self.ran, self.changes) }
+    /// The course at the beginning of a test in the machine of this one, with its dialplan in force and these queues.
+    pub(crate) fn restart(&mut self, alloc: Global, queues: Queues) -> Result<(), NoMemory>
+        requires { IsAtRest queues }
+        ensures { OnOk result (self.new ≡ tests.beginning (opening_with wide_functions self.old.machine.plan queues)) }
     {
-        let Course {
-            machine: _,
-            ran,
-            refusal: _,
-            offered: _,
-            is_endless: _,
-            changes,
-        } = self;
+        self.machine.restart(alloc, queues)?;
+        self.ran = Items::none(alloc);
+        self.refusal = None;
+        self.offered = None;
+        self.is_endless = false;
+        self.changes = Items::none(alloc);
+        Ok(())
+    }
+
+    /// The entries that ran, and the dialplans that were put in force, which leave the course.
+    pub(crate) fn take_ran(&mut self, alloc: Global) -> (RanEntries, Items<PlanChange>)
+        ensures taken { result ≡ (self.old.ran, self.old.changes) }
+        ensures left { self.new ≡ record self.old { ran = []; changes = [] } }
+    {
+        let ran = std::mem::replace(&mut self.ran, Items::none(alloc));
+        let changes = std::mem::replace(&mut self.changes, Items::none(alloc));
         (ran, changes)
     }
 

@@ -7,12 +7,14 @@ ghost use Rattle.dp_commands.specs.LinePlaces.{line_place, places_of};
 ghost use Rattle.dp_plan.specs.Lookup.{line_at};
 ghost use Rattle.dp_test_runs.specs.Coverage as spec;
 ghost use Rattle.dp_test_runs.specs.Ran.{context_name};
+ghost use Rattle.dp_test_runs.specs.steps.Kept as steps;
 
 use crate::items::Items;
 use crate::shown::push_decimal;
 use crate::sources::push_line_place;
 use dp_commands::{LinePlaces, PbxFault};
 use dp_plan::{Context, Dialplan, Entry, EntryId, EntryLines, LoadedPlan, NoMemory, Text};
+use indexmap::IndexSet;
 use std::alloc::Global;
 
 /// A dialplan whose coverage is told.
@@ -69,23 +71,43 @@ fn ids_of(alloc: Global, plan: &Dialplan) -> Result<Items<EntryId>, NoMemory>
     Ok(ids)
 }
 
-/// Whether two entries have the same numbers.
-fn is_same(a: EntryId, b: EntryId) -> bool
-    ensures { result ≡ spec.same_id a b }
+/// Adds an entry to those that are kept.
+fn add_id(kept: &mut IndexSet<EntryId>, id: EntryId) -> Result<(), NoMemory>
+    ensures { OnOk result (steps.Adds (λ other. spec.same_id other id) kept.old.keys kept.new.keys) }
 {
-    a.context == b.context && a.entry == b.entry
+    kept.insert(id)?;
+    Ok(())
+}
+
+/// Adds entries to those that are kept.
+fn add_ids(kept: &mut IndexSet<EntryId>, ids: &[EntryId]) -> Result<(), NoMemory>
+    ensures { OnOk result (steps.Adds (spec.has_run ids.now) kept.old.keys kept.new.keys) }
+{
+    for id in ids {
+        add_id(kept, *id)?;
+    }
+    Ok(())
+}
+
+/// The entries that tests ran, each kept once, so that it is found without a walk over all that ran.
+fn kept_of(alloc: Global, ran: &[EntryId]) -> Result<IndexSet<EntryId>, NoMemory>
+    ensures { IfOk result (λ kept. (id : EntryId) → spec.has_run kept.keys id ≡ spec.has_run ran.now id) }
+{
+    let mut kept = IndexSet::new(alloc);
+    add_ids(&mut kept, ran)?;
+    Ok(kept)
 }
 
 /// Whether an entry is one of those that tests ran.
-fn has_run(ran: &[EntryId], id: EntryId) -> bool
-    ensures { result ≡ spec.has_run ran.now id }
+fn has_run(ran: &IndexSet<EntryId>, id: EntryId) -> bool
+    ensures { result ≡ spec.has_run ran.now.keys id }
 {
-    ran.iter().any(|other| is_same(id, *other))
+    ran.contains(&id)
 }
 
 /// How many entries are among those that tests ran.
-fn count_covered(ran: &[EntryId], ids: &[EntryId]) -> usize
-    ensures { result ≡ length (filter (spec.has_run ran.now) ids.now) }
+fn count_covered(ran: &IndexSet<EntryId>, ids: &[EntryId]) -> usize
+    ensures { result ≡ length (filter (spec.has_run ran.now.keys) ids.now) }
 {
     ids.iter().filter(|id| has_run(ran, **id)).count()
 }
@@ -162,11 +184,11 @@ fn push_never_at(out: &mut Vec<u8>, plan: &NumberedPlan<'_>, id: EntryId) -> Res
 fn push_never_by(
     out: &mut Vec<u8>,
     plan: &NumberedPlan<'_>,
-    ran: &[EntryId],
+    ran: &IndexSet<EntryId>,
     id: EntryId,
 ) -> Result<(), NoMemory>
     ensures { OnOk result (out.new.items ≡ out.old.items
-        ++ spec.never_by plan.now.places plan.now.lines.now plan.now.plan.now ran.now id) }
+        ++ spec.never_by plan.now.places plan.now.lines.now plan.now.plan.now ran.now.keys id) }
 {
     if has_run(ran, id) {
         return Ok(());
@@ -178,11 +200,11 @@ fn push_never_by(
 fn push_each_never(
     out: &mut Vec<u8>,
     plan: &NumberedPlan<'_>,
-    ran: &[EntryId],
+    ran: &IndexSet<EntryId>,
     ids: &[EntryId],
 ) -> Result<(), NoMemory>
     ensures { OnOk result (out.new.items ≡ out.old.items
-        ++ flat_map (spec.never_by plan.now.places plan.now.lines.now plan.now.plan.now ran.now) ids.now) }
+        ++ flat_map (spec.never_by plan.now.places plan.now.lines.now plan.now.plan.now ran.now.keys) ids.now) }
 {
     for id in ids {
         push_never_by(out, plan, ran, *id)?;
@@ -192,9 +214,13 @@ fn push_each_never(
 
 /// The coverage of a dialplan by the entries that tests ran.
 #[tactic(auto, unfolding(crate::specs::Coverage::coverage_of))]
-fn coverage_of(alloc: Global, plan: &NumberedPlan<'_>, ran: &[EntryId]) -> Result<Text, NoMemory>
+fn coverage_of(
+    alloc: Global,
+    plan: &NumberedPlan<'_>,
+    ran: &IndexSet<EntryId>,
+) -> Result<Text, NoMemory>
     ensures { IfOk result (λ text. text
-        ≡ spec.coverage_of plan.now.places plan.now.lines.now plan.now.plan.now ran.now) }
+        ≡ spec.coverage_of plan.now.places plan.now.lines.now plan.now.plan.now ran.now.keys) }
 {
     let ids = ids_of(alloc, plan.plan)?;
     let ids = ids.as_slice();
@@ -205,6 +231,7 @@ fn coverage_of(alloc: Global, plan: &NumberedPlan<'_>, ran: &[EntryId]) -> Resul
 }
 
 /// The coverage of a loaded dialplan, whose lines come from these places.
+#[tactic(auto, using(crate::proofs::KeptLemmas::coverage_alike))]
 fn coverage_in(
     alloc: Global,
     places: LinePlaces<'_>,
@@ -218,7 +245,9 @@ fn coverage_in(
         plan: &loaded.plan,
         lines: &loaded.lines,
     };
-    coverage_of(alloc, &plan, ran)
+    let kept = kept_of(alloc, ran)?;
+    let text = coverage_of(alloc, &plan, &kept)?;
+    Ok(text)
 }
 
 /// The coverage of a dialplan by the entries of it that tests ran: `# covered E of M entries`, and below it, in the order of the dialplan,

@@ -13,6 +13,7 @@ mod points;
 mod queue_claims;
 mod ran;
 mod ran_claims;
+mod reloads;
 mod settling;
 mod shown;
 mod sources;

@@ -1,21 +1,29 @@
 //! What the tests of a file came to, as it is reported.
-ghost use Rattle.std.specs.Prelude.{◌≡◌, ◌++◌, IfErr, IfOk, OnOk, Ok, None, position};
+ghost use Rattle.std.specs.Prelude.{◌≡◌, ◌++◌, IfErr, IfOk, IsOk, OnOk, Ok, None, false, position};
 ghost use Rattle.std.specs.Option.{option_map};
 ghost use Rattle.dp_conf.specs.Answers.{Answers};
 ghost use Rattle.dp_conf.specs.Blanks as blanks;
+ghost use Rattle.dp_machine.specs.World.{opening_with};
+ghost use Rattle.dp_queue.specs.Rest.{IsAtRest};
+ghost use Rattle.dp_wide.specs.Functions.{wide_functions};
 ghost use Rattle.dp_commands.specs.Faults.{reason_of};
+ghost use Rattle.dp_commands.specs.Run.{queues_of};
 ghost use Rattle.dp_test_runs.specs.Points as spec;
+ghost use Rattle.dp_test_runs.specs.Tests as tests;
+ghost use Rattle.dp_test_runs.specs.steps.Reloads as reloads;
 
+use crate::course::Course;
 use crate::failure::{Failure, FailureKind};
 use crate::items::Items;
+use crate::reloads::test_reloads;
 use crate::shown::push_decimal;
 use crate::sources::Sources;
 use crate::tap::{Point, Report};
 use crate::test_run::{TestResult, TestTexts, begin, run_on};
 use crate::traces::{entered, last_five, trace_of};
 use dp_commands::{LinePlaces, PbxFault, line_in};
-use dp_conf::{is_blank, trim};
-use dp_machine::Machine;
+use dp_conf::{beside, is_blank, trim};
+use dp_machine::{Machine, Queues};
 use dp_plan::{EntryId, NoMemory, Text};
 use dp_tests::{Test, TestFile};
 use dp_wide::WideApps;
@@ -162,19 +170,22 @@ fn point_by(
     })
 }
 
-/// The point of a test that begins in this machine.
+/// The point of a test that begins with this course. A test that does not reload leaves the dialplan in force as it is.
 fn point_in(
     alloc: Global,
     tested: &TestedFile<'_>,
     sources: &Sources<'_>,
     test: &Test,
-    machine: Machine<WideApps>,
+    course: &mut Course,
 ) -> Result<Point, NoMemory>
-    requires { sources.now ≡ spec.sources_for tested.now }
-    ensures { IfOk result (λ point. point ≡ spec.point_in tested.now machine test.now) }
+    requires sources { sources.now ≡ spec.sources_for tested.now }
+    requires beginning { course.old ≡ tests.beginning course.old.machine }
+    ensures point { IfOk result (λ point. point ≡ spec.point_in tested.now course.old.machine test.now) }
+    ensures plan { OnOk result (reloads.test_reloads tested.now.file.now test.now ≡ false → course.new.machine.plan ≡ course.old.machine.plan) }
 {
-    let ended = run_on(alloc, tested.texts.reloaded, tested.file, test, machine)?;
-    point_by(alloc, tested, sources, &test.name, &ended)
+    let ended = run_on(alloc, tested.texts.reloaded, tested.file, test, course)?;
+    let point = point_by(alloc, tested, sources, &test.name, &ended)?;
+    Ok(point)
 }
 
 /// The machine in which each test of a file begins.
@@ -185,58 +196,118 @@ fn begin_tests(alloc: Global, tested: &TestedFile<'_>) -> Result<Machine<WideApp
     begin(alloc, tested.texts.plan, tested.texts.queues)
 }
 
-/// Another machine like the first one of the tests. The texts have been read before, so it fails only if memory runs out.
-#[tactic(auto, using(crate::proofs::PointsLemmas::refused_memory))]
-fn begin_again(
-    alloc: Global,
-    tested: &TestedFile<'_>,
-    first: &Machine<WideApps>,
-) -> Result<Machine<WideApps>, PbxFault>
-    requires { spec.opening tested.now ≡ Ok first.now }
-    ensures machine { IfOk result (λ machine. machine ≡ first.now) }
-    ensures memory { IfErr result (λ fault. reason_of fault ≡ None) }
+/// The queues of a file's tests, in which nothing has happened. The error is their first fault, or want of memory.
+fn load_queues(alloc: Global, text: Option<&[u8]>) -> Result<Queues, PbxFault>
+    ensures queues { Answers (λ queues. queues) reason_of result (queues_of (option_map (λ text. text.now) text.entry)) }
+    ensures rest { IfOk result IsAtRest }
 {
-    match begin_tests(alloc, tested) {
-        Ok(machine) => Ok(machine),
-        Err(fault) => Err(fault),
-    }
+    let Some(text) = text else {
+        return Ok(Queues::none(alloc));
+    };
+    let queues = Queues::load(alloc, text)?;
+    Ok(queues)
 }
 
-/// Runs a test of a file, whose tests begin as the first machine does, and gives its point. It fails only if memory runs out.
-fn run_point(
-    alloc: Global,
-    tested: &TestedFile<'_>,
-    sources: &Sources<'_>,
-    first: &Machine<WideApps>,
-    test: &Test,
-) -> Result<Point, PbxFault>
-    requires opening { spec.opening tested.now ≡ Ok first.now }
-    requires sources { sources.now ≡ spec.sources_for tested.now }
-    ensures point { IfOk result (λ point. point ≡ spec.point_in tested.now first.now test.now) }
+/// The course at the beginning of a test in a machine that is made anew. The texts have been read before, so it fails only if memory runs
+/// out.
+#[tactic(auto, using(crate::proofs::PointsLemmas::refused_memory))]
+fn begin_anew(alloc: Global, tested: &TestedFile<'_>, course: &mut Course) -> Result<(), PbxFault>
+    requires { IsOk (spec.opening tested.now) }
+    ensures machine { OnOk result (spec.opening tested.now ≡ Ok course.new.machine) }
+    ensures beginning { OnOk result (course.new ≡ tests.beginning course.new.machine) }
     ensures memory { IfErr result (λ fault. reason_of fault ≡ None) }
 {
-    let machine = begin_again(alloc, tested, first)?;
-    match point_in(alloc, tested, sources, test, machine) {
-        Ok(point) => Ok(point),
+    let machine = begin_tests(alloc, tested)?;
+    *course = Course::beginning(alloc, machine);
+    Ok(())
+}
+
+/// The course at the beginning of a test in the machine of the test before, with these queues. It fails only if memory runs out.
+fn restart(alloc: Global, course: &mut Course, queues: Queues) -> Result<(), PbxFault>
+    requires { IsAtRest queues }
+    ensures ok { OnOk result (course.new ≡ tests.beginning (opening_with wide_functions course.old.machine.plan queues)) }
+    ensures memory { IfErr result (λ fault. reason_of fault ≡ None) }
+{
+    match course.restart(alloc, queues) {
+        Ok(()) => Ok(()),
         Err(refused) => Err(PbxFault::from(refused)),
     }
 }
 
-/// Runs the tests of a file, which begin as the first machine does, and gives their points in order. It fails only if memory runs out.
+/// The course at the beginning of a test in the machine of the test before, which has left the dialplan in force as it was. The queues have
+/// been read before, so it fails only if memory runs out.
+#[tactic(auto, using(crate::proofs::PointsLemmas::queues_memory, crate::proofs::PointsLemmas::begins_over))]
+fn begin_over(alloc: Global, tested: &TestedFile<'_>, course: &mut Course) -> Result<(), PbxFault>
+    requires { reloads.BeginWith (spec.opening tested.now) course.old.machine.plan }
+    ensures machine { OnOk result (spec.opening tested.now ≡ Ok course.new.machine) }
+    ensures beginning { OnOk result (course.new ≡ tests.beginning course.new.machine) }
+    ensures memory { IfErr result (λ fault. reason_of fault ≡ None) }
+{
+    match load_queues(alloc, tested.texts.queues) {
+        Ok(queues) => restart(alloc, course, queues),
+        Err(fault) => Err(fault),
+    }
+}
+
+/// The course at the beginning of the next test, after a test of a file. It fails only if memory runs out.
+fn begin_next(
+    alloc: Global,
+    tested: &TestedFile<'_>,
+    test: &Test,
+    course: &mut Course,
+) -> Result<(), PbxFault>
+    requires opening { IsOk (spec.opening tested.now) }
+    requires plan { reloads.test_reloads tested.now.file.now test.now ≡ false → reloads.BeginWith (spec.opening tested.now) course.old.machine.plan }
+    ensures machine { OnOk result (spec.opening tested.now ≡ Ok course.new.machine) }
+    ensures beginning { OnOk result (course.new ≡ tests.beginning course.new.machine) }
+    ensures memory { IfErr result (λ fault. reason_of fault ≡ None) }
+{
+    if test_reloads(tested.file, test) {
+        return begin_anew(alloc, tested, course);
+    }
+    begin_over(alloc, tested, course)
+}
+
+/// Runs a test of a file, and gives its point. The course is at the beginning of the test, and then of the next one. It fails only if memory
+/// runs out.
+fn run_point(
+    alloc: Global,
+    tested: &TestedFile<'_>,
+    sources: &Sources<'_>,
+    test: &Test,
+    course: &mut Course,
+) -> Result<Point, PbxFault>
+    requires opening { spec.opening tested.now ≡ Ok course.old.machine }
+    requires beginning { course.old ≡ tests.beginning course.old.machine }
+    requires sources { sources.now ≡ spec.sources_for tested.now }
+    ensures point { IfOk result (λ point. point ≡ spec.point_in tested.now course.old.machine test.now) }
+    ensures again { OnOk result (course.new ≡ course.old) }
+    ensures memory { IfErr result (λ fault. reason_of fault ≡ None) }
+{
+    let point = match point_in(alloc, tested, sources, test, course) {
+        Ok(point) => point,
+        Err(refused) => return Err(PbxFault::from(refused)),
+    };
+    begin_next(alloc, tested, test, course)?;
+    Ok(point)
+}
+
+/// Runs the tests of a file, which begin in this machine, and gives their points in order. It fails only if memory runs out.
 fn run_points(
     alloc: Global,
     tested: &TestedFile<'_>,
     sources: &Sources<'_>,
-    first: &Machine<WideApps>,
+    first: Machine<WideApps>,
 ) -> Result<Items<Point>, PbxFault>
-    requires opening { spec.opening tested.now ≡ Ok first.now }
+    requires opening { spec.opening tested.now ≡ Ok first }
     requires sources { sources.now ≡ spec.sources_for tested.now }
-    ensures points { IfOk result (λ points. points ≡ spec.points_in tested.now first.now) }
+    ensures points { IfOk result (λ points. points ≡ spec.points_in tested.now first) }
     ensures memory { IfErr result (λ fault. reason_of fault ≡ None) }
 {
+    let mut course = Course::beginning(alloc, first);
     let mut points = Items::none(alloc);
     for test in tested.file.tests.as_slice() {
-        let point = run_point(alloc, tested, sources, first, test)?;
+        let point = run_point(alloc, tested, sources, test, &mut course)?;
         points.push(point)?;
     }
     Ok(points)
@@ -246,19 +317,20 @@ fn run_points(
 fn run_from(
     alloc: Global,
     tested: &TestedFile<'_>,
-    first: &Machine<WideApps>,
+    first: Machine<WideApps>,
 ) -> Result<Items<Point>, PbxFault>
-    requires opening { spec.opening tested.now ≡ Ok first.now }
-    ensures points { IfOk result (λ points. points ≡ spec.points_in tested.now first.now) }
+    requires opening { spec.opening tested.now ≡ Ok first }
+    ensures points { IfOk result (λ points. points ≡ spec.points_in tested.now first) }
     ensures memory { IfErr result (λ fault. reason_of fault ≡ None) }
 {
-    match sources_for(alloc, tested) {
-        Ok(sources) => run_points(alloc, tested, &sources, first),
+    match beside(sources_for(alloc, tested), first) {
+        Ok((sources, first)) => run_points(alloc, tested, &sources, first),
         Err(refused) => Err(PbxFault::from(refused)),
     }
 }
 
-/// Runs the tests of a file, each in a machine of its own, and gives their points in order.
+/// Runs the tests of a file, and gives their points in order. Each begins in a world of its own: after a test the machine is put back, and if
+/// the test reloads it is made anew from its texts.
 ///
 /// The error is the first fault of the dialplan or of the queues, also in a file without tests, or want of memory.
 #[tactic(auto, unfolding(crate::specs::Points::points_of))]
@@ -266,7 +338,7 @@ pub fn run_tests(alloc: Global, tested: &TestedFile<'_>) -> Result<Items<Point>,
     ensures { Answers (λ points. points) reason_of result (spec.points_of tested.now) }
 {
     let first = begin_tests(alloc, tested)?;
-    run_from(alloc, tested, &first)
+    run_from(alloc, tested, first)
 }
 
 /// Adds the entries of the dialplan that one test ran.

@@ -1,5 +1,5 @@
 //! How a test runs.
-ghost use Rattle.std.specs.Prelude.{◌≡◌, ◌+◌, ◌-◌, IfOk, length};
+ghost use Rattle.std.specs.Prelude.{◌≡◌, ◌+◌, ◌-◌, IfOk, OnOk, false, length};
 ghost use Rattle.std.specs.List.{find};
 ghost use Rattle.std.specs.Option.{option_map};
 ghost use Rattle.dp_conf.specs.Answers.{Answers};
@@ -7,6 +7,7 @@ ghost use Rattle.dp_commands.specs.Faults.{reason_of};
 ghost use Rattle.dp_test_runs.specs.Results as results;
 ghost use Rattle.dp_test_runs.specs.Settling.{numbers_of};
 ghost use Rattle.dp_test_runs.specs.Tests as spec;
+ghost use Rattle.dp_test_runs.specs.steps.Reloads as reloads;
 
 use crate::course::{Course, PlanChange};
 use crate::failure::{Failure, FailureKind};
@@ -197,20 +198,22 @@ fn run_in(
     run_after_setup(alloc, files, test, course)
 }
 
-/// Runs a test of a file in a machine in which nothing has happened.
+/// Runs a test of a file from its beginning. A test that does not reload leaves the dialplan in force as it is.
+#[tactic(auto, using(crate::proofs::ReloadsLemmas::test_keeps))]
 pub(crate) fn run_on(
     alloc: Global,
     files: &[NamedText],
     file: &TestFile,
     test: &Test,
-    machine: Machine<WideApps>,
+    course: &mut Course,
 ) -> Result<TestResult, NoMemory>
-    ensures { IfOk result (λ ended. ended ≡ results.result_on files.now file.now test.now machine) }
+    requires { course.old ≡ spec.beginning course.old.machine }
+    ensures ended { IfOk result (λ ended. ended ≡ results.result_on files.now file.now test.now course.old.machine) }
+    ensures plan { OnOk result (reloads.test_reloads file.now test.now ≡ false → course.new.machine.plan ≡ course.old.machine.plan) }
 {
-    let mut course = Course::beginning(alloc, machine);
-    let failure = run_in(alloc, files, file, test, &mut course)?;
-    let got = got(alloc, &mut course, test.lines.as_slice(), failure)?;
-    let (ran, changes) = course.into_ran();
+    let failure = run_in(alloc, files, file, test, course)?;
+    let got = got(alloc, course, test.lines.as_slice(), failure)?;
+    let (ran, changes) = course.take_ran(alloc);
     Ok(TestResult {
         failure,
         got: Text::new(got),
@@ -250,7 +253,8 @@ pub fn run_test(
     ensures { Answers (λ ended. ended) reason_of result (results.result_of texts.entry file.now test.now) }
 {
     let machine = begin(alloc, texts.plan, texts.queues)?;
-    match run_on(alloc, texts.reloaded, file, test, machine) {
+    let mut course = Course::beginning(alloc, machine);
+    match run_on(alloc, texts.reloaded, file, test, &mut course) {
         Ok(ended) => Ok(ended),
         Err(refused) => Err(PbxFault::from(refused)),
     }

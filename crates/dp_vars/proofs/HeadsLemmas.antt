@@ -19,7 +19,7 @@ use Rattle.dp_vars.specs.steps.Spans.{front_of, after_of}
 use Rattle.dp_vars.specs.Expanding.{Written}
 use Rattle.dp_vars.specs.Pieces.{with_cut, with_found, with_head}
 use Rattle.dp_vars.specs.steps.Pieces.{with_group}
-use Rattle.dp_vars.specs.Unknown.{unknown_body, unknown_calls, unknown_group, unknown_head, unknown_names}
+use Rattle.dp_vars.specs.Unknown.{unknown_body, unknown_calls, unknown_group, unknown_head}
 use Rattle.dp_vars.specs.Values.{call_argument_with, head_by_with, head_value_with, body_by_with, group_value_with, function_of}
 use Rattle.dp_vars.specs.declared.head.CutPart.{CutPart}
 use Rattle.dp_vars.specs.declared.head.Head.{Head}
@@ -154,7 +154,7 @@ module _ (functions : FunctionTable) (sight : Sight) (text : List ℕ) where
       ≡ call_argument_with functions sight (text_at text name) (before_last 41 (text_at text after))
   other-seen name argument after argument_is = argument-seen (text_at text name) argument after argument_is
 
-  pub name-seen : (place : Span) → cut_once 40 (text_at text place) ≡ None → sight.variable (text_at text place) ≡ head_value_with functions sight (text_at text place)
+  pub name-seen : (place : Span) → cut_once 40 (text_at text place) ≡ None → functions.variable sight (text_at text place) ≡ head_value_with functions sight (text_at text place)
   unfolding head_value_with
   name-seen place none = ap (head_by_with functions sight (text_at text place)) (sym none)
 
@@ -218,7 +218,7 @@ module _ (functions : FunctionTable) (sight : Sight) (text : List ℕ) where
   unfolding unknown_group
   full-found place head written none is =
       let value = full-seen place head none (is functions sight) in
-      let call = is (unknown_calls functions sight) (unknown_names functions sight) ∙ ap (unknown_body functions sight (text_at text place)) (sym none) in
+      let call = is (unknown_calls functions sight) sight ∙ ap (unknown_body functions sight (text_at text place)) (sym none) in
       λ i. with_found written (value i) (call i)
 
   pub part-found : (place : Span) (head tail : List ℕ) (cut : CutPart) (written : Written) → cut_outside 58 (text_at text place) ≡ Some (head, tail)
@@ -230,7 +230,7 @@ module _ (functions : FunctionTable) (sight : Sight) (text : List ℕ) where
   part-found place head tail cut written cut_is head_is tail_is asked_is =
       let parts = cut_outside-parts 58 (text_at text place) head tail cut_is in
       let value = part-seen place head tail cut cut_is (head_is functions sight) tail_is asked_is in
-      let call = head_is (unknown_calls functions sight) (unknown_names functions sight)
+      let call = head_is (unknown_calls functions sight) sight
       ∙ ap (unknown_head functions sight) (text_at-front text place (length head) ∙ parts.front)
       ∙ ap (unknown_body functions sight (text_at text place)) (sym cut_is) in
       λ i. with_found written (value i) (call i)

@@ -9,7 +9,7 @@ use Rattle.dp_conf.specs.declared.groups.GroupKind.{GroupKind}
 use Rattle.dp_conf.specs.declared.groups.GroupKind.TheVariants.{Braces, Brackets}
 use Rattle.dp_vars.specs.Openings.{has_opening}
 use Rattle.dp_vars.specs.Sights.{Sight}
-use Rattle.dp_vars.specs.Unknown.{any_text, earlier, first_unknown, unknown_in_groups, unknown_body, unknown_calls, unknown_group, unknown_head, unknown_names, unknown_of}
+use Rattle.dp_vars.specs.Unknown.{any_text, earlier, first_unknown, unknown_in_groups, unknown_body, unknown_calls, unknown_group, unknown_head, unknown_of}
 use Rattle.dp_vars.specs.Values.{call_argument_with, expansion_of_with, head_by_with, head_value_with, standard_functions}
 
 -- every head is known to the standard functions
@@ -17,11 +17,11 @@ standard-head : (sight : Sight) (head : List ℕ) → unknown_head standard_func
 unfolding head_value_with
 standard-head sight head = by (cut_once 40 head)
   where
-    called : (name : List ℕ) (argument : Option (List ℕ)) → call_argument_with (unknown_calls standard_functions sight) (unknown_names standard_functions sight) name argument ≡ []
+    called : (name : List ℕ) (argument : Option (List ℕ)) → call_argument_with (unknown_calls standard_functions sight) sight name argument ≡ []
     called name None = refl
     called name (Some argument) = refl
 
-    by : (cut : Option (List ℕ × List ℕ)) → head_by_with (unknown_calls standard_functions sight) (unknown_names standard_functions sight) head cut ≡ []
+    by : (cut : Option (List ℕ × List ℕ)) → head_by_with (unknown_calls standard_functions sight) sight head cut ≡ []
     by None = refl
     by (Some cut) = called cut.0 (before_last 41 cut.1)
 

@@ -4,7 +4,7 @@ use Rattle.dp_conf.specs.Cut.{before_last, cut_once}
 use Rattle.dp_vars.specs.Functions.{FunctionTable}
 use Rattle.dp_vars.specs.Heads.{unknown_seen}
 use Rattle.dp_vars.specs.Sights.{Sight}
-use Rattle.dp_vars.specs.Unknown.{unknown_body, unknown_calls, unknown_head, unknown_names}
+use Rattle.dp_vars.specs.Unknown.{unknown_body, unknown_calls, unknown_head}
 use Rattle.dp_vars.specs.Values.{call_argument_with, head_by_with, head_value_with}
 use Rattle.dp_vars.specs.declared.head.Head.{Head}
 use Rattle.dp_vars.specs.declared.head.Head.TheVariants.{Name, Call, Other, Empty}
@@ -13,7 +13,7 @@ use Rattle.dp_vars.specs.steps.Told.{body_name, call_name, head_name, head_name_
 module _ (functions : FunctionTable) (sight : Sight) where
   told-call : (name : List ℕ) (argument : Option (List ℕ))
       → cond (knows_call functions sight name argument) [] (call_name name argument)
-      ≡ call_argument_with (unknown_calls functions sight) (unknown_names functions sight) name argument
+      ≡ call_argument_with (unknown_calls functions sight) sight name argument
   told-call name None = refl
   told-call name (Some argument) = refl
 
@@ -22,7 +22,7 @@ module _ (functions : FunctionTable) (sight : Sight) where
   told-head head = by (cut_once 40 head)
     where
       by : (cut : Option (List ℕ × List ℕ)) → cond (knows_head_by functions sight head cut) [] (head_name_by head cut)
-          ≡ head_by_with (unknown_calls functions sight) (unknown_names functions sight) head cut
+          ≡ head_by_with (unknown_calls functions sight) sight head cut
       by None = refl
       by (Some cut) = told-call cut.0 (before_last 41 cut.1)
 

@@ -73,3 +73,14 @@ module _ (channel : Option ChannelView) (stored : List Named) (globals : Named) 
       → value ≡ value_or_empty (globals ∷ []) name → value ≡ value_or_empty (channel_map channel ∷ (stored ++ globals ∷ [])) name
   value-global value none absent is =
       is ∙ ap (λ o. unwrap_or (option_or o (first_value (globals ∷ []) name)) []) absent ∙ not_given none
+
+module _ (stored : List Named) (globals : Named) (name : List ℕ) where
+  -- whatever the channel gives, a name that the store has
+  pub held-stored : (value : List ℕ) → Some value ≡ first_value stored name → Some value ≡ first_value (stored ++ globals ∷ []) name
+  held-stored value is = ap (λ o. option_or o (first_value (globals ∷ []) name)) is ∙ sym (first_value-append stored (globals ∷ []) name)
+
+  -- any other name is that of a global, or nothing has set it
+  pub held-global : (found : Option (List ℕ)) → None ≡ first_value stored name → found ≡ first_value (globals ∷ []) name
+      → found ≡ first_value (stored ++ globals ∷ []) name
+  held-global found absent is =
+      is ∙ ap (λ o. option_or o (first_value (globals ∷ []) name)) absent ∙ sym (first_value-append stored (globals ∷ []) name)

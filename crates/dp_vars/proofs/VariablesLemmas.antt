@@ -2,9 +2,10 @@
 use Rattle.std.proofs.Common.{◌≡◌, ℕ, Bool, true, false, cond, List, [], ◌∷◌, Option, Some, None, Ordering, Less, Equal, Greater, IsSome, refl, sym, ap, ◌∙◌, nat_eq}
 use Rattle.std.specs.Ordering.{is_eq, match_ordering, nat_cmp}
 use Rattle.std.specs.Cmp.Lexicographic.{slice_cmp, pointwise, texts_ties, nat_list_eq_equiv, nat_list_cmp_total, bytes_decides}
-use Rattle.std.specs.FinMap.{find, get, insert, from_entries, get-from_entries, get-insert, same_map, nat_cmp-IsAntisymmetric, slice_cmp-IsAntisymmetric}
+use Rattle.std.specs.FinMap.{find, get, insert, from_entries, retain_keys, get-from_entries, get-insert, get-retain_keys, same_map, nat_cmp-IsAntisymmetric, slice_cmp-IsAntisymmetric}
 use Rattle.std.specs.BTreeMap.{insert_entry, is_at}
-use Rattle.std.specs.List.{AllZip}
+use Rattle.std.specs.List.{AllZip, filter}
+use Rattle.std.proofs.lemmas.Map.Entries.{lookup-filter-keys}
 use Rattle.std.specs.Map.{lookup, remove_entry, set_value}
 use Rattle.dp_vars.specs.Variables.{by_bytes, in_order}
 
@@ -135,6 +136,19 @@ module _ {K X : Type 0} (bytes : K → List ℕ) where
       get-texts q (by_bytes bytes changed) ∙ finds q
       ∙ (λ i. cond (texts_ties q name i) (Some v) (sym (get-texts q (by_bytes bytes entries)) i))
       ∙ sym (get-insert nat_list_cmp_total _ name v q))
+
+  -- those entries whose names pass a test are the finite map of the names that pass it
+  pub from_entries-kept : (keep : List ℕ → Bool) (entries : List (K × X))
+      → from_entries {R = slice_cmp nat_cmp} (by_bytes bytes (filter (λ e. keep (bytes e.0)) entries)) ≡ retain_keys (from_entries (by_bytes bytes entries)) keep
+  from_entries-kept keep entries =
+      same_map nat_list_cmp_total (slice_cmp-IsAntisymmetric nat_cmp-IsAntisymmetric) _ _ (λ q.
+      get-texts q (by_bytes bytes (filter (λ e. keep (bytes e.0)) entries))
+      ∙ sym (lookup-by_bytes q (filter (λ e. keep (bytes e.0)) entries))
+      ∙ lookup-filter-keys (has_bytes bytes q) (λ k. keep (bytes k)) (keep q)
+      (λ k tied. ap keep (sym (same_by q (bytes k) (texts_ties q (bytes k) ∙ tied)))) entries
+      ∙ ap (λ o. cond (keep q) o None) (lookup-by_bytes q entries ∙ sym (get-texts q (by_bytes bytes entries)))
+      ∙ sym (get-retain_keys (from_entries (by_bytes bytes entries)) keep q
+      (λ x tied. ap keep (sym (slice_cmp-IsAntisymmetric nat_cmp-IsAntisymmetric q x tied)))))
 
   -- copies of entries, each with the same value and a copy of the key, have the same bytes
   pub by_bytes-copies : (IsCopy : K → K → Type 0) → ((key copy : K) → IsCopy key copy → bytes copy ≡ bytes key) → (entries copies : List (K × X))

@@ -21,12 +21,13 @@ target_seen (targets.Local name) = Local name.now
 target_seen targets.Caller = Caller
 target_seen targets.Nothing = Nothing
 
--- the meaning of the functions of a table: the value of a name and an argument, whether the name and the argument are known, whether the
--- value of a plain name is, whether a text has the groups that this program reads in it, how an expression is read in addition to its
--- value, and the target of setting a name from outside
+-- the meaning of the functions of a table: the value of a name and an argument, whether the name and the argument are known, the value of a
+-- plain name, whether that is known, whether a text has the groups that this program reads in it, how an expression is read in addition to
+-- its value, and the target of setting a name from outside
 pub record FunctionTable : Type 0 where
   pub value : Sight → List ℕ → List ℕ → List ℕ
   pub knows : Sight → List ℕ → List ℕ → Bool
+  pub variable : Sight → List ℕ → List ℕ
   pub knows_name : Sight → List ℕ → Bool
   pub reads : List ℕ → Bool
   pub expression : List ℕ → ExpressionReading

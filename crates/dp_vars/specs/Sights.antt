@@ -13,11 +13,13 @@ use Rattle.dp_vars.specs.declared.scope.Scope.{Scope}
 use Rattle.dp_vars.specs.declared.value.GivenName.{GivenName}
 use Rattle.dp_vars.specs.declared.value.GivenName.TheVariants.{Exten, Context, Priority, Channel}
 
--- the value of each name and whether it has one, the value of each global and whether there is one, the value of each local of the
--- innermost frame alone, the caller's number, the number of calls that wait in each queue, and the number of its members, if it exists
+-- the value of each name and whether it has one, the value that something has set for each name, whatever the channel gives, the value of
+-- each global and whether there is one, the value of each local of the innermost frame alone, the caller's number, the number of calls that
+-- wait in each queue, and the number of its members, if it exists
 pub record Sight : Type 0 where
   pub variable : List ℕ → List ℕ
   pub is_set : List ℕ → Bool
+  pub held : List ℕ → Option (List ℕ)
   pub global : List ℕ → List ℕ
   pub has_global : List ℕ → Bool
   pub local : List ℕ → List ℕ
@@ -91,15 +93,20 @@ module _ {B : Type 0} where
   local_seen None name = []
   local_seen (Some store) name = unwrap_or (local_in store name) []
 
-  -- the maps in which a name is looked up: what the channel gives, those of the store, and the globals
+  -- the maps in which a name is looked up if the channel does not give it: those of the store, and the globals
+  abbrev pub held_by : Option (StoreOf B) → Named → List Named
+  held_by store globals = stored_maps store ++ globals ∷ []
+
+  -- the maps in which a name is looked up: what the channel gives, and those
   abbrev pub maps_by : Option ChannelView → Option (StoreOf B) → Named → List Named
-  maps_by channel store globals = channel_map channel ∷ (stored_maps store ++ globals ∷ [])
+  maps_by channel store globals = channel_map channel ∷ held_by store globals
 
   -- what is seen of a channel, a store and the globals, with the counts of the queues
   abbrev pub sight_by : QueueCounts → Option ChannelView → Option (StoreOf B) → Named → Sight
   sight_by counts channel store globals = record {
     variable = value_or_empty (maps_by channel store globals);
     is_set = λ name. is_some (first_value (maps_by channel store globals) name);
+    held = first_value (held_by store globals);
     global = value_or_empty (globals ∷ []);
     has_global = λ name. is_some (first_value (globals ∷ []) name);
     local = local_seen store;
@@ -112,6 +119,10 @@ module _ {B C : Type 0} where
   -- the maps in which a scope looks up a name
   abbrev pub maps_of : Scope B C → List Named
   maps_of scope = maps_by (option_map view_of scope.channel) (after scope.store) scope.globals.now
+
+  -- the maps in which a scope looks up a name that the channel does not give
+  abbrev pub held_maps : Scope B C → List Named
+  held_maps scope = held_by (after scope.store) scope.globals.now
 
   -- what is seen in a scope, where `count` gives the counts of the queues
   abbrev pub sight_of : (C → QueueCounts) → Scope B C → Sight

@@ -33,37 +33,25 @@ call_text name argument = name ++ 40 ∷ (argument ++ 41 ∷ [])
 abbrev pub unknown_call : FunctionTable → Sight → List ℕ → List ℕ → List ℕ
 unknown_call functions sight name argument = if functions.knows sight name argument then [] else call_text name argument
 
--- the table in which the value of each call is the call itself if it is not known, and empty if it is
+-- a name that the table does not know
+abbrev pub unknown_name : FunctionTable → Sight → List ℕ → List ℕ
+unknown_name functions sight name = if functions.knows_name sight name then [] else name
+
+-- the table in which the value of each name and of each call is the name or the call itself if it is not known, and empty if it is
 abbrev pub unknown_calls : FunctionTable → Sight → FunctionTable
 unknown_calls functions sight = record {
   value = λ unused name argument. unknown_call functions sight name argument;
   knows = λ unused name argument. true;
+  variable = λ unused name. unknown_name functions sight name;
   knows_name = λ unused name. true;
   reads = functions.reads;
   expression = functions.expression;
   target = functions.target;
 }
 
--- a name that the table does not know
-abbrev pub unknown_name : FunctionTable → Sight → List ℕ → List ℕ
-unknown_name functions sight name = if functions.knows_name sight name then [] else name
-
--- what is seen if the value of each variable is its name if that is not known, and empty if it is
-abbrev pub unknown_names : FunctionTable → Sight → Sight
-unknown_names functions sight = record {
-  variable = unknown_name functions sight;
-  is_set = λ name. false;
-  global = λ name. [];
-  has_global = λ name. false;
-  local = λ name. [];
-  caller = [];
-  waiting = λ queue. 0;
-  members = λ queue. None;
-}
-
 -- a head that is a name or a call that is not known
 abbrev pub unknown_head : FunctionTable → Sight → List ℕ → List ℕ
-unknown_head functions sight head = head_value_with (unknown_calls functions sight) (unknown_names functions sight) head
+unknown_head functions sight head = head_value_with (unknown_calls functions sight) sight head
 
 -- the unknown head of a body, which may be cut
 abbrev pub unknown_body : FunctionTable → Sight → List ℕ → Option (List ℕ × List ℕ) → List ℕ

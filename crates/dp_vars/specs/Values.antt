@@ -53,6 +53,7 @@ abbrev pub standard_functions : FunctionTable
 standard_functions = record {
   value = λ sight name argument. function_value sight (function_of name) argument;
   knows = λ sight name argument. true;
+  variable = λ sight name. sight.variable name;
   knows_name = λ sight name. true;
   reads = λ text. true;
   expression = λ body. readings.Value;
@@ -67,7 +68,7 @@ call_argument_with functions sight name (Some argument) = functions.value sight 
 
 -- a head with a `(` is a function, and any other is the name of a variable
 abbrev pub head_by_with : FunctionTable → Sight → List ℕ → Option (List ℕ × List ℕ) → List ℕ
-head_by_with functions sight head None = sight.variable head
+head_by_with functions sight head None = functions.variable sight head
 head_by_with functions sight head (Some cut) = call_argument_with functions sight cut.0 (before_last 41 cut.1)
 
 -- the value of a head

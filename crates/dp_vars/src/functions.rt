@@ -6,7 +6,7 @@ ghost use Rattle.dp_vars.specs.Sights.{sight_of};
 ghost use Rattle.dp_vars.specs.Values as values;
 
 use crate::scope::{Counts, Scope};
-use crate::value::{FoundValue, Function, function_name, function_of, function_value};
+use crate::value::{FoundValue, Function, function_name, function_of, function_value, variable};
 use dp_conf::NoMemory;
 use dp_expr::ExpressionReading;
 use std::alloc::Global;
@@ -55,6 +55,10 @@ pub trait Functions {
     ) -> Result<FunctionValue<'a>, NoMemory>
         ensures value { IfOk result (λ found. value_bytes found.value ≡ table.value (sight_of C.count scope.now) (name_bytes name.entry) argument.now) }
         ensures known { IfOk result (λ found. found.is_known ≡ table.knows (sight_of C.count scope.now) (name_bytes name.entry) argument.now) };
+
+    /// The value of a plain name.
+    fn variable<'a, B, C: Counts>(scope: &Scope<'a, B, C>, name: &[u8]) -> FoundValue<'a>
+        ensures { value_bytes result ≡ table.variable (sight_of C.count scope.now) name.now };
 
     /// Whether the value of a plain name is known.
     fn knows_name<B, C: Counts>(scope: &Scope<'_, B, C>, name: &[u8]) -> bool
@@ -110,7 +114,7 @@ impl<'a> FunctionName<'a> {
 }
 
 /// The five functions that a dialplan always has. Any other name is empty, an expression has its value, and setting a name sets the
-/// variable.
+/// variable. A plain name has the value that the channel gives, else that of a variable or a global.
 pub struct StandardFunctions;
 
 impl Functions for StandardFunctions {
@@ -130,6 +134,11 @@ impl Functions for StandardFunctions {
             value,
             is_known: true,
         })
+    }
+
+    #[inline(always)]
+    fn variable<'a, B, C: Counts>(scope: &Scope<'a, B, C>, name: &[u8]) -> FoundValue<'a> {
+        variable(scope, name)
     }
 
     #[inline(always)]

@@ -1,7 +1,8 @@
 //! The global variables, after the Asterisk documentation's page on variables.
 ghost use Rattle.std.specs.Prelude.{◌≡◌, ◌∷◌, [], OnErr, OnOk, is_some};
 ghost use Rattle.std.specs.FinMap as finite;
-ghost use Rattle.dp_vars.specs.Variables.{first_value, value_or_empty};
+ghost use Rattle.std.specs.Option.{option_map};
+ghost use Rattle.dp_vars.specs.Variables.{first_value, value_or_empty, without_tree};
 
 use crate::variables::Variables;
 use dp_conf::NoMemory;
@@ -61,6 +62,16 @@ impl Globals {
         self.variables.get(name).is_some()
     }
 
+    /// The value of the global with that name, if there is one.
+    pub fn get(&self, name: &[u8]) -> Option<&[u8]>
+        ensures { option_map (λ value. value.now) result ≡ first_value (self.now ∷ []) name.now }
+    {
+        match self.variables.get(name) {
+            Some(value) => Some(value),
+            None => None,
+        }
+    }
+
     /// The value of the global with that name, or the empty text if there is none.
     pub fn at(&self, name: &[u8]) -> &[u8]
         ensures { result.now ≡ value_or_empty (self.now ∷ []) name.now }
@@ -69,6 +80,13 @@ impl Globals {
             Some(value) => value,
             None => b"",
         }
+    }
+
+    /// Removes the global whose name is the root, and each one whose name begins with the front.
+    pub fn remove_tree(&mut self, root: &[u8], front: &[u8])
+        ensures { self.new ≡ without_tree root.now front.now self.old }
+    {
+        self.variables.remove_tree(root, front);
     }
 }
 

@@ -49,4 +49,4 @@ pub use template::{
     Template, TemplateFault, expand, expand_text, expand_text_checked, expand_text_with,
     expand_with,
 };
-pub use value::{FoundValue, Function, function_of, is_set, variable};
+pub use value::{FoundValue, Function, function_of, held_value, is_set, variable};

@@ -55,11 +55,11 @@ pub(crate) fn named_value<'a, F: Functions, B, C: Counts>(
     scope: &Scope<'a, B, C>,
     name: &[u8],
 ) -> Called<'a>
-    ensures value { value_bytes result.value ≡ (sights.sight_of C.count scope.now).variable name.now }
+    ensures value { value_bytes result.value ≡ F.table.variable (sights.sight_of C.count scope.now) name.now }
     ensures known { result.is_known ≡ F.table.knows_name (sights.sight_of C.count scope.now) name.now }
 {
     Called {
-        value: variable(scope, name),
+        value: F::variable(scope, name),
         is_known: F::knows_name(scope, name),
     }
 }

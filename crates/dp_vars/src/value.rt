@@ -114,6 +114,16 @@ pub fn variable<'a, B, C>(scope: &Scope<'a, B, C>, name: &[u8]) -> FoundValue<'a
     }
 }
 
+/// The value that something has set for a name, if there is one: that of the variables, else of the globals, whatever the channel gives.
+pub fn held_value<'a, B, C>(scope: &Scope<'a, B, C>, name: &[u8]) -> Option<&'a [u8]>
+    ensures { option_map (λ value. value.now) result ≡ first_value (sights.held_maps scope.now) name.now }
+{
+    match stored_value(scope.store, name) {
+        Some(value) => Some(value),
+        None => scope.globals.get(name),
+    }
+}
+
 /// The value of a local of the innermost frame, and of no other, or the empty text if there is none.
 fn local<'a, B>(store: Option<&'a Store<B>>, name: &[u8]) -> &'a [u8]
     ensures { result.now ≡ sights.local_seen (sights.after store.entry) name.now }

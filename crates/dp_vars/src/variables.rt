@@ -2,6 +2,7 @@
 ghost use Rattle.std.specs.Prelude.{◌≡◌, OnErr, OnOk};
 ghost use Rattle.std.specs.FinMap as finite;
 ghost use Rattle.std.specs.Option.{option_map};
+ghost use Rattle.dp_vars.specs.Variables.{without_tree};
 
 use dp_conf::{NoMemory, Text};
 use std::alloc::Global;
@@ -67,6 +68,13 @@ impl Variables {
         let key = Vec::from_slice(alloc, name)?;
         self.held.insert(key, value)?;
         Ok(())
+    }
+
+    /// Removes the variable whose name is the root, and each one whose name begins with the front.
+    pub(crate) fn remove_tree(&mut self, root: &[u8], front: &[u8])
+        ensures { self.new ≡ without_tree root.now front.now self.old }
+    {
+        self.held.retain(|name, _| !(name.as_slice() == root || name.starts_with(front)));
     }
 }
 

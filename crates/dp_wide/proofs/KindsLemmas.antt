@@ -34,7 +34,7 @@ quiet_look = of_words looks_by false quiet_names (refl, (refl, (refl, (refl, (re
 
 plain_look : (name : List ℕ) → is_word_of plain_names name ≡ true → looks_by (same_word name) ≡ true
 unfolding going_names outside_applications plain_names
-plain_look = of_words looks_by true plain_names (refl, (refl, (refl, (refl, (refl, (refl, (refl, (refl, (refl, (refl, (refl, (refl, (refl, (refl, (refl, (refl, (refl, (refl, tt))))))))))))))))))
+plain_look = of_words looks_by true plain_names (refl, (refl, (refl, (refl, (refl, (refl, (refl, (refl, (refl, (refl, (refl, (refl, (refl, (refl, (refl, (refl, (refl, (refl, (refl, tt)))))))))))))))))))
 
 -- those of the first list do not look at their arguments
 pub quiet_looks : (name : List ℕ) → is_word_of quiet_names name ≡ true → wide_looks name ≡ false
@@ -49,12 +49,12 @@ plain_looks name among = plain_look name among
 -- a plain name is not that of `ExecIf`
 plain_runs_none : (name : List ℕ) → is_plain name ≡ true → same_word name exec_if_title ≡ false
 unfolding plain_names
-plain_runs_none = of_words (λ same. same exec_if_title) false plain_names (refl, (refl, (refl, (refl, (refl, (refl, (refl, (refl, (refl, (refl, (refl, (refl, (refl, (refl, (refl, (refl, (refl, (refl, tt))))))))))))))))))
+plain_runs_none = of_words (λ same. same exec_if_title) false plain_names (refl, (refl, (refl, (refl, (refl, (refl, (refl, (refl, (refl, (refl, (refl, (refl, (refl, (refl, (refl, (refl, (refl, (refl, (refl, tt)))))))))))))))))))
 
 -- the table has it
 plain_has : (name : List ℕ) → is_plain name ≡ true → has_row inner_table.rows name ≡ true
 unfolding inner_table standard_table going_names outside_applications plain_names
-plain_has = has_of_words inner_table.touches inner_table.rows inner_table.blind plain_names (refl, (refl, (refl, (refl, (refl, (refl, (refl, (refl, (refl, (refl, (refl, (refl, (refl, (refl, (refl, (refl, (refl, (refl, tt))))))))))))))))))
+plain_has = has_of_words inner_table.touches inner_table.rows inner_table.blind plain_names (refl, (refl, (refl, (refl, (refl, (refl, (refl, (refl, (refl, (refl, (refl, (refl, (refl, (refl, (refl, (refl, (refl, (refl, (refl, tt)))))))))))))))))))
 
 -- what an application asks, given the comparisons of its name
 abbrev asked_by : Sight → List ℕ → (List ℕ → Bool) → List ℕ
@@ -66,7 +66,7 @@ asked_by sight arguments same =
 
 plain_asked_none : (sight : Sight) (arguments name : List ℕ) → is_plain name ≡ true → inner_asked sight name arguments ≡ []
 unfolding plain_names
-plain_asked_none sight arguments = of_words (asked_by sight arguments) [] plain_names (refl, (refl, (refl, (refl, (refl, (refl, (refl, (refl, (refl, (refl, (refl, (refl, (refl, (refl, (refl, (refl, (refl, (refl, tt))))))))))))))))))
+plain_asked_none sight arguments = of_words (asked_by sight arguments) [] plain_names (refl, (refl, (refl, (refl, (refl, (refl, (refl, (refl, (refl, (refl, (refl, (refl, (refl, (refl, (refl, (refl, (refl, (refl, (refl, tt)))))))))))))))))))
 
 neither : (b : Bool) → if◌then◌else◌ {A = List ℕ} b [] [] ≡ []
 neither true = refl

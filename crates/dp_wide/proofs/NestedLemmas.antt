@@ -6,11 +6,11 @@ use Rattle.dp_conf.specs.Levels.{cut_outside}
 use Rattle.dp_vars.specs.Functions.{FunctionTable}
 use Rattle.dp_vars.specs.Parts.{asked_of, part}
 use Rattle.dp_vars.specs.Sights.{Sight}
-use Rattle.dp_vars.specs.Unknown.{any_text, call_text, unknown_body, unknown_call, unknown_calls, unknown_group, unknown_head, unknown_names}
+use Rattle.dp_vars.specs.Unknown.{any_text, call_text, unknown_body, unknown_call, unknown_calls, unknown_group, unknown_head}
 use Rattle.dp_vars.specs.Values.{body_by_with, call_argument_with, function_of, group_value_with, head_by_with, head_value_with}
 use Rattle.dp_vars.specs.declared.value.Function.{Function}
 use Rattle.dp_wide.specs.Fields.{first_argument, knows_named, named_value, other_arguments, way_of}
-use Rattle.dp_wide.specs.Functions.{around, knows_by, knows_name, knows_other, knows_wide, other_value, value_by, wide_function_of, wide_value, within}
+use Rattle.dp_wide.specs.Functions.{around, knows_by, knows_name, knows_other, knows_wide, other_value, plain_value, value_by, wide_function_of, wide_value, within}
 use Rattle.dp_wide.specs.NestedCalls.{KnowsNoMore}
 use Rattle.dp_wide.specs.Texts.{cut, delimiter_of, field_count}
 use Rattle.dp_wide.specs.declared.functions.WideFunction.{WideFunction}
@@ -32,7 +32,8 @@ nothing_unknown [] e = refl
 nothing_unknown (b ∷ bs) e = cc
 
 module _ (less more : FunctionTable) (sight : Sight) (kept : KnowsNoMore less more)
-    (names : (name : List ℕ) → more.knows_name sight name ≡ less.knows_name sight name) where
+    (names : (name : List ℕ) → more.knows_name sight name ≡ less.knows_name sight name)
+    (values : (name : List ℕ) → more.variable sight name ≡ less.variable sight name) where
   -- a call that is known
   call_value-kept : (name argument : List ℕ) → unknown_call less sight name argument ≡ []
       → more.value sight name argument ≡ less.value sight name argument
@@ -45,27 +46,27 @@ module _ (less more : FunctionTable) (sight : Sight) (kept : KnowsNoMore less mo
 
   -- a call, given its argument, if that ends
   argument_value-kept : (name : List ℕ) (argument : Option (List ℕ))
-      → call_argument_with (unknown_calls less sight) (unknown_names less sight) name argument ≡ []
+      → call_argument_with (unknown_calls less sight) sight name argument ≡ []
       → call_argument_with more sight name argument ≡ call_argument_with less sight name argument
   argument_value-kept name None e = refl
   argument_value-kept name (Some argument) e = call_value-kept name argument e
 
   argument-kept : (name : List ℕ) (argument : Option (List ℕ))
-      → call_argument_with (unknown_calls less sight) (unknown_names less sight) name argument ≡ []
-      → call_argument_with (unknown_calls more sight) (unknown_names more sight) name argument ≡ []
+      → call_argument_with (unknown_calls less sight) sight name argument ≡ []
+      → call_argument_with (unknown_calls more sight) sight name argument ≡ []
   argument-kept name None e = refl
   argument-kept name (Some argument) e = call-kept name argument e
 
   -- a variable or a call
   head_by_value-kept : (head : List ℕ) (cut : Option (List ℕ × List ℕ))
-      → head_by_with (unknown_calls less sight) (unknown_names less sight) head cut ≡ []
+      → head_by_with (unknown_calls less sight) sight head cut ≡ []
       → head_by_with more sight head cut ≡ head_by_with less sight head cut
-  head_by_value-kept head None e = refl
+  head_by_value-kept head None e = values head
   head_by_value-kept head (Some cut) e = argument_value-kept cut.0 (before_last 41 cut.1) e
 
   head_by-kept : (head : List ℕ) (cut : Option (List ℕ × List ℕ))
-      → head_by_with (unknown_calls less sight) (unknown_names less sight) head cut ≡ []
-      → head_by_with (unknown_calls more sight) (unknown_names more sight) head cut ≡ []
+      → head_by_with (unknown_calls less sight) sight head cut ≡ []
+      → head_by_with (unknown_calls more sight) sight head cut ≡ []
   head_by-kept head None e = ap (λ known. if◌then◌else◌ {A = List ℕ} known [] head) (names head) ∙ e
   head_by-kept head (Some cut) e = argument-kept cut.0 (before_last 41 cut.1) e
 
@@ -142,11 +143,12 @@ module _ (less more : FunctionTable) (sight : Sight) (kept : KnowsNoMore less mo
 
 -- the functions around two tables, one of which knows no more than the other
 around-kept : (less more : FunctionTable) → KnowsNoMore less more
-    → ((sight : Sight) (name : List ℕ) → more.knows_name sight name ≡ less.knows_name sight name) → KnowsNoMore (around less) (around more)
+    → ((sight : Sight) (name : List ℕ) → more.knows_name sight name ≡ less.knows_name sight name)
+    → ((sight : Sight) (name : List ℕ) → more.variable sight name ≡ less.variable sight name) → KnowsNoMore (around less) (around more)
 unfolding around
-around-kept less more kept names = record {
-  knows = λ sight name argument e. by-kept less more sight kept (names sight) (function_of name) name argument e;
-  value = λ sight name argument e. value_by-kept less more sight kept (names sight) (function_of name) name argument e;
+around-kept less more kept names values = record {
+  knows = λ sight name argument e. by-kept less more sight kept (names sight) (values sight) (function_of name) name argument e;
+  value = λ sight name argument e. value_by-kept less more sight kept (names sight) (values sight) (function_of name) name argument e;
 }
 
 -- plain names do not depend on calls
@@ -154,6 +156,11 @@ within-names : (calls : ℕ) (sight : Sight) (name : List ℕ) → (within calls
 unfolding within around
 within-names zero sight name = refl
 within-names (suc calls) sight name = refl
+
+within-values : (calls : ℕ) (sight : Sight) (name : List ℕ) → (within calls).variable sight name ≡ plain_value sight name
+unfolding within around
+within-values zero sight name = refl
+within-values (suc calls) sight name = refl
 
 false_is_true : false ≡ true → ⊥
 false_is_true e = cc
@@ -169,3 +176,4 @@ within-kept (suc fewer) zero e = absurd (omega arith)
 within-kept (suc fewer) (suc more) e =
     around-kept (within fewer) (within more) (within-kept fewer more (omega arith))
     (λ sight name. within-names more sight name ∙ sym (within-names fewer sight name))
+    (λ sight name. within-values more sight name ∙ sym (within-values fewer sight name))

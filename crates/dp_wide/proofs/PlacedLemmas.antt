@@ -51,11 +51,11 @@ ran_part (Some row) whole there arguments cell after going e = ap (λ o. after_d
 -- the placed applications are in the table, without `ExecIf` and with it
 placed_inner : AreOfTable inner_table.rows placed
 unfolding inner_table placed standard_table going_names outside_applications
-placed_inner = (refl, (refl, (refl, (refl, (refl, (refl, (refl, (refl, (refl, (refl, (refl, (refl, (refl, (refl, (refl, (refl, (refl, (refl, (refl, (refl, (refl, (refl, (refl, (refl, (refl, (refl, (refl, (refl, tt))))))))))))))))))))))))))))
+placed_inner = (refl, (refl, (refl, (refl, (refl, (refl, (refl, (refl, (refl, (refl, (refl, (refl, (refl, (refl, (refl, (refl, (refl, (refl, (refl, (refl, (refl, (refl, (refl, (refl, (refl, (refl, (refl, (refl, (refl, tt)))))))))))))))))))))))))))))
 
 placed_wide : AreOfTable wide_rows placed
 unfolding wide_table inner_table placed standard_table going_names outside_applications
-placed_wide = (refl, (refl, (refl, (refl, (refl, (refl, (refl, (refl, (refl, (refl, (refl, (refl, (refl, (refl, (refl, (refl, (refl, (refl, (refl, (refl, (refl, (refl, (refl, (refl, (refl, (refl, (refl, (refl, tt))))))))))))))))))))))))))))
+placed_wide = (refl, (refl, (refl, (refl, (refl, (refl, (refl, (refl, (refl, (refl, (refl, (refl, (refl, (refl, (refl, (refl, (refl, (refl, (refl, (refl, (refl, (refl, (refl, (refl, (refl, (refl, (refl, (refl, (refl, tt)))))))))))))))))))))))))))))
 
 pub inner_there : (name : List ℕ) (row : Row) → rows_of placed name ≡ Some row → inner_table.rows name ≡ Some row
 inner_there = found_there inner_table.touches inner_table.rows inner_table.blind placed placed_inner

@@ -1,6 +1,6 @@
 -- `ExecIf`, which runs an application of a table if a condition holds.
-use Rattle.std.specs.Prelude.{ℕ, zero, suc, Bool, true, List, [], ◌∷◌, Option, Some, None, is_some, codes, if◌then◌else◌}
-use Rattle.std.specs.Option.{option_map, option_map_or}
+use Rattle.std.specs.Prelude.{ℕ, zero, suc, Bool, true, false, List, [], ◌∷◌, ◌++◌, Option, Some, None, is_some, codes, if◌then◌else◌}
+use Rattle.std.specs.Option.{option_map, option_map_or, option_to_list}
 use Rattle.std.specs.Str.{byte}
 use Rattle.dp_conf.specs.Blanks.{trim}
 use Rattle.dp_conf.specs.Cut.{cut_once}
@@ -10,10 +10,12 @@ use Rattle.dp_app.specs.Rows.{Outcome, Row, Rows}
 use Rattle.dp_app.specs.Tables.{with_row}
 use Rattle.dp_app.specs.declared.moves.Move.TheVariants.{Next}
 use Rattle.dp_app.specs.declared.touch.Touch.{Touch}
-use Rattle.dp_flow.specs.Conditions.{chosen_side, holds}
+use Rattle.dp_flow.specs.Conditions.{chosen_side, holds, taken_side}
 use Rattle.dp_flow.specs.Jumps.{stays}
 use Rattle.dp_flow.specs.Plain.{hangup_row}
 use Rattle.dp_wide.specs.Sides.{called_side}
+use Rattle.dp_wide.specs.declared.exec_if.SideCall.{SideCall}
+use Rattle.dp_wide.specs.declared.exec_if.SideCalls.{SideCalls}
 
 -- whether the arguments have the old form: a comma outside parentheses comes before the first `?`, or there is no `?`
 abbrev pub has_old_form : List ℕ → Bool
@@ -39,6 +41,29 @@ called_old (Some cut) = if holds cut.0 then called_part cut.1 (cut_outside (byte
 unfoldable pub exec_if_application : List ℕ → Option (List ℕ × List ℕ)
 exec_if_application arguments =
     if has_old_form arguments then called_old (cut_outside (byte ",") arguments) else option_map called_side (chosen_side arguments)
+
+-- the application that the old form names, whether its condition holds or not, given the first comma outside parentheses
+abbrev pub old_call : Option (List ℕ × List ℕ) → Option (List ℕ × List ℕ)
+old_call None = None
+old_call (Some cut) = called_part cut.1 (cut_outside (byte ",") cut.1)
+
+-- the applications that the sides name, given the first `?`
+abbrev pub side_calls : Option (List ℕ × List ℕ) → List (List ℕ × List ℕ)
+side_calls None = []
+side_calls (Some cut) =
+    option_to_list (option_map called_side (taken_side true cut.1)) ++ option_to_list (option_map called_side (taken_side false cut.1))
+
+-- the applications that an `ExecIf` may run, each with its arguments, whichever side its condition takes
+unfoldable pub exec_if_calls : List ℕ → List (List ℕ × List ℕ)
+exec_if_calls arguments =
+    if has_old_form arguments then option_to_list (old_call (cut_outside (byte ",") arguments)) else side_calls (cut_once (byte "?") arguments)
+
+-- the result of a call
+abbrev pub call_now : SideCall → List ℕ × List ℕ
+call_now call = (call.name.now, call.arguments.now)
+
+abbrev pub calls_in : SideCalls → List (List ℕ × List ℕ)
+calls_in calls = option_to_list (option_map call_now calls.first) ++ option_to_list (option_map call_now calls.second)
 
 -- the row that a table has for a name; a name that the table lacks ends the call
 abbrev pub row_or_end : Option Row → Row

@@ -1,7 +1,7 @@
 -- The functions of the wide table: their values, given their argument and what a text can see, and whether the values are known.
 use Rattle.std.specs.Prelude.{ℕ, zero, suc, Bool, true, false, not, ◌||◌, List, [], length, Option, Some, None, is_some, codes, if◌then◌else◌}
 use Rattle.std.specs.Fmt.{decimal}
-use Rattle.std.specs.Option.{option_map, option_or}
+use Rattle.std.specs.Option.{option_map, option_or, unwrap_or}
 use Rattle.dp_conf.specs.Words.{same_text}
 use Rattle.dp_expr.specs.AsteriskReading.{asterisk_reading}
 use Rattle.dp_vars.specs.Functions.{FunctionTable}
@@ -121,15 +121,28 @@ knows_by inner sight (Some function) name argument = knows_five sight function a
 abbrev pub comes_from_outside : Sight → List ℕ → Bool
 comes_from_outside sight name = is_status name || is_given_by_asterisk name || was_read sight name
 
+-- whether a plain name is that of the channel itself, which only Asterisk gives
+abbrev pub is_channel_name : List ℕ → Bool
+is_channel_name name = same_text name (codes "CHANNEL")
+
+-- the value of a plain name; for the name of the channel it is what something has set
+abbrev pub plain_value : Sight → List ℕ → List ℕ
+plain_value sight name = if is_channel_name name then unwrap_or (sight.held name) [] else sight.variable name
+
+-- whether a plain name has a value; the name of the channel has one if something has set it
+abbrev pub plain_is_set : Sight → List ℕ → Bool
+plain_is_set sight name = if is_channel_name name then is_some (sight.held name) else sight.is_set name
+
 -- whether a plain name is known: a value from outside is known if something set it
 abbrev pub knows_name : Sight → List ℕ → Bool
-knows_name sight name = not (comes_from_outside sight name) || sight.is_set name
+knows_name sight name = not (comes_from_outside sight name) || plain_is_set sight name
 
 -- the functions; the functions `inner` read a name in an argument
 unfoldable pub around : FunctionTable → FunctionTable
 around inner = record {
   value = λ sight name argument. value_by inner sight (function_of name) name argument;
   knows = λ sight name argument. knows_by inner sight (function_of name) name argument;
+  variable = plain_value;
   knows_name = knows_name;
   reads = reads;
   expression = asterisk_reading;
@@ -141,6 +154,7 @@ abbrev pub no_calls : FunctionTable
 no_calls = record {
   value = λ sight name argument. [];
   knows = λ sight name argument. false;
+  variable = plain_value;
   knows_name = knows_name;
   reads = reads;
   expression = asterisk_reading;
@@ -157,6 +171,7 @@ abbrev pub wide_functions : FunctionTable
 wide_functions = record {
   value = (within 8).value;
   knows = (within 8).knows;
+  variable = plain_value;
   knows_name = knows_name;
   reads = reads;
   expression = asterisk_reading;

@@ -7,11 +7,11 @@ use Rattle.dp_vars.specs.Stores.{Frame, innermost, without_frame}
 use Rattle.dp_vars.specs.declared.local.Local.{Local}
 use Rattle.dp_app.specs.Cells.{CellOf}
 use Rattle.dp_app.specs.Rows.{Outcome, Row}
-use Rattle.dp_app.specs.declared.moves.Move.TheVariants.{Next, Jump}
+use Rattle.dp_app.specs.declared.moves.Move.TheVariants.{Next, Jump, Enter}
 use Rattle.dp_app.specs.declared.place.Place.{Place}
 use Rattle.dp_app.specs.declared.target.Target.TheVariants.{To}
 use Rattle.dp_flow.specs.Jumps.{inner_arguments, stays}
-use Rattle.dp_wide.specs.Subroutines.{counted_locals, entered_with, local}
+use Rattle.dp_wide.specs.Subroutines.{counted_locals, local, with_call}
 
 -- the locals of a macro: those of a subroutine, and the place of the caller
 abbrev pub macro_locals : Place → List (List ℕ) → List Local
@@ -26,9 +26,11 @@ macro_locals place arguments =
 abbrev pub macro_target : List ℕ → List (List ℕ)
 macro_target name = (codes "macro-" ++ name) ∷ codes "s" ∷ codes "1" ∷ []
 
--- the entry into a macro, given its name and its arguments
+-- the entry into a macro, given its name and its arguments: it pushes a frame, which is removed again if no entry is found there, so that the
+-- channel goes on
 abbrev pub enter_macro : CellOf → List ℕ → List (List ℕ) → Outcome
-enter_macro cell name arguments = entered_with cell (macro_locals cell.place arguments) (macro_target (trim name))
+enter_macro cell name arguments =
+    record { cell = with_call cell (macro_locals cell.place arguments); next = Enter (macro_target (trim name)) }
 
 -- the entry into a macro, given the first comma outside parentheses, where its name ends
 abbrev pub macro_by : CellOf → List ℕ → Option (List ℕ × List ℕ) → Outcome

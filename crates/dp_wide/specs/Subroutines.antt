@@ -19,11 +19,14 @@ local name value = record { name = name; value = value }
 abbrev pub counted_locals : List (List ℕ) → List Local
 counted_locals arguments = argument_locals 1 arguments ++ local (codes "ARGC") (decimal (length arguments)) ∷ []
 
--- the entry into a subroutine with these locals: it pushes a frame that returns to the place after this one, and sends the channel to the
--- target if an entry is found there
+-- the cell with one more frame, which has these locals and returns to the place after this one
+abbrev pub with_call : CellOf → List Local → CellOf
+with_call cell locals = record cell { store = with_frame cell.store (place_after cell.place) locals }
+
+-- the entry into a subroutine with these locals: it pushes a frame, and sends the channel to the target if an entry is found there
 abbrev pub entered_with : CellOf → List Local → List (List ℕ) → Outcome
 entered_with cell locals target = record {
-  cell = record cell { store = with_frame cell.store (place_after cell.place) locals };
+  cell = with_call cell locals;
   next = Jump (Existing target);
 }
 

@@ -12,7 +12,7 @@ use Rattle.dp_flow.specs.Touches.{nothing, settable, the_frames}
 use Rattle.dp_flow.specs.laws.Lawful.{hangup_lawful, next_lawful}
 use Rattle.dp_table.specs.Standard.{Table, standard_table, with_application}
 use Rattle.dp_wide.specs.Choices.{everything, exec_if_application, exec_if_title, exec_if_within}
-use Rattle.dp_wide.specs.Deleting.{delete_row, the_globals}
+use Rattle.dp_wide.specs.Deleting.{delete_row, delete_tree_row, the_globals}
 use Rattle.dp_wide.specs.Going.{with_going, with_going_knowledge, with_going_touch}
 use Rattle.dp_wide.specs.Macros.{macro_exit_row, macro_row}
 use Rattle.dp_wide.specs.Names.{is_word_of}
@@ -22,7 +22,7 @@ use Rattle.dp_wide.specs.Settings.{mset_row, set_row}
 use Rattle.dp_wide.specs.Subroutines.{gosub_if_row, gosub_row}
 use Rattle.dp_wide.specs.TimeChoice.{goto_if_time_row}
 use Rattle.dp_wide.specs.laws.Choices.{exec_if_within_lawful, goto_if_time_lawful}
-use Rattle.dp_wide.specs.laws.DeletingLawful.{delete_lawful}
+use Rattle.dp_wide.specs.laws.DeletingLawful.{delete_lawful, delete_tree_lawful}
 use Rattle.dp_wide.specs.laws.GoingLawful.{with_going_blind, with_going_lawful}
 use Rattle.dp_wide.specs.laws.MacrosLawful.{macro_exit_lawful, macro_lawful}
 use Rattle.dp_wide.specs.laws.OutsideLawful.{with_outside_blind, with_outside_lawful}
@@ -61,7 +61,8 @@ own_table =
     (with_application (codes "Macro") the_frames macro_row macro_lawful
     (with_application (codes "MacroExit") the_frames macro_exit_row macro_exit_lawful
     (with_application (codes "DBdel") the_globals delete_row delete_lawful
-    (going_table (outside_table standard_table)))))))))
+    (with_application (codes "DBdeltree") the_globals delete_tree_row delete_tree_lawful
+    (going_table (outside_table standard_table))))))))))
 
 -- the whole table without `ExecIf`; the applications that do not look at their arguments come first
 unfoldable pub inner_table : Table
@@ -104,7 +105,7 @@ quiet_names =
 abbrev pub own_names : List (List ℕ)
 own_names =
     codes "Set" ∷ codes "MSet" ∷ codes "GotoIfTime" ∷ codes "Gosub" ∷ codes "GosubIf" ∷ codes "Macro" ∷ codes "MacroExit" ∷ codes "DBdel"
-    ∷ []
+    ∷ codes "DBdeltree" ∷ []
 
 -- whether an application other than `ExecIf` looks at its arguments
 unfoldable pub inner_looks : List ℕ → Bool

@@ -60,7 +60,8 @@ fn all_value<'a, B, C: Counts>(
 {
     let name = value_of(alloc, scope, b"CALLERID(name)")?;
     let text = caller_text(alloc, &name, number_of(scope.channel))?;
-    let is_known = knows_cell(alloc, scope, b"CALLERID", is_set(scope, b"CALLERID(name)"))?;
+    let is_set = is_set(scope, b"CALLERID(name)");
+    let is_known = knows_cell(alloc, scope, b"CALLERID", b"name", is_set)?;
     Ok(FunctionValue {
         value: FoundValue::Owned(text),
         is_known,

@@ -1,10 +1,11 @@
-//! The application that deletes from the database, after the Asterisk documentation's page on `DBdel`.
-ghost use Rattle.std.specs.Prelude.{◌≡◌, OnErr, OnOk};
+//! The applications that delete from the database, after the Asterisk documentation's pages on `DBdel` and `DBdeltree`.
+ghost use Rattle.std.specs.Prelude.{◌≡◌, IfOk, OnErr, OnOk};
 ghost use Rattle.dp_wide.specs.Deleting as spec;
 
+use crate::cell_values::{assumed_name, deleted_name};
 use crate::cells::cell_name;
 use dp_app::{Application, Cell, Move, Touch};
-use dp_conf::{NoMemory, trim};
+use dp_conf::{NoMemory, cut_once, trim};
 use dp_vars::Globals;
 use std::alloc::Global;
 
@@ -46,6 +47,105 @@ impl Application for DbDel {
 
     fn apply(alloc: Global, arguments: &[u8], cell: &mut Cell) -> Result<Move, NoMemory> {
         empty_key(alloc, cell.globals, trim(arguments))?;
+        Ok(Move::Next)
+    }
+}
+
+/// The first bytes of the names of the cells below a key.
+fn front_below(alloc: Global, key: &[u8]) -> Result<Vec<u8>, NoMemory>
+    ensures { IfOk result (λ front. front.items ≡ spec.front_below key.now) }
+{
+    let mut front = Vec::from_slice(alloc, b"DB(")?;
+    front.extend_from_slice(key)?;
+    front.push(b'/')?;
+    Ok(front)
+}
+
+/// Deletes a key and all keys below it. If memory runs out the globals are as before.
+fn delete_key(alloc: Global, globals: &mut Globals, key: &[u8]) -> Result<(), NoMemory>
+    ensures ok { OnOk result (globals.new ≡ spec.without_key globals.old key.now) }
+    ensures err { OnErr result (globals.new ≡ globals.old) }
+{
+    let cell = cell_name(alloc, b"DB", key)?;
+    let front = front_below(alloc, key)?;
+    let mark = deleted_name(alloc, key)?;
+    globals.put(alloc, &mark, b"1")?;
+    globals.remove_tree(&cell, &front);
+    Ok(())
+}
+
+/// Deletes all keys. If memory runs out the globals are as before.
+fn delete_all(alloc: Global, globals: &mut Globals) -> Result<(), NoMemory>
+    ensures ok { OnOk result (globals.new ≡ spec.without_keys globals.old) }
+    ensures err { OnErr result (globals.new ≡ globals.old) }
+{
+    let mark = assumed_name(alloc, b"DB")?;
+    globals.put(alloc, &mark, b"1")?;
+    globals.remove_tree(b"DB(", b"DB(");
+    Ok(())
+}
+
+/// Whether an argument names all keys: its family is empty.
+fn names_all(argument: &[u8]) -> bool
+    ensures { result ≡ spec.names_all argument.now }
+{
+    match argument.first() {
+        None => true,
+        Some(byte) => *byte == b'/',
+    }
+}
+
+/// The key that an argument names. A `/` with no key tree after it is left out.
+fn tree_of(argument: &[u8]) -> &[u8]
+    ensures { result.now ≡ spec.tree_of argument.now }
+{
+    let Some((family, tree)) = cut_once(argument, b'/') else {
+        return argument;
+    };
+    if tree.is_empty() { family } else { argument }
+}
+
+/// Deletes the keys that an argument names. If memory runs out the globals are as before.
+fn delete_named(alloc: Global, globals: &mut Globals, argument: &[u8]) -> Result<(), NoMemory>
+    ensures ok { OnOk result (globals.new ≡ spec.without_named globals.old argument.now) }
+    ensures err { OnErr result (globals.new ≡ globals.old) }
+{
+    if names_all(argument) {
+        return delete_all(alloc, globals);
+    }
+    delete_key(alloc, globals, tree_of(argument))
+}
+
+/// `DBdeltree(family[/keytree])`: the cells `DB(family/keytree)` and `DB(family/keytree/..)`, or with a family alone `DB(family)` and
+/// `DB(family/..)`, are empty from now on, whether or not something wrote them. The channel goes on. An empty family means all keys.
+///
+/// A key that was deleted so is known to be empty until something writes it. This is a choice of this program.
+pub struct DbDelTree;
+
+impl Application for DbDelTree {
+    ghost use Rattle.std.specs.Prelude.{codes};
+    ghost use Rattle.dp_wide.specs.Deleting.{delete_tree_row, the_globals};
+    ghost use Rattle.dp_wide.specs.laws.DeletingLawful.{delete_tree_lawful};
+
+    ghost meaning = { delete_tree_row };
+
+    ghost title = { codes "DBdeltree" };
+
+    ghost TOUCH = { the_globals };
+
+    ghost lawful = { delete_tree_lawful };
+
+    const TOUCH: Touch = Touch {
+        globals: true,
+        ..Touch::NOTHING
+    };
+
+    fn name() -> &'static [u8] {
+        b"DBdeltree"
+    }
+
+    fn apply(alloc: Global, arguments: &[u8], cell: &mut Cell) -> Result<Move, NoMemory> {
+        delete_named(alloc, cell.globals, trim(arguments))?;
         Ok(Move::Next)
     }
 }

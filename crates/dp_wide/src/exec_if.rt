@@ -91,6 +91,61 @@ pub fn exec_if_application(arguments: &[u8]) -> Option<(&[u8], &[u8])>
     }
 }
 
+/// An application that a side of an `ExecIf` names, with its arguments.
+#[derive(Clone, Copy, Debug)]
+pub struct SideCall<'a> {
+    /// The name of the application, without blanks at its ends.
+    pub name: &'a [u8],
+    /// Its arguments, as they are written.
+    pub arguments: &'a [u8],
+}
+
+/// The applications that an `ExecIf` may run: that of its first side, and that of its second.
+#[derive(Clone, Copy, Debug)]
+pub struct SideCalls<'a> {
+    pub first: Option<SideCall<'a>>,
+    pub second: Option<SideCall<'a>>,
+}
+
+/// The application that a side names, if there is a side.
+fn call_of_side(side: Option<&[u8]>) -> Option<SideCall<'_>>
+    ensures { option_map spec.call_now result ≡ option_map sides.called_side (option_map (λ side. side.now) side.entry) }
+{
+    let (name, arguments) = called_side(side?);
+    Some(SideCall { name, arguments })
+}
+
+/// The application that the old form names.
+fn old_call(arguments: &[u8]) -> Option<SideCall<'_>>
+    ensures { option_map spec.call_now result ≡ spec.old_call (cut_outside 44 arguments.now) }
+{
+    let (_condition, rest) = cut_outside(arguments, b',')?;
+    let (name, arguments) = called_part(rest)?;
+    Some(SideCall { name, arguments })
+}
+
+/// The applications that an `ExecIf` with these arguments may run, whichever side its condition takes. The arguments may have groups that
+/// are not expanded yet. How they are cut is as in [`exec_if_application`]; the old form has only one side.
+#[tactic(auto, unfolding(crate::specs::Choices::exec_if_calls))]
+pub fn exec_if_calls(arguments: &[u8]) -> SideCalls<'_>
+    ensures { spec.calls_in result ≡ spec.exec_if_calls arguments.now }
+{
+    let old = SideCalls {
+        first: old_call(arguments),
+        second: None,
+    };
+    let Some((condition, sides)) = cut_once(arguments, b'?') else {
+        return old;
+    };
+    if cut_outside(condition, b',').is_some() {
+        return old;
+    }
+    SideCalls {
+        first: call_of_side(taken_side(true, sides)),
+        second: call_of_side(taken_side(false, sides)),
+    }
+}
+
 /// Runs an application of a table. A name that the table lacks ends the call.
 fn run_or_end<T: AppTable>(
     alloc: Global,

@@ -3,6 +3,9 @@
 //! They are the five of every dialplan, those of fields, of texts, of keys and of queues, and cells: any other name, such as `CDR` or
 //! `DEVICE_STATE`, has for each argument the value that was written there.
 //!
+//! The plain name `CHANNEL` has the value that something has set for it, and no other: this machine does not know the names of Asterisk's
+//! channels.
+//!
 //! If a function may not know its value, a text that calls it does not know its own. `INC`, `DEC`, `SHIFT`, `POP`, `EVAL` and `HASH` change
 //! variables or read texts again, which no value can do. `REGEX` is left unknown as well: to read its expressions, every run of a dialplan
 //! would depend on the library of regular expressions.
@@ -24,7 +27,7 @@ use dp_conf::NoMemory;
 use dp_expr::{ExpressionReading, asterisk_reading};
 use dp_vars::{
     Counts, FoundValue, Function, FunctionName, FunctionValue, Functions, Scope, StandardFunctions,
-    Target, function_of, is_set,
+    Target, function_of, held_value, is_set, variable,
 };
 use std::alloc::Global;
 use std::marker::PhantomData;
@@ -204,12 +207,42 @@ fn comes_from_outside<B, C: Counts>(scope: &Scope<'_, B, C>, name: &[u8]) -> boo
     is_status(name) || is_given_by_asterisk(name) || was_read(scope, name)
 }
 
+/// Whether a plain name is that of the channel itself, which only Asterisk gives.
+fn is_channel_name(name: &[u8]) -> bool
+    ensures { result ≡ spec.is_channel_name name.now }
+{
+    name == b"CHANNEL".as_slice()
+}
+
+/// The value of a plain name. For the name of the channel it is what something has set.
+fn plain_value<'a, B, C: Counts>(scope: &Scope<'a, B, C>, name: &[u8]) -> FoundValue<'a>
+    ensures { value_bytes result ≡ spec.plain_value (sight_of C.count scope.now) name.now }
+{
+    if !is_channel_name(name) {
+        return variable(scope, name);
+    }
+    match held_value(scope, name) {
+        Some(value) => FoundValue::Bytes(value),
+        None => FoundValue::Bytes(b""),
+    }
+}
+
+/// Whether a plain name has a value. The name of the channel has one if something has set it.
+fn plain_is_set<B, C: Counts>(scope: &Scope<'_, B, C>, name: &[u8]) -> bool
+    ensures { result ≡ spec.plain_is_set (sight_of C.count scope.now) name.now }
+{
+    if is_channel_name(name) {
+        return held_value(scope, name).is_some();
+    }
+    is_set(scope, name)
+}
+
 /// Whether a plain name is known.
 fn is_known_name<B, C: Counts>(scope: &Scope<'_, B, C>, name: &[u8]) -> bool
     ensures { result ≡ spec.knows_name (sight_of C.count scope.now) name.now }
 {
     if comes_from_outside(scope, name) {
-        return is_set(scope, name);
+        return plain_is_set(scope, name);
     }
     true
 }
@@ -230,6 +263,10 @@ impl Functions for NoCalls {
             value: FoundValue::Bytes(b""),
             is_known: false,
         })
+    }
+
+    fn variable<'a, B, C: Counts>(scope: &Scope<'a, B, C>, name: &[u8]) -> FoundValue<'a> {
+        plain_value(scope, name)
     }
 
     fn knows_name<B, C: Counts>(scope: &Scope<'_, B, C>, name: &[u8]) -> bool {
@@ -268,6 +305,11 @@ impl<F: Functions> Functions for Around<F> {
             Some(function) => five_value(alloc, scope, function, argument),
             None => other_value::<F, B, C>(alloc, scope, name.bytes(), argument),
         }
+    }
+
+    #[tactic(auto, unfolding(crate::specs::Functions::around))]
+    fn variable<'a, B, C: Counts>(scope: &Scope<'a, B, C>, name: &[u8]) -> FoundValue<'a> {
+        plain_value(scope, name)
     }
 
     #[tactic(auto, unfolding(crate::specs::Functions::around))]
@@ -312,6 +354,10 @@ impl Functions for WideFunctions {
         argument: &[u8],
     ) -> Result<FunctionValue<'a>, NoMemory> {
         Nested::value(alloc, scope, name, argument)
+    }
+
+    fn variable<'a, B, C: Counts>(scope: &Scope<'a, B, C>, name: &[u8]) -> FoundValue<'a> {
+        plain_value(scope, name)
     }
 
     fn knows_name<B, C: Counts>(scope: &Scope<'_, B, C>, name: &[u8]) -> bool {

@@ -33,11 +33,13 @@ mod wide_table;
 pub use asterisk_functions::is_asterisk_function;
 pub use cell_values::assumed_name;
 pub use choices::if_value;
-pub use deleting::DbDel;
+pub use deleting::{DbDel, DbDelTree};
 pub use dp_conf::NoMemory;
 pub use dp_vars::Target;
 pub use ended::{Busy, Congestion};
-pub use exec_if::{ExecIf, ExecIfEnd, WithExecIf, exec_if_application};
+pub use exec_if::{
+    ExecIf, ExecIfEnd, SideCall, SideCalls, WithExecIf, exec_if_application, exec_if_calls,
+};
 pub use functions::{WideFunctions, is_computed};
 pub use going::{WithGoing, goes_on};
 pub use macros::{Macro, MacroExit};

@@ -5,7 +5,7 @@ ghost use Rattle.dp_conf.specs.Numbers.{most_priority};
 ghost use Rattle.dp_flow.specs.Jumps.{inner_arguments};
 ghost use Rattle.dp_wide.specs.Macros as spec;
 
-use crate::subroutines::{counted_locals, enter_with, push_local, push_number};
+use crate::subroutines::{counted_locals, push_call, push_local, push_number};
 use dp_app::{Application, Cell, Move, Place, Target, TargetParts, Touch};
 use dp_conf::{NoMemory, cut_outside, trim};
 use dp_vars::Local;
@@ -51,15 +51,14 @@ fn enter_macro(
 {
     let target = macro_target(alloc, trim(name))?;
     let locals = macro_locals(alloc, cell.place, arguments)?;
-    let going = enter_with(alloc, target, locals, cell)?;
-    Ok(going)
+    push_call(alloc, locals, cell)?;
+    Ok(Move::Enter(target))
 }
 
 /// `Macro(name[,arguments])`: does `Gosub` to the extension `s` of the context `macro-name`, with the place of the caller in the locals
 /// `MACRO_EXTEN`, `MACRO_CONTEXT` and `MACRO_PRIORITY`.
 ///
-/// If no entry is found there, the call ends as with `Gosub`: the frame is pushed and the channel hangs up (a choice of this program). In
-/// Asterisk the channel goes on at the next priority. An application sees no dialplan, so it cannot choose between the two.
+/// If no entry is found there, the channel goes on at the next priority, and nothing changes.
 pub struct Macro;
 
 impl Application for Macro {

@@ -3,7 +3,7 @@ ghost use Rattle.std.specs.Prelude.{◌≡◌, is_some};
 ghost use Rattle.dp_app.specs.Rows.{has_row};
 ghost use Rattle.dp_wide.specs.steps.Placed as spec;
 
-use crate::deleting::DbDel;
+use crate::deleting::{DbDel, DbDelTree};
 use crate::ended::{Busy, Congestion};
 use crate::macros::{Macro, MacroExit};
 use crate::settings::{MSet, SetWide};
@@ -37,11 +37,14 @@ type Calling = With<
     With<GosubIfWide, With<Return, With<StackPop, With<Macro, With<MacroExit, Silent>>>>>,
 >;
 
+/// Those, and the applications that delete from the database.
+type Deleting = With<DbDel, With<DbDelTree, Calling>>;
+
 /// The applications of the wide table, each at its place, without `ExecIf`, those that only go on and those that run outside. The
 /// applications that most lines of a dialplan name come first, because names are compared in this order.
 pub(crate) type Placed = With<
     NoOp,
-    With<Goto, With<SetWide, With<GotoIf, With<MSet, With<GotoIfTime, With<DbDel, Calling>>>>>>,
+    With<Goto, With<SetWide, With<GotoIf, With<MSet, With<GotoIfTime, Deleting>>>>>,
 >;
 
 /// The number of all applications that only go on. It is greater than the number of each place.

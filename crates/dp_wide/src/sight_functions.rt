@@ -60,7 +60,7 @@ fn key_exists<'a, B, C: Counts>(
     let name = cell_name(alloc, b"DB", key)?;
     Ok(FunctionValue {
         value: flag(!scope.globals.at(&name).is_empty()),
-        is_known: knows_cell(alloc, scope, b"DB", scope.globals.has(&name))?,
+        is_known: knows_cell(alloc, scope, b"DB", key, scope.globals.has(&name))?,
     })
 }
 

@@ -54,8 +54,19 @@ pub(crate) fn counted_locals(alloc: Global, arguments: &[u8]) -> Result<Vec<Loca
     Ok(locals)
 }
 
+/// Pushes a frame that returns to the place after this one, with these locals. If memory runs out the cell is as before.
+pub(crate) fn push_call(alloc: Global, locals: Vec<Local>, cell: &mut Cell) -> Result<(), NoMemory>
+    requires { cell.old.place.now.priority ≤ most_priority }
+    ensures ok { OnOk result (cell_now cell.new ≡ spec.with_call (cell_now cell.old) locals.items) }
+    ensures err { OnErr result (cell_now cell.new ≡ cell_now cell.old) }
+    ensures loans { KeepsLoans cell.old cell.new }
+{
+    let back = place_after(cell.place)?;
+    cell.store.push_frame(alloc, back, locals)
+}
+
 /// Enters a subroutine with these locals. If memory runs out the cell is as before.
-pub(crate) fn enter_with(
+fn enter_with(
     alloc: Global,
     target: TargetParts,
     locals: Vec<Local>,
@@ -67,8 +78,7 @@ pub(crate) fn enter_with(
     ensures err { OnErr result (cell_now cell.new ≡ cell_now cell.old) }
     ensures loans { KeepsLoans cell.old cell.new }
 {
-    let back = place_after(cell.place)?;
-    cell.store.push_frame(alloc, back, locals)?;
+    push_call(alloc, locals, cell)?;
     Ok(Move::Jump(Target::Existing(target)))
 }
 

@@ -10,7 +10,7 @@ ghost use Rattle.dp_wide.specs.Choices.{exec_if_title};
 ghost use Rattle.dp_wide.specs.Wide as spec;
 ghost use Rattle.dp_wide.specs.steps.Plain as kinds;
 
-use crate::deleting::DbDel;
+use crate::deleting::{DbDel, DbDelTree};
 use crate::ended::{Busy, Congestion};
 use crate::exec_if::{dispatch_with_exec_if, exec_if_application};
 use crate::functions::WideFunctions;
@@ -36,7 +36,7 @@ type Listed = WithGoing<WithOutside<StandardApps>>;
 /// Those, and the applications that enter and leave subroutines and macros, or delete what is kept.
 type Calling = With<
     GosubWide,
-    With<GosubIfWide, With<Macro, With<MacroExit, With<DbDel, Listed>>>>,
+    With<GosubIfWide, With<Macro, With<MacroExit, With<DbDel, With<DbDelTree, Listed>>>>>,
 >;
 
 /// Those, and the applications that set names, or jump by the clock.
@@ -59,7 +59,7 @@ const QUIET: [&[u8]; 6] = [
 ];
 
 /// The table's own applications that look at their arguments.
-const OWN: [&[u8]; 8] = [
+const OWN: [&[u8]; 9] = [
     b"Set",
     b"MSet",
     b"GotoIfTime",
@@ -68,6 +68,7 @@ const OWN: [&[u8]; 8] = [
     b"Macro",
     b"MacroExit",
     b"DBdel",
+    b"DBdeltree",
 ];
 
 /// Whether an application other than `ExecIf` looks at its arguments.
@@ -85,7 +86,7 @@ fn inner_looks(name: &[u8]) -> bool
 }
 
 /// Applications of the table that look at their arguments, and never ask for anything.
-const PLAIN: [&[u8]; 18] = [
+const PLAIN: [&[u8]; 19] = [
     b"Goto",
     b"GotoIf",
     b"Gosub",
@@ -99,6 +100,7 @@ const PLAIN: [&[u8]; 18] = [
     b"Macro",
     b"MacroExit",
     b"DBdel",
+    b"DBdeltree",
     b"StackPop",
     b"AddQueueMember",
     b"RemoveQueueMember",

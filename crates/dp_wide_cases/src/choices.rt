@@ -53,6 +53,10 @@ fn push_going(out: &mut String, going: &Option<Move>) -> Result<(), NoMemory> {
         None => out.push_str("no such application"),
         Some(Move::Next) => out.push_str("next"),
         Some(Move::Jump(target)) => push_jump(out, target),
+        Some(Move::Enter(parts)) => {
+            out.push_str("enter")?;
+            push_parts(out, parts)
+        }
         Some(Move::Park(_)) => out.push_str("park"),
         Some(Move::Hang) => out.push_str("hang"),
     }

@@ -18,6 +18,23 @@ const AHEAD: &str = r"
 1,Set(A=${CDR(x)})¦1 CDR(x)=1;?;step;$A→none, A=1
 1,Set(DB(a)=5)\n2,Set(B=${DB(a)})¦step;?;step;$B→none, B=5
 1,DBdel(a)\n2,Set(B=x${DB(a)})¦step;?;step;$B→none, B=x
+# A key that was deleted with those below it: all of these are known, and no others.
+1,Set(DB(fam/x)=1)\n2,DBdeltree(fam)\n3,Set(A=.${DB(fam/x)}${DB(fam)}${DB(fam/y/z)}${DB(fam/)})¦step;step;?;step;$A→none, A=.
+1,DBdeltree(fam)\n2,Set(A=${DB(family/x)})¦step;?→DB(family/x)
+1,DBdeltree(fam)\n2,Set(A=${DB(fa)})¦step;?→DB(fa)
+1,DBdeltree(fam/a)\n2,Set(A=${DB(fam/a)}${DB(fam/a/b)}${DB(fam/ab)})¦step;?→DB(fam/ab)
+1,DBdeltree(fam/a)\n2,Set(A=${DB(fam)})¦step;?→DB(fam)
+1,DBdeltree(fam/)\n2,Set(A=x${DB(fam/y)})¦step;?;step;$A→none, A=x
+1,DBdeltree(fam/a/)\n2,Set(A=${DB(fam/a/)}${DB(fam/a//b)}${DB(fam/a/b)})¦step;?→DB(fam/a/b)
+1,dbdeltree( fam )\n2,Set(A=${DB_EXISTS(fam/x)}${DB_DELETE(fam/x)}.)¦step;?;step;$A→none, A=0.
+1,DBdeltree(fam)\n2,Set(DB(fam/x)=v)\n3,Set(A=${DB(fam/x)}${DB_EXISTS(fam/x)}${DB_EXISTS(fam/y)})¦step;step;?;step;$A→none, A=v10
+1,DBdeltree(fam)\n2,Set(A=${DB(fam/x)}.)¦step;- DB(fam/x)=7;?;step;$A→none, A=7.
+1,Set(DB(a/b)=1)\n2,DBdeltree()\n3,Set(A=x${DB(a/b)}${DB(c)}${ENV(d)})¦step;step;?→ENV(d)
+1,DBdeltree(/a)\n2,Set(A=x${DB(b/c)})¦step;?;step;$A→none, A=x
+1,DBdeltree(x)\n2,Set(A=${CDR(x)})¦step;?→CDR(x)
+1,DBdeltree(x)\n2,Set(A=${SHARED(x)})¦step;?→SHARED(x)
+1,DBdeltree(${DB(a)})¦?→DB(a)
+1,ExecIf(1?DBdeltree(a))\n2,Set(A=x${DB(a/b)})¦step;?;step;$A→none, A=x
 # Applications that do not look at their arguments.
 1,NoOp(${DB(a)})¦?→none
 1,verbose(${DB(a)})¦?→none
@@ -35,6 +52,12 @@ const AHEAD: &str = r"
 1,Set(A=${NAME}${EXTEN})¦?;step;$A→none, A=s
 1,VoiceMail(100)\n2,Set(A=${VMSTATUS})¦step;time;?;1 VMSTATUS=SUCCESS;?;step;$A→VMSTATUS, none, A=SUCCESS
 1,Set(VMSTATUS=OLD)\n2,VoiceMail(1)\n3,Set(A=${VMSTATUS})¦step;$VMSTATUS;step;$VMSTATUS;time;?→VMSTATUS=OLD, VMSTATUS=, VMSTATUS
+# The name of the channel.
+1,Set(A=${CHANNEL})¦?;1 CHANNEL=PJSIP/9-01;?;step;$A→CHANNEL, none, A=PJSIP/9-01
+1,Set(A=${CHANNEL:0:3})¦- CHANNEL=SIP/9-01;?;step;$A→none, A=SIP
+1,Set(CHANNEL=SIP/1)\n2,Set(A=${CUT(CHANNEL,/,2)})¦step;?;step;$A→none, A=1
+1,Set(A=${CHANNEL(language)})¦?→CHANNEL(language)
+1,NoOp(${CHANNEL})¦?→none
 # The variable of `Read`, until something sets it.
 1,Read(X,beep)\n2,Set(A=${X})¦step;time;?;1 X=42;?;step;$A→X, none, A=42
 1,Set(X=1)\n2,Read(X)\n3,Set(A=${X}${Y})¦step;$X;step;$X;time;?→X=1, X=, X
@@ -136,6 +159,9 @@ const STORIES: &str = r"
 # Subroutines and macros.
 1,Gosub(sub,s,1(x,y))\n[sub]\nexten => s,1,Set(A=${ARGC}${ARG1}${ARG2})\nexten => s,2,Return()¦step;step;$A→A=2xy
 1,Macro(m,x)\n2,Set(B=back)\n[macro-m]\nexten => s,1,Set(A=${ARG1}${MACRO_EXTEN}${MACRO_PRIORITY})\nexten => s,2,MacroExit()¦step;step;$A;step;step;$B→A=xs1, B=back
+1,Macro(nosuch,x)\n2,Set(A=on${ARG1}${MACRO_EXTEN})¦step;step;$A→A=on
+1,ExecIf(1?Macro(m,x))\n2,Set(A=on${ARGC})¦step;step;$A→A=on
+1,Gosub(sub,s,1(y))\n2,Set(B=back)\n[sub]\nexten => s,1,Macro(nosuch,x)\nexten => s,2,Set(A=${ARG1})\nexten => s,3,Return()¦step;step;step;$A;step;step;$B→A=y, B=back
 # Those that go on, that end the call, and that every dialplan has.
 1,Ringing()\n2,Set(A=1)¦step;step;$A→A=1
 1,Busy()\n2,Set(A=1)¦step;step;$A→A=

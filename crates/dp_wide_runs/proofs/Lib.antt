@@ -8,4 +8,5 @@ mod OnwardLemmas
 mod PartsLemmas
 mod RunsLemmas
 mod ShowsLemmas
+mod TargetLemmas
 mod cases

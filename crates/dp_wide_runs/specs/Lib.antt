@@ -10,4 +10,5 @@ pub mod Turns
 pub mod Verbose
 pub mod WideAudits
 pub mod WideFindings
+pub mod WideTargets
 pub mod steps

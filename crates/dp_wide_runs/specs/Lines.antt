@@ -7,6 +7,9 @@ use Rattle.dp_conf.specs.Cut.{cut_once}
 use Rattle.dp_conf.specs.Numbers.{most_priority}
 use Rattle.dp_conf.specs.Words.{same_text}
 use Rattle.dp_app.specs.declared.place.Place.{Place}
+use Rattle.dp_machine.specs.Codes.{status_name}
+use Rattle.dp_machine.specs.declared.dial_status.DialStatus.{DialStatus}
+use Rattle.dp_machine.specs.declared.dial_status.DialStatus.TheVariants as statuses
 use Rattle.dp_machine.specs.declared.event.Event.{Event as MachineEvent}
 use Rattle.dp_machine.specs.declared.event.Event.TheVariants.{Start, Step, Digit, Timeout, Poll, Hangup, DialResult, Offer, Answer, Decline, AgentDone, Reload, Assign, Redirect}
 use Rattle.dp_wide.specs.CellValues.{assumed_name}
@@ -151,11 +154,36 @@ wide_lines (Some channel) line =
 abbrev pub wide_lines_of : ScriptLine Turn → List (ScriptLine WideTurn)
 wide_lines_of line = wide_lines (stepped_by line.turn) line
 
+-- the result of a call to devices that a word names in no plain script
+abbrev pub further_status_in : List ℕ → Option DialStatus
+further_status_in word =
+    if same_text word (status_name statuses.DontCall) then Some statuses.DontCall
+    else if same_text word (status_name statuses.Torture) then Some statuses.Torture
+    else if same_text word (status_name statuses.InvalidArgs) then Some statuses.InvalidArgs
+    else None
+
+-- `result CH STATUS` with such a result, given the words after `result`
+abbrev pub further_result : List (List ℕ) → Option (ScriptLine WideTurn)
+further_result [] = None
+further_result (channel ∷ []) = None
+further_result (channel ∷ status ∷ []) =
+    option_and_then (λ number. option_map (λ found. gives (DialResult number found)) (further_status_in status)) (channel_in channel)
+further_result (channel ∷ status ∷ more ∷ words) = None
+
+-- the meaning of a line that is faulty in a plain script, given its first word and the text after it
+abbrev pub further_line : List ℕ → List ℕ → Option (ScriptLine WideTurn)
+further_line word text = if same_text word (codes "result") then further_result (words_of text) else None
+
+-- the meaning of a line that a plain script may have: what it means there, or the further line
+abbrev pub plain_or : Option (List (ScriptLine Turn)) → Option (ScriptLine WideTurn) → Option (List (ScriptLine WideTurn))
+plain_or None further = option_map (λ line. line ∷ []) further
+plain_or (Some lines) further = Some (flat_map wide_lines_of lines)
+
 -- the meaning of a line, given its first word and the text after it
 abbrev pub line_by : Option (List ℕ) → List ℕ → List ℕ × List ℕ → Option (List (ScriptLine WideTurn))
 line_by second_plan part cut =
     if is_own cut.0 then own_lines cut.0 cut.1
-    else option_map (λ lines. flat_map wide_lines_of lines) (line_in second_plan part)
+    else plain_or (line_in second_plan part) (further_line cut.0 cut.1)
 
 -- the meaning of a line, with an optional second dialplan: empty if it is skipped; None if the line is faulty
 unfoldable pub stands_for : Option (List ℕ) → List ℕ → Option (List (ScriptLine WideTurn))

@@ -1,6 +1,8 @@
--- A `show` of a call, `show CH NAME(ARG)`: it shows the value of the group `${NAME(ARG)}` in the channel.
-use Rattle.std.specs.Prelude.{ℕ, ◌++◌, ◌-◌, ◌==◌, ◌&&◌, Bool, false, List, [], ◌∷◌, length, Option, Some, None, slice_get, codes, if◌then◌else◌}
+-- A `show` of a call, `show CH NAME(ARG)`: it shows the value of the group `${NAME(ARG)}` in the channel. The name of the channel itself,
+-- `CHANNEL`, is shown so too, since its value is that of the group and not that of the plain script.
+use Rattle.std.specs.Prelude.{ℕ, ◌++◌, ◌-◌, ◌==◌, ◌&&◌, ◌||◌, Bool, false, List, [], ◌∷◌, length, Option, Some, None, slice_get, codes, if◌then◌else◌}
 use Rattle.std.specs.List.{list_any}
+use Rattle.dp_conf.specs.Words.{same_text}
 use Rattle.dp_machine.specs.Unknown.{unknown_in_text}
 use Rattle.dp_machine.specs.World.{World, text_in}
 use Rattle.dp_wide.specs.Functions.{wide_functions}
@@ -24,10 +26,14 @@ is_closed text = closes (slice_get text (length text - 1))
 abbrev pub is_call : List ℕ → Bool
 is_call name = has_opening name && is_closed name
 
+-- whether the value of a name is that of its group: it is a call, or the name of the channel
+abbrev pub reads_group : List ℕ → Bool
+reads_group name = is_call name || same_text name (codes "CHANNEL")
+
 -- the number of the channel, and the call, of a turn of a plain script that shows one
 abbrev pub call_in : Turn → Option (ℕ × List ℕ)
 call_in (Event event) = None
-call_in (Show number name) = if is_call name then Some (number, name) else None
+call_in (Show number name) = if reads_group name then Some (number, name) else None
 
 -- the group of a name, `${NAME}`
 abbrev pub group_of : List ℕ → List ℕ

@@ -14,6 +14,7 @@ use Rattle.dp_app.specs.Rows.{has_row}
 use Rattle.dp_audit.specs.FallThroughs.{fall_throughs_of}
 use Rattle.dp_audit.specs.Findings.{findings_of}
 use Rattle.dp_audit.specs.Loops.{ListsLoops}
+use Rattle.dp_audit.specs.Missing.{missing_of}
 use Rattle.dp_audit.specs.declared.fall_through.FallThrough.{FallThrough}
 use Rattle.dp_audit.specs.declared.finding.Finding.{Finding}
 use Rattle.dp_audit.specs.declared.finding.Finding.TheVariants.{Cycle, NoApplication, NoTarget, Gap, NoFirst, Hidden, Unset, Unused}
@@ -22,6 +23,7 @@ use Rattle.dp_table.specs.Standard.{standard_rows}
 use Rattle.dp_wide.specs.Wide.{wide_rows}
 use Rattle.dp_wide_runs.specs.FunctionsCalled.{no_functions_in}
 use Rattle.dp_wide_runs.specs.Kinds.{ChoiceOf, is_told}
+use Rattle.dp_wide_runs.specs.WideTargets.{wide_targets}
 use Rattle.dp_wide_runs.specs.declared.wide_finding.WideFinding.{WideFinding}
 use Rattle.dp_wide_runs.specs.declared.wide_finding.WideFinding.TheVariants.{Plain, FallsThrough, EndlessRun, NoFunction}
 
@@ -72,6 +74,11 @@ findings_told choice plan = flat_map (finding_if choice plan) (findings_of (has_
 -- whether a kind over the wide table is reported
 abbrev pub tells_wide : ChoiceOf → List ℕ → Bool
 tells_wide choice kind = choice.is_wide && is_told choice.kinds kind
+
+-- the targets of applications of the wide table that lead nowhere, if they are reported, in the order of the file
+abbrev pub targets_told : ChoiceOf → PlanOf → List WideFinding
+targets_told choice plan =
+    if tells_wide choice (codes "NoTarget") then flat_map (finding_if choice plan) (missing_of wide_targets plan) else []
 
 -- whether a channel never goes on to the next priority after an application with this name
 abbrev pub ends_there : List ℕ → Bool
@@ -128,9 +135,10 @@ functions_told choice plan = if tells_wide choice (codes "NoFunction") then no_f
 
 -- ---- all findings
 
--- the findings are all that are reported on the dialplan, in this order: those of an audit without the wide table, the entries after which
--- a channel goes on in another extension, the endless runs, and the functions that Asterisk does not have
+-- the findings are all that are reported on the dialplan, in this order: those of an audit without the wide table, the targets of its
+-- further applications that lead nowhere, the entries after which a channel goes on in another extension, the endless runs, and the
+-- functions that Asterisk does not have
 pub record AreTold (choice : ChoiceOf) (plan : PlanOf) (findings : List WideFinding) : Type 0 where
   pub runs : List WideFinding
   pub endless : AreRunsTold (tells_wide choice (codes "Loop")) plan runs
-  pub all : findings ≡ findings_told choice plan ++ fall_throughs_told choice plan ++ runs ++ functions_told choice plan
+  pub all : findings ≡ findings_told choice plan ++ targets_told choice plan ++ fall_throughs_told choice plan ++ runs ++ functions_told choice plan

@@ -16,6 +16,7 @@ mod verbose;
 mod wide_audit;
 mod wide_finding;
 mod wide_lines;
+mod wide_targets;
 mod wide_turn;
 
 pub use debug::{debug_wide, debug_wide_verbose};

@@ -8,7 +8,7 @@ ghost use Rattle.dp_wide_runs.specs.Lines as spec;
 use crate::wide_turn::WideTurn;
 use dp_commands::{ScriptLine, Turn, number_within, read_channel, words};
 use dp_conf::{cut_once, is_blank, trim};
-use dp_machine::{Event, Exten, Place};
+use dp_machine::{DialStatus, Event, Exten, Place};
 use dp_plan::{MOST_PRIORITY, NoMemory, Text};
 use dp_wide::{assumed_name, read_moment};
 use std::alloc::Global;
@@ -188,6 +188,48 @@ fn read_redirect(alloc: Global, words: &[&[u8]]) -> Result<Option<ScriptLine<Wid
         }
         _ => Ok(None),
     }
+}
+
+/// The result of a call to devices that a word names in no plain script.
+fn further_status(word: &[u8]) -> Option<DialStatus>
+    ensures { result ≡ spec.further_status_in word.now }
+{
+    if word == DialStatus::DontCall.name() {
+        return Some(DialStatus::DontCall);
+    }
+    if word == DialStatus::Torture.name() {
+        return Some(DialStatus::Torture);
+    }
+    if word == DialStatus::InvalidArgs.name() {
+        return Some(DialStatus::InvalidArgs);
+    }
+    None
+}
+
+/// `result CH STATUS` with a result that no plain script has, given the words after `result`.
+fn further_result(words: &[&[u8]]) -> Option<ScriptLine<WideTurn>>
+    ensures { result ≡ spec.further_result (map (λ word. word.now) words.now) }
+{
+    let (channel, status) = match words {
+        [channel, status] => (read_channel(channel)?, further_status(status)?),
+        _ => return None,
+    };
+    Some(gives(Event::DialResult { channel, status }))
+}
+
+/// The meaning of a line that is faulty in a plain script, given its first word and the text after it; or None if it is faulty here too.
+pub(crate) fn read_further(
+    alloc: Global,
+    word: &[u8],
+    text: &[u8],
+) -> Result<Option<ScriptLine<WideTurn>>, NoMemory>
+    ensures { IfOk result (λ line. line ≡ spec.further_line word.now text.now) }
+{
+    if word != b"result".as_slice() {
+        return Ok(None);
+    }
+    let words = words(alloc, text)?;
+    Ok(further_result(&words))
 }
 
 /// Whether a line with this first word belongs to no plain script.

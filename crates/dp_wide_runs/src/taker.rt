@@ -133,12 +133,19 @@ fn is_call(name: &[u8]) -> bool
     has_opening(name) && is_closed(name)
 }
 
+/// Whether the value of a name is that of its group: it is a call, or the name of the channel.
+fn reads_group(name: &[u8]) -> bool
+    ensures { result ≡ shows.reads_group name.now }
+{
+    is_call(name) || name == b"CHANNEL".as_slice()
+}
+
 /// The call that a turn shows.
 fn shown_call(turn: &Turn) -> Option<Call<'_>>
     ensures { option_map (λ call. (call.channel, call.name.now)) result ≡ shows.call_in turn.now }
 {
     match turn {
-        Turn::Show { channel, name } if is_call(name.bytes()) => Some(Call {
+        Turn::Show { channel, name } if reads_group(name.bytes()) => Some(Call {
             channel: *channel,
             name: name.bytes(),
         }),

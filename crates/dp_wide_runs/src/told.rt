@@ -12,8 +12,11 @@ ghost use Rattle.dp_wide_runs.specs.steps.Runs.{AddsRuns};
 use crate::functions_called::push_no_functions;
 use crate::kinds::AuditChoice;
 use crate::wide_finding::{WideFinding, kind_of};
+use crate::wide_targets::WideJumps;
 use dp_app::AppTable;
-use dp_audit::{FallThrough, Finding, Loop, Names, OnwardNames, find_fall_throughs, find_loops};
+use dp_audit::{
+    FallThrough, Finding, Loop, Names, OnwardNames, find_fall_throughs, find_loops, find_missing,
+};
 use dp_conf::same_word;
 use dp_plan::{Dialplan, EntryId, NoMemory};
 use dp_table::StandardApps;
@@ -151,6 +154,22 @@ fn tells_wide(choice: AuditChoice<'_>, kind: &[u8]) -> bool
     choice.is_wide && choice.kinds.tells(kind)
 }
 
+/// Adds the targets of applications of the wide table that lead nowhere, if they are reported.
+fn push_targets(
+    list: &mut Vec<WideFinding>,
+    alloc: Global,
+    plan: &Dialplan,
+    choice: AuditChoice<'_>,
+) -> Result<(), NoMemory>
+    ensures { OnOk result (list.new.items ≡ list.old.items ++ spec.targets_told (choice_of choice.entry) plan.now) }
+{
+    if !tells_wide(choice, b"NoTarget") {
+        return Ok(());
+    }
+    let findings = find_missing::<WideJumps>(alloc, plan)?;
+    push_findings(list, plan, choice, findings)
+}
+
 /// Whether a channel never goes on to the next priority after an application with this name.
 fn ends_there(name: &[u8]) -> bool
     ensures { result ≡ spec.ends_there name.now }
@@ -276,6 +295,7 @@ pub(crate) fn find_told(
 {
     let mut list = Vec::new(alloc);
     push_plain(&mut list, alloc, plan, choice)?;
+    push_targets(&mut list, alloc, plan, choice)?;
     push_fall_throughs(&mut list, alloc, plan, choice)?;
     push_runs(&mut list, alloc, plan, tells_wide(choice, b"Loop"))?;
     push_functions(&mut list, alloc, plan, choice)?;

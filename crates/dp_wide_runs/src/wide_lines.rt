@@ -5,7 +5,7 @@ ghost use Rattle.std.specs.Option.{option_map, option_to_list, unwrap_or};
 ghost use Rattle.dp_commands.specs.Script.{line_in, words_of};
 ghost use Rattle.dp_wide_runs.specs.Lines as spec;
 
-use crate::own_line::{cut_word, is_own, push_assumes, read_own};
+use crate::own_line::{cut_word, is_own, push_assumes, read_further, read_own};
 use crate::wide_turn::WideTurn;
 use dp_commands::{PlainLines, ReadLine, ScriptLine, Turn, words};
 use dp_conf::trim;
@@ -126,6 +126,28 @@ fn push_own(
     push_sound(lines, line)
 }
 
+/// Adds the meaning of a line that a plain script may have at the end, and says whether the line is valid.
+#[tactic(auto, using(crate::proofs::LinesLemmas::plain_sound, crate::proofs::LinesLemmas::plain_lines, crate::proofs::LinesLemmas::further_sound, crate::proofs::LinesLemmas::further_lines))]
+fn push_shared(
+    alloc: Global,
+    reader: &PlainLines,
+    part: &[u8],
+    cut: (&[u8], &[u8]),
+    lines: &mut Vec<ScriptLine<WideTurn>>,
+) -> Result<bool, NoMemory>
+    ensures sound { IfOk result (λ is_sound. is_sound
+        ≡ is_some (spec.plain_or (line_in reader.now part.now) (spec.further_line cut.entry.0.now cut.entry.1.now))) }
+    ensures lines { OnOk result (lines.new.items ≡ lines.old.items
+        ++ unwrap_or (spec.plain_or (line_in reader.now part.now) (spec.further_line cut.entry.0.now cut.entry.1.now)) []) }
+{
+    if push_plain(alloc, reader, part, lines)? {
+        return Ok(true);
+    }
+    let (word, rest) = cut;
+    let further = read_further(alloc, word, rest)?;
+    push_sound(lines, further)
+}
+
 /// How the lines of a script with facts are read, with an optional second dialplan. Contracts see it as the text of that dialplan.
 #[derive(Drop)]
 pub struct WideLines {
@@ -168,6 +190,6 @@ impl ReadLine for WideLines {
         if is_own(word) {
             return push_own(alloc, word, rest, lines);
         }
-        push_plain(alloc, &self.plain, part, lines)
+        push_shared(alloc, &self.plain, part, (word, rest), lines)
     }
 }

@@ -8,7 +8,7 @@ use Rattle.dp_app.specs.Lawful.{ParksNowhere, IsLawfulRow, KeepsQueues, KeepsSto
 use Rattle.dp_app.specs.Rows.{Row}
 use Rattle.dp_app.specs.Cells.{CellOf}
 use Rattle.dp_app.specs.declared.moves.Move.{Move}
-use Rattle.dp_app.specs.declared.moves.Move.TheVariants.{Next, Jump, Park, Hang}
+use Rattle.dp_app.specs.declared.moves.Move.TheVariants.{Next, Jump, Enter, Park, Hang}
 use Rattle.dp_app.specs.declared.phase.Phase.{Phase}
 use Rattle.dp_app.specs.declared.place.Place.{Place}
 use Rattle.dp_app.specs.declared.touch.Touch.{Touch}
@@ -29,6 +29,7 @@ cell_kept touch cell = search (store_kept, queues_kept)
 pub going_parks : (count : ℕ) (going : Move) → ParksNowhere going → MayGo count going
 going_parks count Next g = tt
 going_parks count (Jump target) g = tt
+going_parks count (Enter parts) g = tt
 going_parks count (Park phase) g = absurd g
 going_parks count Hang g = tt
 
@@ -36,6 +37,7 @@ going_parks count Hang g = tt
 pub going_waits : (lists : List (List ℕ)) (number : ℕ) (going : Move) → ParksNowhere going → lists ≡ waiting_after lists number going
 going_waits lists number Next g = refl
 going_waits lists number (Jump target) g = refl
+going_waits lists number (Enter parts) g = refl
 going_waits lists number (Park phase) g = absurd g
 going_waits lists number Hang g = refl
 

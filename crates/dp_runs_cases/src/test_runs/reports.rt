@@ -35,6 +35,8 @@ exten => s,1,ExecIf(1?NoOp())\nexten => s,2,Wait(1)¦¦test one\ncall main s\nex
 exten => s,1,Set(GLOBAL(G)=${G}1)\nexten => s,2,Hangup()¦¦global G=2\ntest one\ncall main s\nexpect 1 G=21\ntest two\ncall main s\nexpect 1 G=21→one ok two ok
 exten => s,1,Hangup()¦¦test one→one ok
 exten => s,1,Hangup()¦¦→
+exten => s,1,Queue(q)¦[q]\nmember => Line/1¦test one\ncall main s\noffer q\nanswer Line/1\ntest two\nexpect waiting q 0\ncall main s\nexpect waiting q 1\noffer q\nexpect rings Line/1\ntest three\nexpect waiting q 0\nanswer Line/1\nexpect refused NotRinging→one ok two ok three ok
+exten => s,1,Set(GLOBAL(G)=${G}1)\nexten => s,2,Wait(5)\n[globals]\nG=2¦¦test one\ncall main s\nreload b\ngo 1\nexpect 1 at main,s,3\ntest two\ncall main s\nexpect 1 G=21\nexpect 1 at main,s,2\ngo 1\nexpect 1 ended\ntest three\ncall main s\nexpect 1 G=21¦[main]\n\n\nexten => s,3,Wait(1)→one ok two ok three ok
 # After a reload the entries are those of the other dialplan, until another reload; a reload that is refused changes nothing.
 exten => s,1,Wait(5)¦¦test one\ncall main s\nreload b\ngo 1\nexpect 1 at main,s,1¦[main]\n\nexten => s,2,NoOp(new)→one [t:6 '1 at main,s,1' got 'main,s,2' a:2 main,s,1 Wait(5)|b:3 main,s,2 NoOp(new)], failed
 exten => s,1,Wait(5)\nexten => s,2,Wait(6)¦¦test one\ncall main s\nreload b\nexpect refused BadPlan\ngo 1\nexpect 1 ended¦[main→one [t:7 '1 ended' got 'pause' a:2 main,s,1 Wait(5)|a:3 main,s,2 Wait(6)], failed

@@ -17,6 +17,7 @@ sight : Sight
 sight = record {
   variable = λ name. if same_text name (codes "X") then codes "abcdef" else (if same_text name (codes "A") then codes "${X}" else []);
   is_set = λ name. same_text name (codes "X") || same_text name (codes "A");
+  held = λ name. if same_text name (codes "X") then Some (codes "abcdef") else None;
   global = λ name. if same_text name (codes "G") then codes "g" else [];
   has_global = λ name. same_text name (codes "G");
   local = λ name. [];
@@ -79,6 +80,7 @@ own_functions : FunctionTable
 own_functions = record {
   value = λ sight name argument. if same_text name (codes "DB") then argument else [];
   knows = λ sight name argument. same_text name (codes "DB");
+  variable = λ sight name. if same_text name (codes "A") then codes "a" else sight.variable name;
   knows_name = λ sight name. sight.is_set name;
   reads = λ text. not (same_text text (codes "${A{}}"));
   expression = λ body. if same_text body (codes "1 + 2") then readings.Value else (if same_text body (codes "1 2") then readings.Zero else readings.Unknown);
@@ -89,6 +91,11 @@ own_functions = record {
 row-own : expansion_with own_functions sight (codes "${DB(${X}):1:2}${LEN(ab)}") ≡ codes "bc"
 unfolding own_functions sight reading_of levels expansion_of_with group_value_with head_value_with cut_outside
 row-own = refl
+
+-- a plain name to which another table gives another value
+row-own_name : expansion_with own_functions sight (codes "${A}|${X:1:2}") ≡ codes "a|bc"
+unfolding own_functions sight reading_of levels expansion_of_with group_value_with head_value_with cut_outside
+row-own_name = refl
 
 -- what is inside a group comes first
 row-unknown : first_unknown own_functions sight (codes "${DB(x)}${G(${F(${X}):1})}") ≡ Some (codes "F(abcdef)")

@@ -11,12 +11,11 @@ use Rattle.dp_app.specs.laws.StoreKept.{dropped_kept, with_store_kept}
 use Rattle.dp_flow.specs.Jumps.{inner_arguments}
 use Rattle.dp_flow.specs.Touches.{the_frames}
 use Rattle.dp_wide.specs.Macros as spec
-use Rattle.dp_wide.specs.laws.SubroutinesLawful.{entered_kept}
+use Rattle.dp_wide.specs.laws.SubroutinesLawful.{called_kept}
 
 macro_kept : (cell : CellOf) (text : List ℕ) (o : Option (List ℕ × List ℕ)) → KeepsUntouched the_frames cell (spec.macro_by cell text o).cell
-macro_kept cell text None = entered_kept cell (spec.macro_locals cell.place []) (spec.macro_target (trim text))
-macro_kept cell text (Some cut) =
-    entered_kept cell (spec.macro_locals cell.place (inner_arguments cut.1)) (spec.macro_target (trim cut.0))
+macro_kept cell text None = called_kept cell (spec.macro_locals cell.place [])
+macro_kept cell text (Some cut) = called_kept cell (spec.macro_locals cell.place (inner_arguments cut.1))
 
 macro_same : (cell : CellOf) (text : List ℕ) (o : Option (List ℕ × List ℕ)) → (spec.macro_by cell text o).cell.queues ≡ cell.queues
 macro_same cell text None = refl

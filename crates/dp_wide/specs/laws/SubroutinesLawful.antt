@@ -16,15 +16,15 @@ use Rattle.dp_wide.specs.Subroutines as spec
 abbrev front_of : List (List ℕ) → List (List ℕ)
 front_of parts = take (length parts - 1) parts
 
--- the entry into a subroutine pushes a frame
-pub entered_kept : (cell : CellOf) (locals : List Local) (target : List (List ℕ)) → KeepsUntouched the_frames cell (spec.entered_with cell locals target).cell
-entered_kept cell locals target =
+-- the entry into a subroutine or a macro pushes a frame
+pub called_kept : (cell : CellOf) (locals : List Local) → KeepsUntouched the_frames cell (spec.with_call cell locals)
+called_kept cell locals =
     with_store_kept the_frames cell (with_frame cell.store (place_after cell.place) locals)
     (pushed_kept the_frames cell.store (place_after cell.place) locals refl)
 
 counted_kept : (cell : CellOf) (front : List (List ℕ)) (o : Option SubroutineCall) → KeepsUntouched the_frames cell (spec.enter_counted cell front o).cell
 counted_kept cell front None = cell_kept the_frames cell
-counted_kept cell front (Some c) = entered_kept cell (spec.counted_locals c.arguments) (front ++ c.priority ∷ [])
+counted_kept cell front (Some c) = called_kept cell (spec.counted_locals c.arguments)
 
 counted_same : (cell : CellOf) (front : List (List ℕ)) (o : Option SubroutineCall) → (spec.enter_counted cell front o).cell.queues ≡ cell.queues
 counted_same cell front None = refl

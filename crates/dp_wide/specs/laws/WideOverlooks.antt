@@ -9,7 +9,7 @@ use Rattle.dp_app.specs.Rows.{Row}
 use Rattle.dp_flow.specs.Plain.{hangup_row, next_row}
 use Rattle.dp_table.specs.Standard.{standard_rows}
 use Rattle.dp_wide.specs.Choices.{exec_if_title, exec_if_within}
-use Rattle.dp_wide.specs.Deleting.{delete_row}
+use Rattle.dp_wide.specs.Deleting.{delete_row, delete_tree_row}
 use Rattle.dp_wide.specs.Going.{with_going, with_going_knowledge}
 use Rattle.dp_wide.specs.Macros.{macro_exit_row, macro_row}
 use Rattle.dp_wide.specs.Names.{is_word_of}
@@ -61,20 +61,21 @@ behind_quiet false false false false false true rest row there none = absurd (tr
 behind_quiet false false false false false false rest row there none = there
 
 -- a name that is none of the table's own has the row of the table behind them
-behind_own : (a b c d e f g h : Bool) (rest : Option Row) (row : Row)
+behind_own : (a b c d e f g h i : Bool) (rest : Option Row) (row : Row)
     → (if a then Some set_row else (if b then Some mset_row else (if c then Some goto_if_time_row
     else (if d then Some gosub_row else (if e then Some gosub_if_row else (if f then Some macro_row
-    else (if g then Some macro_exit_row else (if h then Some delete_row else rest)))))))) ≡ Some row
-    → (a || (b || (c || (d || (e || (f || (g || (h || false)))))))) ≡ false → rest ≡ Some row
-behind_own true b c d e f g h rest row there none = absurd (true_is_false none)
-behind_own false true c d e f g h rest row there none = absurd (true_is_false none)
-behind_own false false true d e f g h rest row there none = absurd (true_is_false none)
-behind_own false false false true e f g h rest row there none = absurd (true_is_false none)
-behind_own false false false false true f g h rest row there none = absurd (true_is_false none)
-behind_own false false false false false true g h rest row there none = absurd (true_is_false none)
-behind_own false false false false false false true h rest row there none = absurd (true_is_false none)
-behind_own false false false false false false false true rest row there none = absurd (true_is_false none)
-behind_own false false false false false false false false rest row there none = there
+    else (if g then Some macro_exit_row else (if h then Some delete_row else (if i then Some delete_tree_row else rest))))))))) ≡ Some row
+    → (a || (b || (c || (d || (e || (f || (g || (h || (i || false))))))))) ≡ false → rest ≡ Some row
+behind_own true b c d e f g h i rest row there none = absurd (true_is_false none)
+behind_own false true c d e f g h i rest row there none = absurd (true_is_false none)
+behind_own false false true d e f g h i rest row there none = absurd (true_is_false none)
+behind_own false false false true e f g h i rest row there none = absurd (true_is_false none)
+behind_own false false false false true f g h i rest row there none = absurd (true_is_false none)
+behind_own false false false false false true g h i rest row there none = absurd (true_is_false none)
+behind_own false false false false false false true h i rest row there none = absurd (true_is_false none)
+behind_own false false false false false false false true i rest row there none = absurd (true_is_false none)
+behind_own false false false false false false false false true rest row there none = absurd (true_is_false none)
+behind_own false false false false false false false false false rest row there none = there
 
 -- the tables behind the table's own
 listed_overlooks : Overlooks (with_going_knowledge (with_outside_knowledge asks_nothing)).looks (with_going (with_outside standard_rows))
@@ -89,7 +90,7 @@ own_case name row there false tied looks =
     listed_overlooks name row
     (behind_own (same_word name (codes "Set")) (same_word name (codes "MSet")) (same_word name (codes "GotoIfTime"))
     (same_word name (codes "Gosub")) (same_word name (codes "GosubIf")) (same_word name (codes "Macro"))
-    (same_word name (codes "MacroExit")) (same_word name (codes "DBdel")) (with_going (with_outside standard_rows) name) row there tied) looks
+    (same_word name (codes "MacroExit")) (same_word name (codes "DBdel")) (same_word name (codes "DBdeltree")) (with_going (with_outside standard_rows) name) row there tied) looks
 
 inner_case : (name : List ℕ) (row : Row) → inner_table.rows name ≡ Some row → (b : Bool) → is_word_of quiet_names name ≡ b
     → (if b then false else (if is_word_of own_names name then true else (with_going_knowledge (with_outside_knowledge asks_nothing)).looks name)) ≡ false

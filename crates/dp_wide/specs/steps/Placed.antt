@@ -10,7 +10,7 @@ use Rattle.dp_flow.specs.Waiting.{background_row, wait_row, wait_exten_row}
 use Rattle.dp_qapps.specs.Membership.{add_member_row, remove_member_row}
 use Rattle.dp_qapps.specs.Pausing.{pause_member_row, unpause_member_row}
 use Rattle.dp_qapps.specs.Queueing.{queue_row}
-use Rattle.dp_wide.specs.Deleting.{delete_row}
+use Rattle.dp_wide.specs.Deleting.{delete_row, delete_tree_row}
 use Rattle.dp_wide.specs.Macros.{macro_exit_row, macro_row}
 use Rattle.dp_wide.specs.Settings.{mset_row, set_row}
 use Rattle.dp_wide.specs.Subroutines.{gosub_if_row, gosub_row}
@@ -31,6 +31,7 @@ placed =
     (with_listed (codes "MSet") mset_row
     (with_listed (codes "GotoIfTime") goto_if_time_row
     (with_listed (codes "DBdel") delete_row
+    (with_listed (codes "DBdeltree") delete_tree_row
     (with_listed (codes "Gosub") gosub_row
     (with_listed (codes "GosubIf") gosub_if_row
     (with_listed (codes "Return") return_row
@@ -51,4 +52,4 @@ placed =
     (with_listed (codes "AddQueueMember") add_member_row
     (with_listed (codes "RemoveQueueMember") remove_member_row
     (with_listed (codes "PauseQueueMember") pause_member_row
-    (with_listed (codes "UnpauseQueueMember") unpause_member_row [])))))))))))))))))))))))))))
+    (with_listed (codes "UnpauseQueueMember") unpause_member_row []))))))))))))))))))))))))))))

@@ -6,8 +6,8 @@ use Rattle.dp_wide.specs.Names.{is_word_of}
 unfoldable pub plain_names : List (List ℕ)
 plain_names =
     codes "Goto" ∷ codes "GotoIf" ∷ codes "Gosub" ∷ codes "GosubIf" ∷ codes "Return" ∷ codes "Playback" ∷ codes "Background"
-    ∷ codes "Wait" ∷ codes "WaitExten" ∷ codes "Queue" ∷ codes "Macro" ∷ codes "MacroExit" ∷ codes "DBdel" ∷ codes "StackPop"
-    ∷ codes "AddQueueMember" ∷ codes "RemoveQueueMember" ∷ codes "PauseQueueMember" ∷ codes "UnpauseQueueMember" ∷ []
+    ∷ codes "Wait" ∷ codes "WaitExten" ∷ codes "Queue" ∷ codes "Macro" ∷ codes "MacroExit" ∷ codes "DBdel" ∷ codes "DBdeltree"
+    ∷ codes "StackPop" ∷ codes "AddQueueMember" ∷ codes "RemoveQueueMember" ∷ codes "PauseQueueMember" ∷ codes "UnpauseQueueMember" ∷ []
 
 -- whether a name is one of these
 abbrev pub is_plain : List ℕ → Bool

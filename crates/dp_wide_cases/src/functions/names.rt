@@ -5,7 +5,18 @@ pub(super) const NAMES: &str = r"
 ${NOSUCH}.→.
 set A=1 ; ${A}→1
 ${EXTEN}→9-100-7
-${CHANNEL}→Channel/7
+# Of the name of the channel only what something has set.
+${CHANNEL}→ unknown CHANNEL
+${CHANNEL:0:3}→ unknown CHANNEL
+set CHANNEL=SIP/1-01 ; ${CHANNEL}→SIP/1-01
+set CHANNEL=SIP/1-01 ; ${CHANNEL:0:3}${CUT(CHANNEL,-,2)}→SIP01
+set CHANNEL= ; ${CHANNEL}.→.
+global CHANNEL=SIP/2 ; ${CHANNEL}→SIP/2
+global CHANNEL=SIP/2 ; set CHANNEL=SIP/1 ; ${CHANNEL}→SIP/1
+set CHANNEL=SIP/1 ; gone ; ${CHANNEL}→ unknown CHANNEL
+${CUT(CHANNEL,-,2)}→ unknown CUT(CHANNEL,-,2)
+set EXTEN=5 ; set CONTEXT=6 ; set PRIORITY=7 ; ${EXTEN}${CONTEXT}${PRIORITY}→9-100-7main2
+set channel=1 ; ${channel}→1
 ${UNIQUEID}→ unknown UNIQUEID
 set UNIQUEID=7 ; ${UNIQUEID}→7
 set UNIQUEID= ; ${UNIQUEID}.→.

@@ -40,11 +40,14 @@ pub(super) const MACROS: &str = r"
 1,Macro( x , 7 ,(8,9))\n[macro-x]\nexten => s,1,NoOp()¦1¦ARG1;ARG2;ARGC;=→7|(8,9)|2|macro-x,s,1
 1,Macro(x,)\n[macro-x]\nexten => s,1,NoOp()¦1¦ARG1;ARGC→|0
 1,Macro(x,,)\n[macro-x]\nexten => s,1,NoOp()¦1¦ARG1;ARG2;ARGC→||2
-# If there is no such macro the call ends.
-1,Macro(y)\n[macro-x]\nexten => s,1,NoOp()¦1¦=→ended
-1,Macro()\n[macro-x]\nexten => s,1,NoOp()¦1¦=→ended
+# If there is no such macro the channel goes on, and nothing changes.
+1,Macro(y,7)\n[macro-x]\nexten => s,1,NoOp()¦1¦ARG1;ARGC;MACRO_EXTEN;=→|||main,s,2
+1,Macro()\n[macro-x]\nexten => s,1,NoOp()¦1¦=→main,s,2
 1,Macro()\n[macro-]\nexten => s,1,NoOp()¦1¦ARGC;=→0|macro-,s,1
-1,Macro(x)\n[macro-x]\nexten => t,1,NoOp()¦1¦=→ended
+1,Macro(x)\n[macro-x]\nexten => t,1,NoOp()¦1¦=→main,s,2
+1,Macro(x)\n[macro-x]\nexten => s,2,NoOp()¦1¦=→main,s,2
+1,Macro(x,7)\n[macro-x]\nexten => s,1,Macro(y,8)\nexten => s,2,MacroExit()¦2¦ARG1;ARGC;MACRO_CONTEXT;=→7|1|main|macro-x,s,2
+1,Macro(x,7)\n[macro-x]\nexten => s,1,Macro(y,8)\nexten => s,2,MacroExit()¦3¦ARG1;ARGC;=→||main,s,2
 # Both ends return, and the locals go with the frame.
 1,Macro(x,7)\n[macro-x]\nexten => s,1,MacroExit()¦2¦ARG1;ARGC;MACRO_EXTEN;GOSUB_RETVAL;=→||||main,s,2
 1,Macro(x,7)\n[macro-x]\nexten => s,1,Return(v)¦2¦ARG1;MACRO_EXTEN;GOSUB_RETVAL;=→||v|main,s,2

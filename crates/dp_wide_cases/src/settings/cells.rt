@@ -91,6 +91,19 @@ pub(super) const DELETED: &str = r"
 1,Set(DB(a/b)=1)\n2,DBdel(a)¦2¦@DB(a/b)→1
 1,Set(DB(a,b)=1)\n2,DBdel(a,b)¦2¦@DB(a,b)→
 1,Set(DB()=1)\n2,DBdel()¦2¦@DB()→
+# With all keys below it: those after a `/`, and no others that begin with the same bytes.
+1,Set(DB(a)=1)\n2,Set(DB(a/b)=2)\n3,Set(DB(a/b/c)=3)\n4,Set(DB(ab/c)=4)\n5,DBdeltree(a)¦5¦DB(a);@DB(a/b);DB(a/b/c);DB(ab/c);=→|||4|main,s,6
+1,Set(DB(a)=1)\n2,Set(DB(a/b)=2)\n3,Set(DB(a/b/c)=3)\n4,Set(DB(a/bc)=4)\n5,dbDELtree( a/b )¦5¦DB(a);DB(a/b);@DB(a/b/c);@DB(a/bc)→1|||4
+1,Set(DB(a/)=1)\n2,Set(DB(a)b)=2)\n3,DBdeltree(a)¦3¦DB(a/);DB(a)b)→|2
+# A `/` with nothing after it is left out, unless it is not the first one.
+1,Set(DB(a)=1)\n2,Set(DB(a/b)=2)\n3,DBdeltree(a/)¦3¦DB(a);DB(a/b)→|
+1,Set(DB(a/b)=1)\n2,Set(DB(a/b/)=2)\n3,Set(DB(a/b//c)=3)\n4,Set(DB(a/b/c)=4)\n5,DBdeltree(a/b/)¦5¦DB(a/b);DB(a/b/);DB(a/b//c);DB(a/b/c)→1|||4
+# Without a family all keys are deleted, and the cells of other functions stay.
+1,Set(DB(a)=1)\n2,Set(DB(b/c)=2)\n3,Set(ENV(DB(a))=3)\n4,DBdeltree()¦4¦DB(a);DB(b/c);ENV(DB(a))→||3
+1,Set(DB(a/b)=1)\n2,Set(DB(c)=2)\n3,DBdeltree(/a)¦3¦DB(a/b);DB(c)→|
+# A key that is set afterwards has its value.
+1,DBdeltree(a)\n2,Set(DB(a/b)=5)¦2¦@DB(a/b)→5
+1,Set(GLOBAL(DB)=1)\n2,Set(GLOBAL(DBx)=2)\n3,DBdeltree(x)¦3¦DB;DBx→1|2
 # By the function, whose argument is kept as it is, whatever the value.
 1,Set(DB(k)=1)\n2,Set(DB_DELETE(k)=x)¦2¦@DB(k);DB_DELETE(k);@DB_DELETE(k)→||
 1,Set(DB(k)=1)\n2,Set(DB_DELETE( k )=)¦2¦@DB(k)→1

@@ -4,7 +4,7 @@ use dp_case_tables::{Question, bytes_of, push_bytes};
 use dp_flow::{NoOp, Return};
 use dp_machine::{Dialplan, Event, Machine, NoMemory, Phase, Place, Queues};
 use dp_machine_fixture::call;
-use dp_wide::{DbDel, GosubIfWide, GosubWide, MSet, Macro, MacroExit, SetWide};
+use dp_wide::{DbDel, DbDelTree, GosubIfWide, GosubWide, MSet, Macro, MacroExit, SetWide};
 use std::alloc::Global;
 use std::str;
 use std::test::Fail;
@@ -16,7 +16,7 @@ type Calling = With<
 >;
 
 /// Those and the ones that set.
-type SettingApps = With<SetWide, With<MSet, With<DbDel, Calling>>>;
+type SettingApps = With<SetWide, With<MSet, With<DbDel, With<DbDelTree, Calling>>>>;
 
 type SettingMachine = Machine<SettingApps>;
 

@@ -1,7 +1,8 @@
 -- The meanings of the lines of a script with facts.
 use Rattle.std.proofs.Common.{◌≡◌, [], ◌∷◌, None, Some, refl}
 use Rattle.std.specs.Prelude.{codes}
-use Rattle.dp_machine.specs.declared.event.Event.TheVariants.{Step, Timeout, Assign, Redirect}
+use Rattle.dp_machine.specs.declared.event.Event.TheVariants.{Step, Timeout, DialResult, Assign, Redirect}
+use Rattle.dp_machine.specs.declared.dial_status.DialStatus.TheVariants.{Busy, Torture}
 use Rattle.dp_commands.specs.Script.{once}
 use Rattle.dp_commands.specs.declared.script.Turn.TheVariants.{Event, Show}
 use Rattle.dp_wide_runs.specs.Lines.{gives, place_by, priority_in, stands_for}
@@ -68,6 +69,22 @@ show_is_plain = refl
 comment_is_passed_over : stands_for None (codes "; let 1 A=5") ≡ Some []
 unfolding stands_for
 comment_is_passed_over = refl
+
+result_of_a_plain_script : stands_for None (codes "result 1 BUSY") ≡ Some (gives (DialResult 1 Busy) ∷ [])
+unfolding stands_for
+result_of_a_plain_script = refl
+
+further_result : stands_for None (codes " result 2  TORTURE") ≡ Some (gives (DialResult 2 Torture) ∷ [])
+unfolding stands_for
+further_result = refl
+
+no_such_result : stands_for None (codes "result 1 torture") ≡ None
+unfolding stands_for
+no_such_result = refl
+
+result_of_two_words : stands_for None (codes "result 1 TORTURE DONTCALL") ≡ None
+unfolding stands_for
+result_of_two_words = refl
 
 no_such_line : stands_for None (codes "walk 1") ≡ None
 unfolding stands_for

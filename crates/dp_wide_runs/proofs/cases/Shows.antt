@@ -23,6 +23,9 @@ no_name_is_no_call = refl
 show_of_a_call : call_in (Show 2 (codes "DB(k)")) ≡ Some (2, codes "DB(k)")
 show_of_a_call = refl
 
+show_of_the_channel : call_in (Show 2 (codes "CHANNEL")) ≡ Some (2, codes "CHANNEL")
+show_of_the_channel = refl
+
 show_of_a_name : call_in (Show 2 (codes "A")) ≡ None
 show_of_a_name = refl
 

@@ -1,0 +1,6 @@
+mod ArrowLemmas
+mod JumpsLemmas
+mod LabelLemmas
+mod MissingLemmas
+mod OnceLemmas
+mod RangeLemmas
