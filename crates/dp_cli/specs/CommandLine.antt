@@ -10,7 +10,7 @@ use Rattle.dp_conf.specs.Words.{same_text}
 use Rattle.dp_commands.specs.Script.{number_within}
 use Rattle.dp_conf.specs.Numbers.{most_priority}
 use Rattle.dp_program.specs.Entries.{fault_named, fault_numbered}
-use Rattle.dp_program.specs.Requests.{OptionsOf, RequestOf, joined, check, check_files, check_queue_files, check_both_files, check_queues, check_both, listing, listing_files, auditing, auditing_by, matching, matching_files, explaining, run, run_wide, debug, debug_wide, testing, comparing, comparing_files, reaching, LookupOf, QuestionOf}
+use Rattle.dp_program.specs.Requests.{OptionsOf, RequestOf, joined, check, check_files, check_queue_files, check_both_files, check_queues, check_both, listing, listing_files, auditing, auditing_by, matching, matching_files, explaining, run, run_wide, debug, debug_wide, testing, comparing, comparing_files, drawing, drawing_files, reaching, LookupOf, QuestionOf}
 use Rattle.dp_program.specs.Texts.{OfRun}
 use Rattle.dp_wide.specs.Times.{moment_of}
 use Rattle.dp_wide_runs.specs.Kinds.{KindsTold, all, only, except, are_kinds}
@@ -105,6 +105,10 @@ abbrev pub diff_app : App
 diff_app =
     with_explain (with_rule (with_rule (with_asterisk (new_app (codes "diff"))) (required_word (codes "OLD"))) (required_word (codes "NEW")))
 
+-- `graph [--asterisk [--clock MOMENT]] [--queues QUEUES] [--explain] FILE`
+abbrev pub graph_app : App
+graph_app = with_explain (with_rule (with_queues (with_asterisk (new_app (codes "graph")))) file_word)
+
 -- `run [--asterisk [--clock MOMENT]] [--queues QUEUES] [--reload DIALPLAN] [--threads N] [--verbose] [--explain] FILE SCRIPT`
 abbrev pub run_app : App
 run_app =
@@ -146,8 +150,8 @@ bare_app = with_version (new_app (codes "pbx"))
 abbrev pub pbx_app : App
 pbx_app =
     with_subcommand (with_subcommand (with_subcommand (with_subcommand (with_subcommand (with_subcommand (with_subcommand (with_subcommand (with_subcommand
-    (with_subcommand bare_app check_app.top) list_app.top) match_app.top) run_app.top) debug_app.top) test_app.top) audit_app.top) diff_app.top)
-    reach_app.top) explain_app.top
+    (with_subcommand (with_subcommand bare_app check_app.top) list_app.top) match_app.top) run_app.top) debug_app.top) test_app.top) audit_app.top)
+    diff_app.top) graph_app.top) reach_app.top) explain_app.top
 
 -- the priority in a word: digits that write a number from 1 to the greatest priority
 abbrev pub priority_in : List ℕ → Option ℕ
@@ -325,6 +329,15 @@ abbrev pub diff_asked : List Row → Option RequestOf
 diff_asked words =
     option_and_then (λ before. option_map (diff_of (is_set (codes "asterisk") words) before) (first_of (codes "NEW") words)) (first_of (codes "OLD") words)
 
+-- the request of `graph` on a dialplan and its queues, given whether it reads the files that they include
+abbrev pub graph_of : Bool → Option (List ℕ) → List ℕ → RequestOf
+graph_of false queues file = drawing file queues
+graph_of true queues file = drawing_files file queues
+
+-- the request of `graph`
+abbrev pub graph_asked : List Row → Option RequestOf
+graph_asked words = option_map (graph_of (is_set (codes "asterisk") words) (first_of (codes "QUEUES") words)) (first_of (codes "FILE") words)
+
 -- the question of `reach` on a file and a context, given its other words
 abbrev pub reach_at : List Row → List ℕ → List ℕ → QuestionOf
 reach_at words file context = record {
@@ -356,6 +369,7 @@ command_asked name words =
     else if same_text name (codes "test") then test_asked words
     else if same_text name (codes "audit") then audit_asked words
     else if same_text name (codes "diff") then diff_asked words
+    else if same_text name (codes "graph") then graph_asked words
     else if same_text name (codes "reach") then reach_asked words
     else if same_text name (codes "explain") then explain_asked words
     else None

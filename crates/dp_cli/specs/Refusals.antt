@@ -64,6 +64,7 @@ command_kinds name words =
     else if same_text name (codes "test") then []
     else if same_text name (codes "audit") then audit_kinds words
     else if same_text name (codes "diff") then []
+    else if same_text name (codes "graph") then []
     else if same_text name (codes "reach") then []
     else if same_text name (codes "explain") then number_kinds fault_in (first_of (codes "CODE") words)
     else []

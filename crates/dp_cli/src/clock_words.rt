@@ -12,8 +12,8 @@ ghost use Rattle.dp_cli.specs.Refusals as refusals;
 
 use crate::command_line::{is_set, refuse, word_of};
 use crate::commands::{
-    audit_command, check_command, debug_command, diff_command, list_command, match_command,
-    run_command,
+    audit_command, check_command, debug_command, diff_command, graph_command, list_command,
+    match_command, run_command,
 };
 use clap::error::ErrorKind;
 use clap::{ArgMatches, Error};
@@ -46,6 +46,7 @@ fn refuse_for(
         "match" => refuse(match_command(alloc), "pbx match", kind, message),
         "audit" => refuse(audit_command(alloc), "pbx audit", kind, message),
         "diff" => refuse(diff_command(alloc), "pbx diff", kind, message),
+        "graph" => refuse(graph_command(alloc), "pbx graph", kind, message),
         "debug" => refuse(debug_command(alloc), "pbx debug", kind, message),
         _ => refuse(run_command(alloc), "pbx run", kind, message),
     }

@@ -26,7 +26,9 @@ use clap::error::ErrorKind;
 use clap::{ArgMatches, Command, Error};
 use dp_commands::number_within;
 use dp_plan::{MOST_PRIORITY, NoMemory, Priority};
-use dp_program::{DiffFiles, FaultNumber, Lookup, Options, ReachQuestion, Request, RunFiles};
+use dp_program::{
+    DiffFiles, FaultNumber, Lookup, Options, PlanPaths, ReachQuestion, Request, RunFiles,
+};
 use std::alloc::Global;
 
 /// What a command line asks for.
@@ -395,6 +397,27 @@ fn diff_request<'a>(given: &ArgMatches<'a>) -> Option<Request<'a>>
     Some(diff_of(is_set(given, "asterisk"), files))
 }
 
+/// The request of `graph` on a dialplan and its queues, given whether it reads the files that they include.
+fn graph_of<'a>(includes: bool, files: PlanPaths<'a>) -> Request<'a>
+    ensures { request_asked result ≡ spec.graph_of includes (option_map (λ path. path.now) files.entry.queues) files.entry.plan.now }
+{
+    if includes {
+        Request::GraphIncluding { files }
+    } else {
+        Request::Graph { files }
+    }
+}
+
+/// The request of `graph`.
+fn graph_request<'a>(given: &ArgMatches<'a>) -> Option<Request<'a>>
+    ensures { option_map request_asked result ≡ spec.graph_asked (rows_of (found_of given.now)) }
+{
+    let plan = word_of(given, "FILE")?;
+    let queues = word_of(given, "QUEUES");
+    let files = PlanPaths { plan, queues };
+    Some(graph_of(is_set(given, "asterisk"), files))
+}
+
 /// The request of `reach`.
 fn reach_request<'a>(given: &ArgMatches<'a>) -> Option<Request<'a>>
     ensures { option_map request_asked result ≡ spec.reach_asked (rows_of (found_of given.now)) }
@@ -430,6 +453,7 @@ fn command_request<'a>(
         "test" => Ok(test_request(given)),
         "audit" => audit_request(alloc, given),
         "diff" => Ok(diff_request(given)),
+        "graph" => Ok(graph_request(given)),
         "reach" => Ok(reach_request(given)),
         "explain" => explain_request(alloc, given),
         _ => Ok(None),

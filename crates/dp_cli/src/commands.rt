@@ -8,8 +8,8 @@ ghost use Rattle.dp_cli.specs.CommandLine as spec;
 ghost use Rattle.dp_cli.specs.steps.Made.{Makes};
 
 use crate::help::{
-    AUDIT_NOTES, CHECK_NOTES, DEBUG_NOTES, DIFF_NOTES, EXPLAIN_NOTES, LIST_NOTES, MATCH_NOTES,
-    PBX_NOTES, REACH_NOTES, RUN_NOTES, TEST_NOTES, VERSION,
+    AUDIT_NOTES, CHECK_NOTES, DEBUG_NOTES, DIFF_NOTES, EXPLAIN_NOTES, GRAPH_NOTES, LIST_NOTES,
+    MATCH_NOTES, PBX_NOTES, REACH_NOTES, RUN_NOTES, TEST_NOTES, VERSION,
 };
 use clap::{Arg, ArgAction, Command};
 use dp_plan::NoMemory;
@@ -326,6 +326,30 @@ pub(crate) fn diff_command<'a>(alloc: Global) -> Result<Command<'a>, NoMemory>
     with_explain(alloc, diff)
 }
 
+/// The command `graph`.
+pub(crate) fn graph_command<'a>(alloc: Global) -> Result<Command<'a>, NoMemory>
+    ensures { Makes spec.graph_app result }
+{
+    let graph = command_of(
+        alloc,
+        "graph",
+        "Draw a dialplan as a picture for Graphviz",
+        GRAPH_NOTES,
+    );
+    let graph = with_asterisk(
+        alloc,
+        graph,
+        "Read included files, templates and block comments",
+    );
+    let graph = with_queues(
+        alloc,
+        graph,
+        "The queues, such as queues.conf, whose ways out are drawn",
+    );
+    let graph = with_dialplan(alloc, graph);
+    with_explain(alloc, graph)
+}
+
 /// The command `list`.
 pub(crate) fn list_command<'a>(alloc: Global) -> Result<Command<'a>, NoMemory>
     ensures { Makes spec.list_app result }
@@ -577,6 +601,7 @@ pub(crate) fn pbx_command<'a>(alloc: Global) -> Result<Command<'a>, NoMemory>
     let pbx = with_command(pbx, test_command(alloc));
     let pbx = with_command(pbx, audit_command(alloc));
     let pbx = with_command(pbx, diff_command(alloc));
+    let pbx = with_command(pbx, graph_command(alloc));
     let pbx = with_command(pbx, reach_command(alloc));
     with_command(pbx, explain_command(alloc))
 }

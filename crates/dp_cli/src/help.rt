@@ -17,6 +17,7 @@ Examples:
   pbx test office.test
   pbx audit extensions.conf
   pbx diff extensions.conf new.conf
+  pbx graph extensions.conf | dot -Tsvg -o dialplan.svg
   pbx reach extensions.conf from-carrier --to international
   pbx explain 20
   pbx < joined.conf
@@ -131,6 +132,18 @@ Example:
   $ pbx diff extensions.conf new.conf
   - main,100,2 Hangup()
   + main,100,2 Playback(goodbye)";
+
+/// What the help of `graph` says below its words.
+pub(crate) const GRAPH_NOTES: &str = "\
+Prints a picture in the DOT language, which `dot` of Graphviz makes into an image. Each context is a box with its extensions, in the order
+in which a look-up tries them, and what each does first. Arrows are dashed for includes, solid for jumps, double for subroutines, and
+dotted for the ways out of queues, which --queues names. A target that only the call decides is a diamond; one that does not exist is red.
+
+With --asterisk included files, templates and block comments are read too. If lines have faults, each fault is printed on standard
+error with its file and line, and the status is 1.
+
+Example:
+  $ pbx graph extensions.conf | dot -Tsvg -o dialplan.svg";
 
 /// What the help of `reach` says below its words.
 pub(crate) const REACH_NOTES: &str = "\

@@ -32,7 +32,7 @@ lacks_place before_path after_path before after =
     lacks_first (plan_read before) _ _ (lacks_report_place before_path before) (lacks_first (plan_read after) _ _ (lacks_report_place after_path after) refl)
 
 -- nothing is a prefix of every text
-nothing_written : (old : Option (List ℕ)) (bytes : List ℕ) → AppendsFront old old bytes
+pub nothing_written : (old : Option (List ℕ)) (bytes : List ℕ) → AppendsFront old old bytes
 nothing_written None bytes = tt
 nothing_written (Some xs) bytes = (take-length xs, take-append_seam xs bytes)
 

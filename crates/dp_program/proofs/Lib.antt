@@ -2,8 +2,10 @@ mod ChecksLemmas
 mod DialplanLemmas
 mod DiffLemmas
 mod EntriesLemmas
+mod GraphLemmas
 mod HintsLemmas
 mod NearestLemmas
+mod OnFilesLemmas
 mod PathsLemmas
 mod QueueLemmas
 mod ReachesLemmas

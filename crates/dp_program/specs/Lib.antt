@@ -4,9 +4,11 @@ pub mod Diffs
 pub mod Entries
 pub mod Faulted
 pub mod Files
+pub mod Graphs
 pub mod Hints
 pub mod Including
 pub mod Nearest
+pub mod PlanAndQueues
 pub mod QueueTexts
 pub mod Reaches
 pub mod Requests

@@ -2,23 +2,21 @@
 use Rattle.std.specs.Prelude.{◌≡◌, ℕ, Bool, List, [], ◌++◌, map, Option, Some, None, Result, Ok, Err, if◌then◌else◌}
 use Rattle.std.specs.Io.KnownBytes.{Appends}
 use Rattle.std.specs.List.{flat_map}
-use Rattle.std.specs.Option.{option_map, option_map_or}
+use Rattle.std.specs.Option.{option_map_or}
 use Rattle.dp_answer.specs.Asks.{AskOf, target_names}
 use Rattle.dp_answer.specs.Reports.{IsReport}
-use Rattle.dp_conf.specs.Answers.{◌>>=◌}
 use Rattle.dp_conf.specs.Fronts.{AppendsFront}
 use Rattle.dp_conf.specs.Levels.{arguments_of}
 use Rattle.dp_plan.specs.Lookup.{number_of}
 use Rattle.dp_plan.specs.Plan.{PlanOf}
-use Rattle.dp_commands.specs.Run.{Files, files_of}
+use Rattle.dp_commands.specs.Run.{Files}
 use Rattle.dp_commands.specs.declared.fault.Code.TheVariants.{WriteFailed}
 use Rattle.dp_commands.specs.declared.fault.PbxFault.{PbxFault}
 use Rattle.dp_commands.specs.declared.fault.PbxFault.TheVariants.{Coded, NoMemory}
-use Rattle.dp_program.specs.Faulted.{PlaceOf, StandsIn, place_in_file, place_in_two, place_of_report, place_of_two, without_place}
-use Rattle.dp_program.specs.Files.{Reads, Source}
+use Rattle.dp_program.specs.Files.{Source}
 use Rattle.dp_program.specs.Hints.{bare_line, is_bare, lacking, name_told}
+use Rattle.dp_program.specs.PlanAndQueues.{OnFiles}
 use Rattle.dp_program.specs.Requests.{QuestionOf}
-use Rattle.dp_program.specs.Texts.{ReadsSome, some_text}
 use Rattle.dp_program.specs.declared.faulted.Faulted.{Faulted}
 use Rattle.dp_program.specs.declared.hints.Served.{Served}
 
@@ -63,21 +61,7 @@ Reaches question explains (Err fault) old new (Ok served) = ⊥
 Reaches question explains (Err fault) old new (Err (Coded code line)) = Appends old new [] × (fault ≡ Coded code line)
 Reaches question explains (Err fault) old new (Err NoMemory) = Appends old new []
 
--- the place of a fault, given the results of reading the dialplan and the queue file, if one is named
-abbrev pub place_of_files : List ℕ → Option (List ℕ) → Result (List ℕ) PbxFault → Option (Result (List ℕ) PbxFault) → PbxFault → PlaceOf
-place_of_files path None plan queues fault = place_of_report path plan fault
-place_of_files path (Some queues_path) plan None fault = place_of_report path plan fault
-place_of_files path (Some queues_path) plan (Some queues) fault = place_of_two path queues_path plan queues fault
-
--- the place of a fault in the texts of these files
-abbrev pub place_over : List ℕ → Option (List ℕ) → List ℕ → Option (List ℕ) → PbxFault → PlaceOf
-place_over path None plan queues fault = place_in_file path plan fault
-place_over path (Some queues_path) plan None fault = place_in_file path plan fault
-place_over path (Some queues_path) plan (Some queues) fault = place_in_two (path, plan) (queues_path, queues) fault
-
 -- the output and result of a question on the files at its paths, and the place of its fault
 abbrev pub ReachesFiles : (List ℕ → Source) → QuestionOf → Bool → Option (List ℕ) → Option (List ℕ) → Result Served Faulted → Type 0
 ReachesFiles files question explains old new answered =
-    Reads (files question.file) (λ plan. ReadsSome (option_map files question.queues) (λ queues.
-    Reaches question explains (plan >>= λ plan. some_text queues >>= λ queues. files_of plan queues) old new (without_place answered)
-    × StandsIn (place_of_files question.file question.queues plan queues) answered))
+    OnFiles (λ given. Reaches question explains given old new) files question.file question.queues answered

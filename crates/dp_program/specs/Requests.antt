@@ -8,7 +8,7 @@ use Rattle.dp_program.specs.declared.options.Options.{Options}
 use Rattle.dp_program.specs.declared.request.Lookup.{Lookup}
 use Rattle.dp_program.specs.declared.request.ReachQuestion.{ReachQuestion}
 use Rattle.dp_program.specs.declared.request.Request.{Request}
-use Rattle.dp_program.specs.declared.request.Request.TheVariants.{Joined, Check, CheckIncluding, CheckQueuesIncluding, CheckBothIncluding, CheckQueues, CheckBoth, Listing, ListIncluding, Audit, AuditBy, Match, MatchIncluding, Explain, Run, RunWide, Debug, DebugWide, Test, Diff, DiffIncluding, Reach}
+use Rattle.dp_program.specs.declared.request.Request.TheVariants.{Joined, Check, CheckIncluding, CheckQueuesIncluding, CheckBothIncluding, CheckQueues, CheckBoth, Listing, ListIncluding, Audit, AuditBy, Match, MatchIncluding, Explain, Run, RunWide, Debug, DebugWide, Test, Diff, DiffIncluding, Graph, GraphIncluding, Reach}
 
 -- what is looked up in the dialplan of a file, with its texts
 pub record LookupOf : Type 0 where
@@ -73,6 +73,8 @@ pub data RequestOf : Type 0 where
   testing : List ℕ → Bool → Bool → RequestOf
   comparing : List ℕ → List ℕ → RequestOf
   comparing_files : List ℕ → List ℕ → RequestOf
+  drawing : List ℕ → Option (List ℕ) → RequestOf
+  drawing_files : List ℕ → Option (List ℕ) → RequestOf
   reaching : QuestionOf → RequestOf
 
 -- what a request asks for
@@ -98,4 +100,6 @@ request_asked (DebugWide files held is_verbose) = debug_wide (paths_of files) he
 request_asked (Test file is_traced is_covered) = testing file.now is_traced is_covered
 request_asked (Diff files) = comparing files.before.now files.after.now
 request_asked (DiffIncluding files) = comparing_files files.before.now files.after.now
+request_asked (Graph files) = drawing files.plan.now (option_map (λ path. path.now) files.queues)
+request_asked (GraphIncluding files) = drawing_files files.plan.now (option_map (λ path. path.now) files.queues)
 request_asked (Reach question) = reaching (question_of question)

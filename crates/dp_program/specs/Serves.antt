@@ -19,11 +19,12 @@ use Rattle.dp_program.specs.Diffs.{DiffsFiles}
 use Rattle.dp_program.specs.Entries.{entry_of, explanation_of}
 use Rattle.dp_program.specs.Faulted.{StandsIn, in_none, place_of_report, place_of_run, place_of_two, without_place}
 use Rattle.dp_program.specs.Files.{Source, Reads, has_read_failed}
+use Rattle.dp_program.specs.Graphs.{GraphsFiles, GraphsIncluding}
 use Rattle.dp_program.specs.Hints.{Tells, TellsNothing, audit_hint_of, match_hint_of, status_in}
 use Rattle.dp_program.specs.Including.{ChecksBothIncluding, ChecksIncluding, ChecksQueuesIncluding}
 use Rattle.dp_program.specs.QueueTexts.{ReadsQueues}
 use Rattle.dp_program.specs.Reaches.{ReachesFiles}
-use Rattle.dp_program.specs.Requests.{OptionsOf, RequestOf, LookupOf, joined, check, check_files, check_queue_files, check_both_files, check_queues, check_both, listing, listing_files, auditing, auditing_by, matching, matching_files, explaining, run, run_wide, debug, debug_wide, testing, comparing, comparing_files, reaching}
+use Rattle.dp_program.specs.Requests.{OptionsOf, RequestOf, LookupOf, joined, check, check_files, check_queue_files, check_both_files, check_queues, check_both, listing, listing_files, auditing, auditing_by, matching, matching_files, explaining, run, run_wide, debug, debug_wide, testing, comparing, comparing_files, drawing, drawing_files, reaching}
 use Rattle.dp_program.specs.TestFiles.{TestsFile, manner_of}
 use Rattle.dp_program.specs.Texts.{OfRun, ReadsTexts, all_texts, sources_of}
 use Rattle.dp_program.specs.declared.dialplans.PlanUse.TheVariants.{Report, LookUp, Run as to_run}
@@ -366,6 +367,8 @@ Serves files input (testing file is_traced is_covered) options old new answered 
     TestsFile (manner_of is_traced is_covered) files file old new answered
 Serves files input (comparing before after) options old new answered = Quietly (DiffsFiles files before after old new) answered
 Serves files input (comparing_files before after) options old new answered = DiffsIncluding options.clock files before after old new answered
+Serves files input (drawing file queues) options old new answered = Quietly (GraphsFiles files file queues old new) answered
+Serves files input (drawing_files file queues) options old new answered = GraphsIncluding options.clock files file queues old new answered
 Serves files input (reaching question) options old new answered = ReachesFiles files question options.explains old new answered
 
 -- whether a read of the input failed, given the result: only a request without a command reads the input
@@ -391,4 +394,6 @@ fails_on_input (debug_wide paths held is_verbose) result = false
 fails_on_input (testing file is_traced is_covered) result = false
 fails_on_input (comparing before after) result = false
 fails_on_input (comparing_files before after) result = false
+fails_on_input (drawing file queues) result = false
+fails_on_input (drawing_files file queues) result = false
 fails_on_input (reaching question) result = false

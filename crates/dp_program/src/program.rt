@@ -11,6 +11,7 @@ use crate::dialplans::moment_in;
 use crate::diffs::{serve_diff, serve_diff_including};
 use crate::faulted::Faulted;
 use crate::files::ReadFiles;
+use crate::graphs::{serve_graph, serve_graph_including};
 use crate::hints::{Served, without_hint};
 use crate::including::{
     serve_check_both_including, serve_check_including, serve_check_queues_including,
@@ -192,6 +193,12 @@ pub fn serve<'a, F: ReadFiles, I: ReadTold, W: WriteTold, R: Threads + Wait + Sy
         }
         Request::DiffIncluding { files: paths } => {
             serve_diff_including(files, alloc, paths, options.clock, output)
+        }
+        Request::Graph { files: paths } => {
+            without_hint(alloc, serve_graph(files, alloc, paths, output))
+        }
+        Request::GraphIncluding { files: paths } => {
+            serve_graph_including(files, alloc, paths, options.clock, output)
         }
         Request::Reach { question } => serve_reach(
             files,

@@ -1,24 +1,24 @@
 //! The request that asks what a phone call may run.
-ghost use Rattle.std.specs.Prelude.{◌≡◌, ◌++◌, ◌||◌, [], false, IfOk, OnOk, map};
+ghost use Rattle.std.specs.Prelude.{◌≡◌, ◌++◌, ◌||◌, [], IfOk, OnOk, map};
 ghost use Rattle.std.specs.List.{flat_map};
 ghost use Rattle.std.specs.Option.{option_map, option_map_or};
 ghost use Rattle.dp_answer.specs.Asks.{ask_of as ask_texts, target_names};
-ghost use Rattle.dp_commands.specs.Faults.{is_write_failed, reason_of};
+ghost use Rattle.dp_commands.specs.Faults.{is_write_failed};
 ghost use Rattle.dp_commands.specs.Run.{files_of};
-ghost use Rattle.dp_conf.specs.Answers.{Answers};
 ghost use Rattle.dp_conf.specs.Levels.{arguments_of};
-ghost use Rattle.dp_program.specs.Faulted.{StandsIn, without_place};
+ghost use Rattle.dp_program.specs.Faulted.{without_place};
 ghost use Rattle.dp_program.specs.Reaches as spec;
 ghost use Rattle.dp_program.specs.Reaches.{ReachesFiles};
 ghost use Rattle.dp_program.specs.Requests.{question_of};
 
-use crate::faulted::{Faulted, placed_in_two, with_place};
+use crate::faulted::Faulted;
 use crate::files::ReadFiles;
 use crate::hints::{HintedPlan, Served, is_bare, lacking, push_bare_line, push_told};
-use crate::request::ReachQuestion;
-use crate::texts::{FileText, read_named, read_text};
+use crate::plan_and_queues::{PlanAndQueues, files_in, placed_over};
+use crate::request::{PlanPaths, ReachQuestion};
+use crate::texts::{read_named, read_text};
 use dp_answer::{Ask, Report, report_on};
-use dp_commands::{Files, PbxFault, read_files};
+use dp_commands::{Files, PbxFault};
 use dp_conf::{WriteTold, split_args};
 use dp_plan::NoMemory;
 use std::alloc::Global;
@@ -143,29 +143,13 @@ fn hinted_report(
     Ok(HintedReport { report, hint })
 }
 
-/// The texts of the files of a question: its dialplan, and its queues if a queue file is named.
-#[derive(Drop)]
-struct ReachTexts {
-    plan: Vec<u8>,
-    queues: Option<Vec<u8>>,
-}
-
-/// The contents of these texts, or their first fault.
-fn files_in(alloc: Global, texts: &ReachTexts) -> Result<Files, PbxFault>
-    ensures files { Answers (λ files. record { plan = files.plan; queues = files.queues }) reason_of result
-        (files_of texts.now.plan.items (option_map (λ text. text.items) texts.now.queues)) }
-    ensures quiet { is_write_failed result ≡ false }
-{
-    read_files(alloc, &texts.plan, texts.queues.as_deref())
-}
-
 /// Writes the report on the texts of a dialplan and of its queues.
 #[tactic(auto, using(crate::proofs::ReachesLemmas::reaches_fault, crate::proofs::ReachesLemmas::reaches_failed, crate::proofs::ReachesLemmas::reaches_written, crate::proofs::ServesLemmas::reaches_lacks))]
 fn reach_told<W: WriteTold>(
     alloc: Global,
     question: &ReachQuestion<'_>,
     explains: bool,
-    texts: &ReachTexts,
+    texts: &PlanAndQueues,
     output: &mut W,
 ) -> Result<Served, PbxFault>
     ensures reaches { spec.Reaches (question_of question.now) explains
@@ -182,31 +166,6 @@ fn reach_told<W: WriteTold>(
     })
 }
 
-/// A result for the texts of the files of a question, with the place of its fault.
-fn placed_over<'a>(
-    question: &ReachQuestion<'a>,
-    texts: ReachTexts,
-    answered: Result<Served, PbxFault>,
-) -> Result<Served, Faulted<'a>>
-    ensures same { without_place result ≡ answered }
-    ensures stands { StandsIn (spec.place_over (question_of question.now).file (question_of question.now).queues texts.plan.items
-        (option_map (λ text. text.items) texts.queues)) result }
-{
-    let ReachTexts { plan, queues } = texts;
-    let Some(path) = question.queues else {
-        return with_place(question.file, &plan, answered);
-    };
-    let Some(queues) = queues else {
-        return with_place(question.file, &plan, answered);
-    };
-    let plan = FileText {
-        path: question.file,
-        text: plan,
-    };
-    let queues = FileText { path, text: queues };
-    placed_in_two(&plan, &queues, answered)
-}
-
 /// Reports what a phone call that comes in at a context may run, given the files of a question.
 pub(crate) fn serve_reach<'a, F: ReadFiles, W: WriteTold>(
     files: &F,
@@ -221,7 +180,11 @@ pub(crate) fn serve_reach<'a, F: ReadFiles, W: WriteTold>(
 {
     let plan = read_text(files, alloc, question.file)?;
     let queues = read_named(files, alloc, question.queues)?;
-    let texts = ReachTexts { plan, queues };
+    let texts = PlanAndQueues { plan, queues };
     let answered = reach_told(alloc, question, explains, &texts, output);
-    placed_over(question, texts, answered)
+    let paths = PlanPaths {
+        plan: question.file,
+        queues: question.queues,
+    };
+    placed_over(paths, texts, answered)
 }

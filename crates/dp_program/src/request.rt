@@ -26,6 +26,15 @@ pub struct CheckFiles<'a> {
     pub queues: &'a str,
 }
 
+/// The files of a dialplan and of its queues, by their paths.
+#[derive(Clone, Copy, Debug, PartialEq, Eq)]
+pub struct PlanPaths<'a> {
+    /// The dialplan.
+    pub plan: &'a str,
+    /// The queues; without a file there are none.
+    pub queues: Option<&'a str>,
+}
+
 /// The files of two dialplans that are compared, by their paths.
 #[derive(Clone, Copy, Debug, PartialEq, Eq)]
 pub struct DiffFiles<'a> {
@@ -190,6 +199,15 @@ pub enum Request<'a> {
     /// `diff --asterisk OLD NEW`: does the same for dialplans that are read from a file each and from those that it includes.
     DiffIncluding {
         files: DiffFiles<'a>,
+    },
+    /// `graph [--queues QUEUES] FILE`: writes a dialplan as a picture in the DOT language, with the ways out of its queues if they are named.
+    Graph {
+        files: PlanPaths<'a>,
+    },
+    /// `graph --asterisk [--queues QUEUES] FILE`: does the same for a dialplan and queues that are read from a file each and from those that
+    /// it includes. If the dialplan has a fault, or the queues have anything that this program cannot follow, nothing is written.
+    GraphIncluding {
+        files: PlanPaths<'a>,
     },
     /// `reach [--queues QUEUES] [--start CONTEXTS] [--exten BYTES] [--caller NUMBERS] [--to TARGET] FILE CONTEXT`: reports what a call that
     /// comes in at a context may run, or whether it may reach another context.

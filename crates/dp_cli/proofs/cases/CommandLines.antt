@@ -4,7 +4,7 @@ use Rattle.clap.proofs.OnLiterals.{clap_on_literals}
 use Rattle.clap.specs.Faults.{fault_of}
 use Rattle.clap.specs.declared.error.kind.ErrorKind.TheVariants as kind
 use Rattle.dp_program.specs.Entries.{found_entry, found_number}
-use Rattle.dp_program.specs.Requests.{joined, check, check_files, check_both_files, check_queues, check_both, listing, auditing, matching, explaining, run, run_wide, debug, debug_wide, testing, comparing_files}
+use Rattle.dp_program.specs.Requests.{joined, check, check_files, check_both_files, check_queues, check_both, listing, auditing, matching, explaining, run, run_wide, debug, debug_wide, testing, comparing_files, drawing, drawing_files}
 use Rattle.dp_cli.specs.CommandLine.{pbx_app, asked_of, options_of}
 use Rattle.dp_cli.specs.Refusals.{refusals_of}
 use Rattle.dp_wide.specs.Times.{moment_of, weekday_named}
@@ -132,6 +132,14 @@ debugged_verbose = refl
 compared : asked_of (codes "pbx" ∷ codes "diff" ∷ codes "--asterisk" ∷ codes "a.conf" ∷ codes "b.conf" ∷ []) ≡ Some (comparing_files (codes "a.conf") (codes "b.conf"))
 unfolding clap_on_literals asked_of
 compared = refl
+
+drawn : asked_of (codes "pbx" ∷ codes "graph" ∷ codes "a.conf" ∷ []) ≡ Some (drawing (codes "a.conf") None)
+unfolding clap_on_literals asked_of
+drawn = refl
+
+drawn_files : asked_of (codes "pbx" ∷ codes "graph" ∷ codes "--queues" ∷ codes "q.conf" ∷ codes "--asterisk" ∷ codes "a.conf" ∷ []) ≡ Some (drawing_files (codes "a.conf") (Some (codes "q.conf")))
+unfolding clap_on_literals asked_of
+drawn_files = refl
 
 debugged_wide : asked_of (codes "pbx" ∷ codes "debug" ∷ codes "--asterisk" ∷ codes "--break" ∷ codes "x" ∷ codes "a.conf" ∷ codes "b.script" ∷ []) ≡ Some (debug_wide (record { plan = codes "a.conf"; queues = None; second_plan = None; script = codes "b.script" }) (codes "x") false)
 unfolding clap_on_literals asked_of

@@ -236,4 +236,30 @@ $ pbx diff before.conf after.conf
 + main,_1XX,2 Hangup()
 + night,_1XX,2 Hangup()
 ? 1
+@ door.conf
+[door]
+exten => 1,1,Goto(office,100,1)
+exten => 2,1,Goto(${OPEN},s,1)
+include => bell
+@
+$ pbx graph door.conf
+digraph dialplan {
+rankdir=LR;
+ranksep=0.8;
+nodesep=0.25;
+node [shape=plain,fontname="Helvetica",fontsize=9];
+edge [fontname="Helvetica",fontsize=8,arrowsize=0.6];
+c0 [label=<<table border="0" cellborder="1" cellspacing="0" cellpadding="3">
+<tr><td port="top" colspan="2" bgcolor="#dce6f2"><b>door </b></td></tr>
+<tr><td port="x1" align="left" bgcolor="#ffffff">1 </td><td port="y1" align="left" bgcolor="#ffffff">Goto(office,100,1) </td></tr>
+<tr><td port="x2" align="left" bgcolor="#ffffff">2 </td><td port="y2" align="left" bgcolor="#ffffff">Goto(${OPEN},s,1) </td></tr>
+</table>>];
+i0_1 [shape=box,color=red,fontcolor=red,label=<bell >];
+c0:top:e -> i0_1 [style=dashed,color=red,label="1"];
+m0_x1_xoffice_44_100_44_1 [shape=box,color=red,fontcolor=red,label=<office,100,1 >];
+c0:y1:e -> m0_x1_xoffice_44_100_44_1 [color=red];
+d0_x2_1 [shape=diamond,label=<door,2,1 >];
+c0:y2:e -> d0_x2_1 [color=black];
+}
+? 0
 "##;

@@ -448,6 +448,31 @@ diff --asterisk @missing @faulty→1→→fault 7 ReadFailed¶
 diff --asterisk --explain @first @missing→1→→fault 7 ReadFailed¶  @missing¶  a file could not be opened or read¶
 ";
 
+/// `graph`.
+const GRAPHS: &str = r##"
+graph @empty→0→digraph dialplan {¶rankdir=LR;¶ranksep=0.8;¶nodesep=0.25;¶node [shape=plain,fontname="Helvetica",fontsize=9];¶edge [fontname="Helvetica",fontsize=8,arrowsize=0.6];¶}¶→
+graph @cycle→0→digraph dialplan {¶rankdir=LR;¶ranksep=0.8;¶nodesep=0.25;¶node [shape=plain,fontname="Helvetica",fontsize=9];¶edge [fontname="Helvetica",fontsize=8,arrowsize=0.6];¶c0 [label=<<table border="0" cellborder="1" cellspacing="0" cellpadding="3">¶<tr><td port="top" colspan="2" bgcolor="#dce6f2"><b>a </b></td></tr>¶</table>>];¶c1 [label=<<table border="0" cellborder="1" cellspacing="0" cellpadding="3">¶<tr><td port="top" colspan="2" bgcolor="#dce6f2"><b>b </b></td></tr>¶</table>>];¶c0:top:e -> c1:top:w [style=dashed,label="1"];¶c1:top:e -> c0:top:w [style=dashed,label="1"];¶}¶→
+graph @ways→0→digraph dialplan {¶rankdir=LR;¶ranksep=0.8;¶nodesep=0.25;¶node [shape=plain,fontname="Helvetica",fontsize=9];¶edge [fontname="Helvetica",fontsize=8,arrowsize=0.6];¶c0 [label=<<table border="0" cellborder="1" cellspacing="0" cellpadding="3">¶<tr><td port="top" colspan="2" bgcolor="#dce6f2"><b>main </b></td></tr>¶<tr><td port="xs" align="left" bgcolor="#ffffff">s </td><td port="ys" align="left" bgcolor="#ffffff">Queue(help) </td></tr>¶</table>>];¶c1 [label=<<table border="0" cellborder="1" cellspacing="0" cellpadding="3">¶<tr><td port="top" colspan="2" bgcolor="#dce6f2"><b>out </b></td></tr>¶<tr><td port="x1" align="left" bgcolor="#ffffff">1 </td><td port="y1" align="left" bgcolor="#ffffff">Hangup() </td></tr>¶</table>>];¶}¶→
+graph --queues @wayout @ways→0→digraph dialplan {¶rankdir=LR;¶ranksep=0.8;¶nodesep=0.25;¶node [shape=plain,fontname="Helvetica",fontsize=9];¶edge [fontname="Helvetica",fontsize=8,arrowsize=0.6];¶c0 [label=<<table border="0" cellborder="1" cellspacing="0" cellpadding="3">¶<tr><td port="top" colspan="2" bgcolor="#dce6f2"><b>main </b></td></tr>¶<tr><td port="xs" align="left" bgcolor="#ffffff">s </td><td port="ys" align="left" bgcolor="#ffffff">Queue(help) </td></tr>¶</table>>];¶c1 [label=<<table border="0" cellborder="1" cellspacing="0" cellpadding="3">¶<tr><td port="top" colspan="2" bgcolor="#dce6f2"><b>out </b></td></tr>¶<tr><td port="x1" align="left" bgcolor="#ffffff">1 </td><td port="y1" align="left" bgcolor="#ffffff">Hangup() </td></tr>¶</table>>];¶c0:ys:e -> c1:top:w [style=dotted,color=black];¶}¶→
+graph --queues @help @ways→0→digraph dialplan {¶rankdir=LR;¶ranksep=0.8;¶nodesep=0.25;¶node [shape=plain,fontname="Helvetica",fontsize=9];¶edge [fontname="Helvetica",fontsize=8,arrowsize=0.6];¶c0 [label=<<table border="0" cellborder="1" cellspacing="0" cellpadding="3">¶<tr><td port="top" colspan="2" bgcolor="#dce6f2"><b>main </b></td></tr>¶<tr><td port="xs" align="left" bgcolor="#ffffff">s </td><td port="ys" align="left" bgcolor="#ffffff">Queue(help) </td></tr>¶</table>>];¶c1 [label=<<table border="0" cellborder="1" cellspacing="0" cellpadding="3">¶<tr><td port="top" colspan="2" bgcolor="#dce6f2"><b>out </b></td></tr>¶<tr><td port="x1" align="left" bgcolor="#ffffff">1 </td><td port="y1" align="left" bgcolor="#ffffff">Hangup() </td></tr>¶</table>>];¶}¶→
+# A dialplan and queues that are read with the files that they include.
+graph --asterisk @pieces→0→digraph dialplan {¶rankdir=LR;¶ranksep=0.8;¶nodesep=0.25;¶node [shape=plain,fontname="Helvetica",fontsize=9];¶edge [fontname="Helvetica",fontsize=8,arrowsize=0.6];¶c0 [label=<<table border="0" cellborder="1" cellspacing="0" cellpadding="3">¶<tr><td port="top" colspan="2" bgcolor="#dce6f2"><b>main </b></td></tr>¶<tr><td port="x100" align="left" bgcolor="#ffffff">100 </td><td port="y100" align="left" bgcolor="#ffffff">NoOp(hello) </td></tr>¶<tr><td port="xs" align="left" bgcolor="#ffffff">s </td><td port="ys" align="left" bgcolor="#ffffff">Goto(100,1) </td></tr>¶</table>>];¶c0:ys:e -> c0:y100:e [color=black];¶}¶→
+graph --asterisk @ways --queues @wayout→0→digraph dialplan {¶rankdir=LR;¶ranksep=0.8;¶nodesep=0.25;¶node [shape=plain,fontname="Helvetica",fontsize=9];¶edge [fontname="Helvetica",fontsize=8,arrowsize=0.6];¶c0 [label=<<table border="0" cellborder="1" cellspacing="0" cellpadding="3">¶<tr><td port="top" colspan="2" bgcolor="#dce6f2"><b>main </b></td></tr>¶<tr><td port="xs" align="left" bgcolor="#ffffff">s </td><td port="ys" align="left" bgcolor="#ffffff">Queue(help) </td></tr>¶</table>>];¶c1 [label=<<table border="0" cellborder="1" cellspacing="0" cellpadding="3">¶<tr><td port="top" colspan="2" bgcolor="#dce6f2"><b>out </b></td></tr>¶<tr><td port="x1" align="left" bgcolor="#ffffff">1 </td><td port="y1" align="left" bgcolor="#ffffff">Hangup() </td></tr>¶</table>>];¶c0:ys:e -> c1:top:w [style=dotted,color=black];¶}¶→
+# The dialplan is read first, then the queues, and their texts come in the same order.
+graph @faulty→1→→fault 4 NoEquals line 2¶
+graph @missing→1→→fault 7 ReadFailed¶
+graph --queues @missing @long→1→→fault 8 TooLong¶
+graph --queues @missing @faulty→1→→fault 7 ReadFailed¶
+graph --queues @strategy @priority→1→→fault 20 BadPriority line 2¶
+graph --queues @strategy @ways→1→→fault 30 BadStrategy line 2¶
+graph --explain --queues @missing @ways→1→→fault 7 ReadFailed¶  @missing¶  a file could not be opened or read¶
+graph --asterisk @parted --queues @missing→1→→@inner:2: fault 23 BadApplication¶@parted:4: fault 20 BadPriority¶@parted:5: fault 7 ReadFailed nowhere.conf¶
+graph --asterisk @ways --queues @mixed→1→→@mixed:3: fault 30 BadStrategy¶
+graph --asterisk @ways --queues @random→1→→@random:2: note Random¶
+graph --asterisk @ways --queues @missing→1→→fault 7 ReadFailed¶
+graph --asterisk --explain @missing→1→→fault 7 ReadFailed¶  @missing¶  a file could not be opened or read¶
+"##;
+
 /// `debug --asterisk`.
 const ASTERISK_DEBUGS: &str = "\
 # A step that is not taken is no event, and neither is a line that shows a value. A pass is one.
@@ -620,6 +645,7 @@ const TABLES: [&str; 17] = [
     ASTERISK_RUNS,
     ASTERISK_DEBUGS,
     DIFFS,
+    GRAPHS,
     TESTS,
     VERBOSE_RUNS,
     THREAD_RUNS,

@@ -71,6 +71,9 @@ diff→the following required arguments were not provided:¶  <OLD>¶  <NEW>→p
 diff @usual→the following required arguments were not provided:¶  <NEW>→pbx diff <OLD> <NEW>
 diff @usual @usual @usual→unexpected argument '@usual' found→pbx diff [OPTIONS] <OLD> <NEW>
 diff --clock friday a b→the following required arguments were not provided:¶  --asterisk→pbx diff [OPTIONS] <OLD> <NEW>
+graph→the following required arguments were not provided:¶  <FILE>→pbx graph <FILE>
+graph @usual @usual→unexpected argument '@usual' found→pbx graph [OPTIONS] <FILE>
+graph --clock friday a→the following required arguments were not provided:¶  --asterisk→pbx graph [OPTIONS] <FILE>
 debug @missing @missing→the following required arguments were not provided:¶  --break <CONTEXT,EXTEN,PRIORITY>→pbx debug --break <CONTEXT,EXTEN,PRIORITY> <FILE> <SCRIPT>
 debug --clock friday --break main,s,1 a b→the following required arguments were not provided:¶  --asterisk→pbx debug [OPTIONS] --break <CONTEXT,EXTEN,PRIORITY> <FILE> <SCRIPT>
 debug --asterisk --clock friday --break main,s,1 a b→invalid value 'friday' for '--clock <MOMENT>': a moment is written like 'fri 2026-11-27 09:30'→pbx debug [OPTIONS] --break <CONTEXT,EXTEN,PRIORITY> <FILE> <SCRIPT>
@@ -123,6 +126,7 @@ Commands:
   test     Run the tests of a dialplan
   audit    Print what the writer of a dialplan may not have meant
   diff     Print what answers differently in two dialplans
+  graph    Draw a dialplan as a picture for Graphviz
   reach    Prove which entries a call from a context can never run
   explain  Print what the manual says about a fault
   help     Print this message or the help of the given subcommand(s)
@@ -143,6 +147,7 @@ Examples:
   pbx test office.test
   pbx audit extensions.conf
   pbx diff extensions.conf new.conf
+  pbx graph extensions.conf | dot -Tsvg -o dialplan.svg
   pbx reach extensions.conf from-carrier --to international
   pbx explain 20
   pbx < joined.conf
@@ -483,7 +488,6 @@ Example:
 /// The version.
 const VERSION: &str = "pbx 0.1.0 logic dac8208d650f15bf\n";
 
-/// Command lines that ask for help or for the version, and their output.
 /// The help for `diff`.
 const DIFF_HELP: &str = "\
 Print what answers differently in two dialplans
@@ -513,7 +517,35 @@ Example:
   + main,100,2 Playback(goodbye)
 ";
 
-const HELPS: [(&str, &str); 17] = [
+/// The help for `graph`.
+const GRAPH_HELP: &str = "\
+Draw a dialplan as a picture for Graphviz
+
+Usage: pbx graph [OPTIONS] <FILE>
+
+Arguments:
+  <FILE>  The dialplan, such as extensions.conf
+
+Options:
+      --asterisk         Read included files, templates and block comments
+      --clock <MOMENT>   With --asterisk: the moment by which includes with times are read, like 'fri 2026-11-27 09:30'
+      --queues <QUEUES>  The queues, such as queues.conf, whose ways out are drawn
+      --explain          Print below each fault, and below each note of `check`, where it is and what the manual says about it
+  -h, --help             Print help
+
+Prints a picture in the DOT language, which `dot` of Graphviz makes into an image. Each context is a box with its extensions, in the order
+in which a look-up tries them, and what each does first. Arrows are dashed for includes, solid for jumps, double for subroutines, and
+dotted for the ways out of queues, which --queues names. A target that only the call decides is a diamond; one that does not exist is red.
+
+With --asterisk included files, templates and block comments are read too. If lines have faults, each fault is printed on standard
+error with its file and line, and the status is 1.
+
+Example:
+  $ pbx graph extensions.conf | dot -Tsvg -o dialplan.svg
+";
+
+/// Command lines that ask for help or for the version, and their output.
+const HELPS: [(&str, &str); 18] = [
     ("help", PBX_HELP),
     ("-h", PBX_HELP),
     ("--help", PBX_HELP),
@@ -527,6 +559,7 @@ const HELPS: [(&str, &str); 17] = [
     ("test --help", TEST_HELP),
     ("audit --help", AUDIT_HELP),
     ("diff --help", DIFF_HELP),
+    ("graph --help", GRAPH_HELP),
     ("help reach", REACH_HELP),
     ("help explain", EXPLAIN_HELP),
     ("--version", VERSION),
