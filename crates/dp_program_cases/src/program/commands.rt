@@ -633,7 +633,7 @@ check @empty←[main]¶exten => 100,1,NoOp(hello)¶exten => 100,2,Goto(200,1)¶e
 ";
 
 /// All the tables.
-const TABLES: [&str; 17] = [
+const TABLES: [&str; 18] = [
     CHECKS,
     LISTS,
     MATCHES,
