@@ -1,5 +1,5 @@
 -- The files of a dialplan and of its queues, if there are some.
-use Rattle.std.specs.Prelude.{ℕ, List, Option, Some, None, Result, Ok}
+use Rattle.std.specs.Prelude.{ℕ, List, Option, Some, None, Result}
 use Rattle.std.specs.Option.{option_map}
 use Rattle.dp_conf.specs.Answers.{◌>>=◌}
 use Rattle.dp_commands.specs.Run.{Files, files_of}

@@ -1,4 +1,3 @@
-use Rattle.std.proofs.Common.{◌≡◌, Result}
 use Rattle.std.specs.Option.{option_map}
 use Rattle.std.proofs.lemmas.Result.{err_from_is_err_and}
 use Rattle.dp_program.specs.Graphs.{WritesGraph}
