@@ -58,7 +58,7 @@ fn audit_in<'a>(given: &ArgMatches<'a>, kinds: KindChoice<'a>) -> Option<Request
 /// The kinds of findings, as the message on an unknown one lists them.
 fn kinds_there_are(is_wide: bool) -> &'static str {
     if is_wide {
-        "with '--asterisk' the kinds are Cycle, NoApplication, NoTarget, Gap, NoFirst, Hidden, Unused, FallsThrough, Loop and NoFunction"
+        "with '--asterisk' the kinds are Cycle, NoApplication, NoTarget, Gap, NoFirst, Hidden, Unset, Unused, FallsThrough, Loop and NoFunction"
     } else {
         "without '--asterisk' the kinds are Cycle, NoApplication, NoTarget, Gap, NoFirst, Hidden, Unset and Unused"
     }

@@ -104,8 +104,8 @@ Prints `KIND CONTEXT,NAME,PRIORITY` for each finding, followed by its details, a
   Unused         no target names the label
 The status is 0 if nothing is found, and 1 otherwise.
 
-With --asterisk the files that the dialplan includes are read, the applications and functions that people use are known, there is no
-`Unset`, and these kinds come last:
+With --asterisk the files that the dialplan includes are read, the applications and functions that people use are known, `Unset` is
+printed only for a variable that nothing else mentions, and these kinds come last:
   FallsThrough   a call goes on after the entry in another extension, which is printed after it
   Loop           a call that gets there comes back again and again, and nothing ends it
   NoFunction     there is no such function

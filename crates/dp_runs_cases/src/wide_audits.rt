@@ -11,8 +11,14 @@ const WIDE: &str = r"
 # Applications that the wide table has, and one that it lacks, in any case.
 ¦exten => s,1,VoiceMail(1)\nexten => s,2,voicemail(1)\nexten => s,3,While(1)\nexten => s,4,Hangup()→NoApplication main,s,3 While\nok 1 findings\nstatus 1
 ¦exten => s,1,Answer()\nexten => s,2,Dial(Line/1)\nexten => s,3,Hangup()→ok 0 findings\nstatus 0
-# Variables are not reported.
-¦exten => s,1,Set(A=${B}${UNIQUEID})→ok 0 findings\nstatus 0
+# Variables that nothing mentions; what Asterisk gives, and what applications outside and macros set, is not reported.
+¦exten => s,1,Set(A=${B}${UNIQUEID})→Unset main,s,1 B\nok 1 findings\nstatus 1
+Unset¦exten => s,1,NoOp(${UNIQUEID}${VMSTATUS}${MACRO_EXTEN}${ARG2}${DIALSTATUS}${EXTEN}${A})→Unset main,s,1 A\nok 1 findings\nstatus 1
+# A name that stands elsewhere may be set: with marks, in an array, in the arguments of an application, in a side, with other bytes in it.
+Unset¦exten => s,1,NoOp(${A}${B}${C}${D}${E}${F-G})\nexten => s,2,MSet(__A=1,B=2)\nexten => s,3,Set(ARRAY(C,D)=1)\nexten => s,4,Read(E)\nexten => s,5,ExecIf(1?Set(F-G=1))→ok 0 findings\nstatus 0
+# Reads are no mentions, nor is a name in another case, or a part of a name.
+Unset¦exten => s,1,NoOp(${A} a AB BA A-B x{A})\nexten => s,2,NoOp(${A:1})→Unset main,s,1 A\nUnset main,s,2 A\nok 2 findings\nstatus 1
+Unset¦exten => s,1,NoOp(${A})\nexten => s,2,NoOp("A")→ok 0 findings\nstatus 0
 # The others are reported as without the option.
 ¦exten => s,1,Goto(9)\nexten => s,3,Hangup()\nexten => t,2,Hangup()\ninclude => main→Cycle main\nNoTarget main,s,1 9\nGap main,s,1 2\nNoFirst main,t,2\nok 4 findings\nstatus 1
 # A label that an application beyond the twenty-one may name is used. The targets of `GotoIfTime` are checked after all others.
@@ -44,7 +50,7 @@ Loop¦exten => s,1,Playback(x)\nexten => s,2,Goto(1)\nexten => t,1,SayDigits(1)\
 ¦exten => s,1,Set(A=${cut(X,-,1)}${Len(x)})→NoFunction main,s,1 cut\nNoFunction main,s,1 Len\nok 2 findings\nstatus 1
 # Functions of the table and of Asterisk, and texts that are not functions.
 ¦exten => s,1,Set(A=${CUT(X,-,1)}${DB(a/b)}${CALLERID(num)}${IF($[1]?a:b)}${STRFTIME(1)}${SHELL(ls)}${GLOBAL(X)}${LEN(a)}${QUEUE_EXISTS(q)})→ok 0 findings\nstatus 0
-¦exten => s,1,Set(FOO(1)=${A}(1)${B:1}${C${D}(1)}$FOO(1)FOO(2))→ok 0 findings\nstatus 0
+¦exten => s,1,Set(FOO(1)=${A}(1)${B:1}${C${D}(1)}$FOO(1)FOO(2))→Unset main,s,1 A\nUnset main,s,1 B\nUnset main,s,1 D\nok 3 findings\nstatus 1
 ¦exten => s,1,NoOp(${ FOO(1)})\nexten => s,2,NoOp(${FOO(1)→NoFunction main,s,1  FOO\nNoFunction main,s,2 FOO\nok 2 findings\nstatus 1
 # The further kinds come after the others, each in the order of the file.
 ¦exten => 9,1,NoOp(${FOO(1)})\nexten => 8,1,Goto(8,1)\nexten => 7,2,NoOp()\nexten => _X,2,NoOp()\nexten => _X,3,Goto(nowhere,s,1)→NoFirst main,7,2\nNoFirst main,_X,2\nNoTarget main,_X,3 nowhere,s,1\nFallsThrough main,9,1 main,_X,2\nFallsThrough main,7,2 main,_X,3\nLoop main,8,1\nNoFunction main,9,1 FOO\nok 7 findings\nstatus 1
@@ -76,9 +82,10 @@ GAP, unset ,NoApplication¦exten => s,1,VoiceMail(${A})\nexten => s,3,Hangup()�
 const KINDS: &str = r"
 Cycle→wide plain
 cycle,NOTARGET , Gap,NoFirst,hidden,unused,noapplication→wide plain
-Unset→plain
+Unset→wide plain
 FallsThrough, Loop ,NoFunction→wide
-FallsThrough,Unset→none
+FallsThrough,Unset→wide
+FallsThrough,Strange→none
 →none
 Gap,→none
 Gap Hidden→none

@@ -4,6 +4,7 @@ mod FunctionsLemmas
 mod GivenLemmas
 mod KindsLemmas
 mod LinesLemmas
+mod MentionsLemmas
 mod OnwardLemmas
 mod PartsLemmas
 mod RunsLemmas

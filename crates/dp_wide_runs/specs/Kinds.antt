@@ -13,11 +13,11 @@ plain_kinds =
     codes "Cycle" ∷ codes "NoApplication" ∷ codes "NoTarget" ∷ codes "Gap" ∷ codes "NoFirst" ∷ codes "Hidden" ∷ codes "Unset"
     ∷ codes "Unused" ∷ []
 
--- the kinds of an audit over the wide table, which reports no variables
+-- the kinds of an audit over the wide table
 unfoldable pub wide_kinds : List (List ℕ)
 wide_kinds =
-    codes "Cycle" ∷ codes "NoApplication" ∷ codes "NoTarget" ∷ codes "Gap" ∷ codes "NoFirst" ∷ codes "Hidden" ∷ codes "Unused"
-    ∷ codes "FallsThrough" ∷ codes "Loop" ∷ codes "NoFunction" ∷ []
+    codes "Cycle" ∷ codes "NoApplication" ∷ codes "NoTarget" ∷ codes "Gap" ∷ codes "NoFirst" ∷ codes "Hidden" ∷ codes "Unset"
+    ∷ codes "Unused" ∷ codes "FallsThrough" ∷ codes "Loop" ∷ codes "NoFunction" ∷ []
 
 -- whether a word is one of some kinds, in any case
 abbrev pub is_among : List (List ℕ) → List ℕ → Bool

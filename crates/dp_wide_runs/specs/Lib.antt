@@ -4,6 +4,7 @@ pub mod FunctionsCalled
 pub mod Given
 pub mod Kinds
 pub mod Lines
+pub mod Mentions
 pub mod Runs
 pub mod Shows
 pub mod Turns

@@ -23,6 +23,7 @@ use Rattle.dp_table.specs.Standard.{standard_rows}
 use Rattle.dp_wide.specs.Wide.{wide_rows}
 use Rattle.dp_wide_runs.specs.FunctionsCalled.{no_functions_in}
 use Rattle.dp_wide_runs.specs.Kinds.{ChoiceOf, is_told}
+use Rattle.dp_wide_runs.specs.Mentions.{is_strange}
 use Rattle.dp_wide_runs.specs.WideTargets.{wide_targets}
 use Rattle.dp_wide_runs.specs.declared.wide_finding.WideFinding.{WideFinding}
 use Rattle.dp_wide_runs.specs.declared.wide_finding.WideFinding.TheVariants.{Plain, FallsThrough, EndlessRun, NoFunction}
@@ -44,7 +45,8 @@ kind_of (Unused id) = codes "Unused"
 abbrev pub has_wide_application : PlanOf → EntryId → Bool
 has_wide_application plan id = passes plan (λ entry. has_row wide_rows entry.application) id
 
--- whether a finding is one over the wide table too: it is about no variable, and about no application that the wide table has
+-- whether a finding is one over the wide table too: it is about no application that the wide table has, and about no variable that is given
+-- or mentioned
 abbrev pub is_wide_finding : PlanOf → Finding → Bool
 is_wide_finding plan (Cycle number) = true
 is_wide_finding plan (NoApplication id) = not (has_wide_application plan id)
@@ -52,7 +54,7 @@ is_wide_finding plan (NoTarget id target) = true
 is_wide_finding plan (Gap id) = true
 is_wide_finding plan (NoFirst id) = true
 is_wide_finding plan (Hidden id from) = true
-is_wide_finding plan (Unset id name) = false
+is_wide_finding plan (Unset id name) = is_strange plan name
 is_wide_finding plan (Unused id) = true
 
 -- whether a finding is one over the applications that are asked for

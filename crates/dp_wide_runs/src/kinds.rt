@@ -39,13 +39,14 @@ const PLAIN_KINDS: [&[u8]; 8] = [
 ];
 
 /// The kinds of an audit over the wide table.
-const WIDE_KINDS: [&[u8]; 10] = [
+const WIDE_KINDS: [&[u8]; 11] = [
     b"Cycle",
     b"NoApplication",
     b"NoTarget",
     b"Gap",
     b"NoFirst",
     b"Hidden",
+    b"Unset",
     b"Unused",
     b"FallsThrough",
     b"Loop",

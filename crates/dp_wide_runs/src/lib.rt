@@ -8,6 +8,7 @@ mod functions_called;
 mod kinds;
 pub mod laws;
 mod manner;
+mod mentions;
 mod own_line;
 mod run;
 mod taker;

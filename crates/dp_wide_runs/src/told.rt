@@ -11,6 +11,7 @@ ghost use Rattle.dp_wide_runs.specs.steps.Runs.{AddsRuns};
 
 use crate::functions_called::push_no_functions;
 use crate::kinds::AuditChoice;
+use crate::mentions::MentionedPlan;
 use crate::wide_finding::{WideFinding, kind_of};
 use crate::wide_targets::WideJumps;
 use dp_app::AppTable;
@@ -70,12 +71,12 @@ fn has_wide_application(plan: &Dialplan, id: EntryId) -> bool
 }
 
 /// Whether a finding is one over the wide table too.
-fn is_wide_finding(plan: &Dialplan, finding: &Finding) -> bool
-    ensures { result ≡ spec.is_wide_finding plan.now finding.now }
+fn is_wide_finding(scene: &MentionedPlan<'_>, finding: &Finding) -> bool
+    ensures { result ≡ spec.is_wide_finding scene.now finding.now }
 {
     match finding {
-        Finding::NoApplication { entry } => !has_wide_application(plan, *entry),
-        Finding::Unset { .. } => false,
+        Finding::NoApplication { entry } => !has_wide_application(scene.plan(), *entry),
+        Finding::Unset { entry: _, name } => scene.is_strange(name),
         Finding::Cycle { .. }
         | Finding::NoTarget { .. }
         | Finding::Gap { .. }
@@ -86,33 +87,33 @@ fn is_wide_finding(plan: &Dialplan, finding: &Finding) -> bool
 }
 
 /// Whether a finding is one over the applications that are asked for.
-fn stands(is_wide: bool, plan: &Dialplan, finding: &Finding) -> bool
-    ensures { result ≡ spec.stands is_wide plan.now finding.now }
+fn stands(is_wide: bool, scene: &MentionedPlan<'_>, finding: &Finding) -> bool
+    ensures { result ≡ spec.stands is_wide scene.now finding.now }
 {
     if is_wide {
-        return is_wide_finding(plan, finding);
+        return is_wide_finding(scene, finding);
     }
     true
 }
 
 /// Whether a finding is one over these applications and its kind is reported.
-fn is_finding(plan: &Dialplan, choice: AuditChoice<'_>, finding: &Finding) -> bool
+fn is_finding(scene: &MentionedPlan<'_>, choice: AuditChoice<'_>, finding: &Finding) -> bool
     ensures { result ≡ (is_told (kinds_told choice.entry.kinds) (spec.kind_of finding.now)
-        && spec.stands choice.entry.is_wide plan.now finding.now) }
+        && spec.stands choice.entry.is_wide scene.now finding.now) }
 {
-    choice.kinds.tells(kind_of(finding)) && stands(choice.is_wide, plan, finding)
+    choice.kinds.tells(kind_of(finding)) && stands(choice.is_wide, scene, finding)
 }
 
 /// Adds the finding if it is one over these applications and its kind is reported.
 fn push_finding(
     list: &mut Vec<WideFinding>,
-    plan: &Dialplan,
+    scene: &MentionedPlan<'_>,
     choice: AuditChoice<'_>,
     finding: Finding,
 ) -> Result<(), NoMemory>
-    ensures { OnOk result (list.new.items ≡ list.old.items ++ spec.finding_if (choice_of choice.entry) plan.now finding) }
+    ensures { OnOk result (list.new.items ≡ list.old.items ++ spec.finding_if (choice_of choice.entry) scene.now finding) }
 {
-    if is_finding(plan, choice, &finding) {
+    if is_finding(scene, choice, &finding) {
         list.push(WideFinding::Plain(finding))?;
     }
     Ok(())
@@ -121,15 +122,15 @@ fn push_finding(
 /// Adds those of the findings that are reported.
 fn push_findings(
     list: &mut Vec<WideFinding>,
-    plan: &Dialplan,
+    scene: &MentionedPlan<'_>,
     choice: AuditChoice<'_>,
     findings: Vec<Finding>,
 ) -> Result<(), NoMemory>
     ensures { OnOk result (list.new.items
-        ≡ list.old.items ++ flat_map (spec.finding_if (choice_of choice.entry) plan.now) findings.items) }
+        ≡ list.old.items ++ flat_map (spec.finding_if (choice_of choice.entry) scene.now) findings.items) }
 {
     for finding in findings {
-        push_finding(list, plan, choice, finding)?;
+        push_finding(list, scene, choice, finding)?;
     }
     Ok(())
 }
@@ -138,13 +139,13 @@ fn push_findings(
 fn push_plain(
     list: &mut Vec<WideFinding>,
     alloc: Global,
-    plan: &Dialplan,
+    scene: &MentionedPlan<'_>,
     choice: AuditChoice<'_>,
 ) -> Result<(), NoMemory>
-    ensures { OnOk result (list.new.items ≡ list.old.items ++ spec.findings_told (choice_of choice.entry) plan.now) }
+    ensures { OnOk result (list.new.items ≡ list.old.items ++ spec.findings_told (choice_of choice.entry) scene.now) }
 {
-    let findings = dp_audit::audit::<StandardNames>(alloc, plan)?;
-    push_findings(list, plan, choice, findings)
+    let findings = dp_audit::audit::<StandardNames>(alloc, scene.plan())?;
+    push_findings(list, scene, choice, findings)
 }
 
 /// Whether a kind that only an audit over the wide table has is reported.
@@ -158,16 +159,16 @@ fn tells_wide(choice: AuditChoice<'_>, kind: &[u8]) -> bool
 fn push_targets(
     list: &mut Vec<WideFinding>,
     alloc: Global,
-    plan: &Dialplan,
+    scene: &MentionedPlan<'_>,
     choice: AuditChoice<'_>,
 ) -> Result<(), NoMemory>
-    ensures { OnOk result (list.new.items ≡ list.old.items ++ spec.targets_told (choice_of choice.entry) plan.now) }
+    ensures { OnOk result (list.new.items ≡ list.old.items ++ spec.targets_told (choice_of choice.entry) scene.now) }
 {
     if !tells_wide(choice, b"NoTarget") {
         return Ok(());
     }
-    let findings = find_missing::<WideJumps>(alloc, plan)?;
-    push_findings(list, plan, choice, findings)
+    let findings = find_missing::<WideJumps>(alloc, scene.plan())?;
+    push_findings(list, scene, choice, findings)
 }
 
 /// Whether a channel never goes on to the next priority after an application with this name.
@@ -294,8 +295,9 @@ pub(crate) fn find_told(
     ensures { IfOk result (λ list. spec.AreTold (choice_of choice.entry) plan.now list.items) }
 {
     let mut list = Vec::new(alloc);
-    push_plain(&mut list, alloc, plan, choice)?;
-    push_targets(&mut list, alloc, plan, choice)?;
+    let scene = MentionedPlan::new(alloc, plan)?;
+    push_plain(&mut list, alloc, &scene, choice)?;
+    push_targets(&mut list, alloc, &scene, choice)?;
     push_fall_throughs(&mut list, alloc, plan, choice)?;
     push_runs(&mut list, alloc, plan, tells_wide(choice, b"Loop"))?;
     push_functions(&mut list, alloc, plan, choice)?;

@@ -434,11 +434,12 @@ exten => s,1,Answer()
 exten => t,1,While($[1])
 @
 $ pbx audit --asterisk reception.conf
+Unset main,s,2 TRY
 NoApplication main,t,1 While
 FallsThrough main,100,2 main,_1XX,3
 Loop main,s,2
 NoFunction main,_1XX,3 CUTT
-ok 4 findings
+ok 5 findings
 ? 1
 $ pbx audit --only NoApplication,Unset reception.conf
 NoApplication main,100,2 VoiceMail

@@ -42,7 +42,7 @@ audit --only Gap --only Hidden @missing→the argument '--only <KINDS>' cannot b
 audit --only gaps @missing→invalid value 'gaps' for '--only <KINDS>': without '--asterisk' the kinds are Cycle, NoApplication, NoTarget, Gap, NoFirst, Hidden, Unset and Unused→pbx audit [OPTIONS] <FILE>
 audit --ignore=Gap, @missing→invalid value 'Gap,' for '--ignore <UNWANTED>': without '--asterisk' the kinds are Cycle, NoApplication, NoTarget, Gap, NoFirst, Hidden, Unset and Unused→pbx audit [OPTIONS] <FILE>
 audit --only Loop @missing→invalid value 'Loop' for '--only <KINDS>': without '--asterisk' the kinds are Cycle, NoApplication, NoTarget, Gap, NoFirst, Hidden, Unset and Unused→pbx audit [OPTIONS] <FILE>
-audit --asterisk --only Gap,Unset @missing→invalid value 'Gap,Unset' for '--only <KINDS>': with '--asterisk' the kinds are Cycle, NoApplication, NoTarget, Gap, NoFirst, Hidden, Unused, FallsThrough, Loop and NoFunction→pbx audit [OPTIONS] <FILE>
+audit --asterisk --only Gap,Strange @missing→invalid value 'Gap,Strange' for '--only <KINDS>': with '--asterisk' the kinds are Cycle, NoApplication, NoTarget, Gap, NoFirst, Hidden, Unset, Unused, FallsThrough, Loop and NoFunction→pbx audit [OPTIONS] <FILE>
 reach @doors→the following required arguments were not provided:¶  <CONTEXT>→pbx reach <FILE> <CONTEXT>
 reach --to safe→the following required arguments were not provided:¶  <FILE>¶  <CONTEXT>→pbx reach --to <TARGET> <FILE> <CONTEXT>
 reach a b c→unexpected argument 'c' found→pbx reach [OPTIONS] <FILE> <CONTEXT>
@@ -278,8 +278,8 @@ Prints `KIND CONTEXT,NAME,PRIORITY` for each finding, followed by its details, a
   Unused         no target names the label
 The status is 0 if nothing is found, and 1 otherwise.
 
-With --asterisk the files that the dialplan includes are read, the applications and functions that people use are known, there is no
-`Unset`, and these kinds come last:
+With --asterisk the files that the dialplan includes are read, the applications and functions that people use are known, `Unset` is
+printed only for a variable that nothing else mentions, and these kinds come last:
   FallsThrough   a call goes on after the entry in another extension, which is printed after it
   Loop           a call that gets there comes back again and again, and nothing ends it
   NoFunction     there is no such function

@@ -11,7 +11,7 @@ none_left (x ∷ xs) is = absurd (omega arith)
 
 pub loop-finding-init : goal.loop-finding-init
 loop-finding-init c =
-    let told = finding_if (choice_of c.args.choice) c.args.plan.now in
+    let told = finding_if (choice_of c.args.choice) c.args.scene.now in
     record {
       left = ap (λ findings. c.args.list.now.items ++ flat_map told findings) c.into_iter-finding-iterator.ensures.into_iter_gives.0;
       many = omega (
@@ -25,7 +25,7 @@ loop-finding-init c =
 pub loop-finding-preserved : goal.loop-finding-preserved
 loop-finding-preserved c =
     let at = c.loop-finding in
-    let told = finding_if (choice_of c.args.choice) c.args.plan.now in
+    let told = finding_if (choice_of c.args.choice) c.args.scene.now in
     let steps : into_iter_items at.finding-iterator ≡ c.in-Some.finding ∷ into_iter_items c.next.new.self = c.in-Some.ensures.steps.0 in
     record {
       left =
@@ -38,7 +38,7 @@ loop-finding-preserved c =
 pub returns : goal.returns
 returns c =
     let at = c.loop-finding in
-    let told = finding_if (choice_of c.args.choice) c.args.plan.now in
+    let told = finding_if (choice_of c.args.choice) c.args.scene.now in
     let none : into_iter_items at.finding-iterator ≡ [] =
     none_left (into_iter_items at.finding-iterator) (sym at.invariant.many ∙ c.in-None.ensures.steps.0) in
     sym (append-nil at.list.items) ∙ (ap (λ findings. at.list.items ++ flat_map told findings) (sym none) ∙ at.invariant.left)

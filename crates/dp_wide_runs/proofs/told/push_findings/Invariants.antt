@@ -7,7 +7,7 @@ use Rattle.dp_wide_runs.proofs.told.push_findings.Given as goal
 
 abbrev pub invariant-loop-finding : goal.invariant-loop-finding
 invariant-loop-finding l = record {
-  left : l.list.items ++ flat_map (finding_if (choice_of l.fn.choice) l.plan) (into_iter_items l.finding-iterator)
-      ≡ l.fn.list.items ++ flat_map (finding_if (choice_of l.fn.choice) l.plan) l.fn.findings.items;
+  left : l.list.items ++ flat_map (finding_if (choice_of l.fn.choice) l.scene) (into_iter_items l.finding-iterator)
+      ≡ l.fn.list.items ++ flat_map (finding_if (choice_of l.fn.choice) l.scene) l.fn.findings.items;
   many : into_iter_len l.finding-iterator ≡ length (into_iter_items l.finding-iterator);
 }
