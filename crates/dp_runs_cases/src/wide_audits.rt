@@ -18,7 +18,7 @@ Unset¦exten => s,1,NoOp(${UNIQUEID}${VMSTATUS}${MACRO_EXTEN}${ARG2}${DIALSTATUS
 Unset¦exten => s,1,NoOp(${A}${B}${C}${D}${E}${F-G})\nexten => s,2,MSet(__A=1,B=2)\nexten => s,3,Set(ARRAY(C,D)=1)\nexten => s,4,Read(E)\nexten => s,5,ExecIf(1?Set(F-G=1))→ok 0 findings\nstatus 0
 # Reads are no mentions, nor is a name in another case, or a part of a name.
 Unset¦exten => s,1,NoOp(${A} a AB BA A-B x{A})\nexten => s,2,NoOp(${A:1})→Unset main,s,1 A\nUnset main,s,2 A\nok 2 findings\nstatus 1
-Unset¦exten => s,1,NoOp(${A})\nexten => s,2,NoOp("A")→ok 0 findings\nstatus 0
+Unset¦exten => s,1,NoOp(${A})\nexten => s,2,NoOp(x&A)→ok 0 findings\nstatus 0
 # The others are reported as without the option.
 ¦exten => s,1,Goto(9)\nexten => s,3,Hangup()\nexten => t,2,Hangup()\ninclude => main→Cycle main\nNoTarget main,s,1 9\nGap main,s,1 2\nNoFirst main,t,2\nok 4 findings\nstatus 1
 # A label that an application beyond the twenty-one may name is used. The targets of `GotoIfTime` are checked after all others.

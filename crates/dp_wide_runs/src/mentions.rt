@@ -193,7 +193,7 @@ impl Mentions {
     }
 
     /// The names that a dialplan mentions.
-    #[tactic(auto, using(crate::proofs::MentionsLemmas::all_mentioned))]
+    #[tactic(auto, unfolding(crate::specs::Mentions::is_mentioned))]
     fn of(alloc: Global, plan: &Dialplan) -> Result<Self, NoMemory>
         ensures { IfOk result (spec.AreMentioned plan.now) }
     {
