@@ -10,7 +10,7 @@ use Rattle.dp_conf.specs.Words.{same_text}
 use Rattle.dp_commands.specs.Script.{number_within}
 use Rattle.dp_conf.specs.Numbers.{most_priority}
 use Rattle.dp_program.specs.Entries.{fault_named, fault_numbered}
-use Rattle.dp_program.specs.Requests.{OptionsOf, RequestOf, joined, check, check_files, check_queue_files, check_both_files, check_queues, check_both, listing, listing_files, auditing, auditing_by, matching, matching_files, explaining, run, run_wide, debug, debug_wide, testing, comparing, comparing_files, drawing, drawing_files, reaching, LookupOf, QuestionOf}
+use Rattle.dp_program.specs.Requests.{OptionsOf, RequestOf, joined, check, check_files, check_queue_files, check_both_files, check_queues, check_both, listing, listing_files, auditing, auditing_by, matching, matching_files, explaining, run, run_wide, debug, debug_wide, testing, comparing, comparing_files, drawing, drawing_files, reaching, DrawingOf, LookupOf, QuestionOf}
 use Rattle.dp_program.specs.Texts.{OfRun}
 use Rattle.dp_wide.specs.Times.{moment_of}
 use Rattle.dp_wide_runs.specs.Kinds.{KindsTold, all, only, except, are_kinds}
@@ -105,9 +105,10 @@ abbrev pub diff_app : App
 diff_app =
     with_explain (with_rule (with_rule (with_asterisk (new_app (codes "diff"))) (required_word (codes "OLD"))) (required_word (codes "NEW")))
 
--- `graph [--asterisk [--clock MOMENT]] [--queues QUEUES] [--explain] FILE`
+-- `graph [--asterisk [--clock MOMENT]] [--queues QUEUES] [--from CONTEXT] [--explain] FILE`
 abbrev pub graph_app : App
-graph_app = with_explain (with_rule (with_queues (with_asterisk (new_app (codes "graph")))) file_word)
+graph_app =
+    with_explain (with_rule (with_rule (with_queues (with_asterisk (new_app (codes "graph")))) (named_word (codes "CONTEXT") (codes "from"))) file_word)
 
 -- `run [--asterisk [--clock MOMENT]] [--queues QUEUES] [--reload DIALPLAN] [--threads N] [--verbose] [--explain] FILE SCRIPT`
 abbrev pub run_app : App
@@ -329,14 +330,18 @@ abbrev pub diff_asked : List Row → Option RequestOf
 diff_asked words =
     option_and_then (λ before. option_map (diff_of (is_set (codes "asterisk") words) before) (first_of (codes "NEW") words)) (first_of (codes "OLD") words)
 
--- the request of `graph` on a dialplan and its queues, given whether it reads the files that they include
-abbrev pub graph_of : Bool → Option (List ℕ) → List ℕ → RequestOf
-graph_of false queues file = drawing file queues
-graph_of true queues file = drawing_files file queues
+-- what a picture shows of a file, given the other words of `graph`
+abbrev pub drawing_at : List Row → List ℕ → DrawingOf
+drawing_at words file = record { file = file; queues = first_of (codes "QUEUES") words; from = first_of (codes "CONTEXT") words }
+
+-- the request of `graph`, given whether it reads the files that the dialplan and its queues include
+abbrev pub graph_of : Bool → DrawingOf → RequestOf
+graph_of false question = drawing question
+graph_of true question = drawing_files question
 
 -- the request of `graph`
 abbrev pub graph_asked : List Row → Option RequestOf
-graph_asked words = option_map (graph_of (is_set (codes "asterisk") words) (first_of (codes "QUEUES") words)) (first_of (codes "FILE") words)
+graph_asked words = option_map (λ file. graph_of (is_set (codes "asterisk") words) (drawing_at words file)) (first_of (codes "FILE") words)
 
 -- the question of `reach` on a file and a context, given its other words
 abbrev pub reach_at : List Row → List ℕ → List ℕ → QuestionOf

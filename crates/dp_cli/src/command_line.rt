@@ -11,7 +11,7 @@ ghost use Rattle.clap.specs.Walk.{first_of, rows_of};
 ghost use Rattle.clap.specs.declared.error.kind.ErrorKind.TheVariants.{ArgumentConflict, MissingRequiredArgument, OutOfMemory, ValueValidation};
 ghost use Rattle.dp_commands.specs.Script.{number_within};
 ghost use Rattle.dp_program.specs.Entries.{fault_numbered};
-ghost use Rattle.dp_program.specs.Requests.{options_of, request_asked};
+ghost use Rattle.dp_program.specs.Requests.{drawing_of, options_of, request_asked};
 ghost use Rattle.dp_program.specs.Texts.{paths_of};
 ghost use Rattle.dp_cli.specs.CommandLine as spec;
 ghost use Rattle.dp_cli.specs.Refusals as refusals;
@@ -27,7 +27,7 @@ use clap::{ArgMatches, Command, Error};
 use dp_commands::number_within;
 use dp_plan::{MOST_PRIORITY, NoMemory, Priority};
 use dp_program::{
-    DiffFiles, FaultNumber, Lookup, Options, PlanPaths, ReachQuestion, Request, RunFiles,
+    DiffFiles, FaultNumber, GraphQuestion, Lookup, Options, ReachQuestion, Request, RunFiles,
 };
 use std::alloc::Global;
 
@@ -397,14 +397,14 @@ fn diff_request<'a>(given: &ArgMatches<'a>) -> Option<Request<'a>>
     Some(diff_of(is_set(given, "asterisk"), files))
 }
 
-/// The request of `graph` on a dialplan and its queues, given whether it reads the files that they include.
-fn graph_of<'a>(includes: bool, files: PlanPaths<'a>) -> Request<'a>
-    ensures { request_asked result ≡ spec.graph_of includes (option_map (λ path. path.now) files.entry.queues) files.entry.plan.now }
+/// The request of `graph`, given whether it reads the files that the dialplan and its queues include.
+fn graph_of<'a>(includes: bool, question: GraphQuestion<'a>) -> Request<'a>
+    ensures { request_asked result ≡ spec.graph_of includes (drawing_of question.entry) }
 {
     if includes {
-        Request::GraphIncluding { files }
+        Request::GraphIncluding { question }
     } else {
-        Request::Graph { files }
+        Request::Graph { question }
     }
 }
 
@@ -412,10 +412,13 @@ fn graph_of<'a>(includes: bool, files: PlanPaths<'a>) -> Request<'a>
 fn graph_request<'a>(given: &ArgMatches<'a>) -> Option<Request<'a>>
     ensures { option_map request_asked result ≡ spec.graph_asked (rows_of (found_of given.now)) }
 {
-    let plan = word_of(given, "FILE")?;
-    let queues = word_of(given, "QUEUES");
-    let files = PlanPaths { plan, queues };
-    Some(graph_of(is_set(given, "asterisk"), files))
+    let file = word_of(given, "FILE")?;
+    let question = GraphQuestion {
+        file,
+        queues: word_of(given, "QUEUES"),
+        from: word_of(given, "CONTEXT"),
+    };
+    Some(graph_of(is_set(given, "asterisk"), question))
 }
 
 /// The request of `reach`.

@@ -346,6 +346,13 @@ pub(crate) fn graph_command<'a>(alloc: Global) -> Result<Command<'a>, NoMemory>
         graph,
         "The queues, such as queues.conf, whose ways out are drawn",
     );
+    let from = named_word(
+        alloc,
+        "CONTEXT",
+        "from",
+        "A context where calls come in: what they can reach is filled, and the rest is grey",
+    );
+    let graph = with_word(graph, from);
     let graph = with_dialplan(alloc, graph);
     with_explain(alloc, graph)
 }

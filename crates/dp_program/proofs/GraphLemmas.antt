@@ -1,19 +1,36 @@
 -- Pictures of dialplans.
-use Rattle.std.proofs.Common.{◌≡◌, ℕ, List, Option, Result, Ok, Err, refl, sym, subst}
+use Rattle.std.proofs.Common.{◌≡◌, ℕ, Bool, List, Option, Result, Ok, Err, refl, sym, subst, inl, inr}
 use Rattle.std.proofs.KnownBytes.{Appends-nil}
 use Rattle.dp_conf.specs.Answers.{Refuses}
 use Rattle.dp_commands.specs.Faults.{reason_of}
 use Rattle.dp_commands.specs.Run.{Files}
 use Rattle.dp_commands.specs.declared.fault.PbxFault.{PbxFault}
-use Rattle.dp_program.specs.Graphs.{WritesGraph}
+use Rattle.dp_commands.specs.declared.fault.PbxFault.TheVariants.{Coded, NoMemory}
+use Rattle.dp_plan.specs.declared.entry.EntryId.{EntryId}
+use Rattle.dp_program.specs.Graphs.{Draws, IsFilled, WritesText, graph_text}
+use Rattle.dp_program.specs.Requests.{DrawingOf}
+use Rattle.dp_program.specs.declared.hints.Served.{Served}
 use Rattle.dp_program.proofs.ReadsLemmas.{by_reason}
-use Rattle.dp_program.proofs.ServesLemmas.{graph_lacks}
+use Rattle.dp_program.proofs.ServesLemmas.{draws_lack}
 
 -- if a file has a fault
-pub graph_fault : (old : Option (List ℕ)) (fault : PbxFault) (given : Result Files PbxFault) → Refuses (reason_of fault) given → WritesGraph old old given (Err fault)
-graph_fault old = by_reason (λ fault given. WritesGraph old old given (Err fault)) (λ code line. (Appends-nil old, refl)) (graph_lacks old)
+pub graph_fault : (drawing : DrawingOf) (explains : Bool) (old : Option (List ℕ)) (fault : PbxFault) (given : Result Files PbxFault)
+    → Refuses (reason_of fault) given → Draws drawing explains given old old (Err fault)
+graph_fault drawing explains old =
+    by_reason (λ fault given. Draws drawing explains given old old (Err fault)) (λ code line. (Appends-nil old, refl)) (draws_lack drawing explains old)
 
 -- if the files have none
-pub graph_drawn : (old new : Option (List ℕ)) (given : Result Files PbxFault) (files : Files) (result : Result ℕ PbxFault)
-    → given ≡ Ok files → WritesGraph old new (Ok files) result → WritesGraph old new given result
-graph_drawn old new given files result is writes = subst (λ (given : Result Files PbxFault). WritesGraph old new given result) (sym is) writes
+pub graph_drawn : (drawing : DrawingOf) (explains : Bool) (old new : Option (List ℕ)) (given : Result Files PbxFault) (files : Files) (result : Result Served PbxFault)
+    → given ≡ Ok files → Draws drawing explains (Ok files) old new result → Draws drawing explains given old new result
+graph_drawn drawing explains old new given files result is draws =
+    subst (λ (given : Result Files PbxFault). Draws drawing explains given old new result) (sym is) draws
+
+-- memory runs out before anything is written
+pub draws_nothing : (drawing : DrawingOf) (explains : Bool) (old : Option (List ℕ)) (files : Files) → Draws drawing explains (Ok files) old old (Err NoMemory)
+draws_nothing drawing explains old files = inl (Appends-nil old)
+
+-- a write fails, or memory runs out after a part is written
+pub draws_front : (drawing : DrawingOf) (explains : Bool) (old new : Option (List ℕ)) (files : Files) (filled : Option (List EntryId)) (fault : PbxFault)
+    → IsFilled files drawing.from filled → WritesText old new (graph_text files filled) (Err fault) → Draws drawing explains (Ok files) old new (Err fault)
+draws_front drawing explains old new files filled (Coded code line) right writes = (record { filled = filled; right = right; written = writes.0 }, writes.1, writes.2)
+draws_front drawing explains old new files filled NoMemory right writes = inr (record { filled = filled; right = right; written = writes })

@@ -22,11 +22,11 @@ use Rattle.dp_program.specs.Checks.{both_report}
 use Rattle.dp_program.specs.Dialplans.{PlanTextOf, moment_in, with_text}
 use Rattle.dp_program.specs.Faulted.{StandsIn, in_none, nowhere, place_by, place_in_file, place_in_files, place_in_two, place_of, place_of_report, place_of_run, place_of_two, place_unread, without_place, unread_fault, unread_path, unread_place}
 use Rattle.dp_program.specs.Files.{Source, Reads}
-use Rattle.dp_program.specs.Graphs.{GraphsFiles, GraphsPlan, GraphsText, GraphsWithQueues, WritesGraph, graph_text}
+use Rattle.dp_program.specs.Graphs.{Draws, GraphsFiles, GraphsPlan, GraphsText, GraphsWithQueues}
 use Rattle.dp_program.specs.Hints.{Tells, audit_hint_of, match_hint_of, status_in}
 use Rattle.dp_program.specs.PlanAndQueues.{contents_in, place_of_files}
 use Rattle.dp_program.specs.Reaches.{Reaches}
-use Rattle.dp_program.specs.Requests.{OptionsOf, RequestOf, LookupOf, QuestionOf, joined, check, check_files, check_queue_files, check_both_files, check_queues, check_both, listing, listing_files, auditing, auditing_by, matching, matching_files, explaining, run, run_wide, debug, debug_wide, testing, comparing, comparing_files, drawing, drawing_files, reaching}
+use Rattle.dp_program.specs.Requests.{DrawingOf, OptionsOf, RequestOf, LookupOf, QuestionOf, joined, check, check_files, check_queue_files, check_both_files, check_queues, check_both, listing, listing_files, auditing, auditing_by, matching, matching_files, explaining, run, run_wide, debug, debug_wide, testing, comparing, comparing_files, drawing, drawing_files, reaching}
 use Rattle.dp_program.specs.Entries.{explanation_of}
 use Rattle.dp_program.specs.Serves.{AuditsAsked, AuditsFile, AuditsFileBy, AuditsText, ChecksBoth, DebugsAsked, DebugsFiles, DebugsFilesVerbosely, DebugsVerbosely, ListsText, LooksUp, LooksUpText, PlacesOf, ReportsOn, Runs, RunsBeside, RunsPlan, RunsPlans, RunsSecond, RunsAsked, RunsFiles, RunsFilesVerbosely, RunsFilesWide, RunsVerbosely, RunsWide, Serves, SharesSome, debug_of_texts, files_read, in_force_at, in_force_at_first, look_up, places_read, run_of_texts, wide_run_of_texts, RunsFilesWideVerbosely, RunsTextsWideVerbosely, RunsWideAsked, RunsWideBy, RunsWideVerbosely, RunManner, RunsQueues, RunsWithQueues, DebugsFilesWide, DebugsFilesWideVerbosely, DebugsTextsWideVerbosely, DebugsWide, DebugsWideVerbosely, DiffsAfter, DiffsTexts, debugging, running, wide_debug_of_texts}
 use Rattle.dp_program.specs.TestFiles.{manner_of}
@@ -41,7 +41,7 @@ use Rattle.dp_wide_runs.specs.Kinds.{ChoiceOf}
 use Rattle.dp_wide_runs.specs.Runs.{WideRun}
 use Rattle.dp_wide_runs.specs.WideAudits.{WritesChoice, plan_of}
 use Rattle.dp_program.proofs.DialplanLemmas.{dialplan_lacks}
-use Rattle.dp_program.proofs.DiffLemmas.{diffs_lack, nothing_written}
+use Rattle.dp_program.proofs.DiffLemmas.{diffs_lack}
 use Rattle.dp_program.proofs.QueueLemmas.{queues_lack}
 use Rattle.dp_program.proofs.TestLemmas.{tests_lack}
 use Rattle.dp_program.proofs.ReadsLemmas.{IsUnread, by_reason, Reads-any, Reads-weaker, ReadsSome-any, ReadsTexts-any, ReadsTexts-weaker}
@@ -674,30 +674,30 @@ diff_after_lacks clock files before_path after_path old before =
     dialplan_lacks (DiffsTexts files before_path after_path old old before) after_path old (diff_texts_lack files before_path after_path old before) Report clock files
 
 -- memory may run out before a picture is written
-pub graph_lacks : (old : Option (List ℕ)) (given : Result Files PbxFault) → WritesGraph old old given (Err NoMemory)
-graph_lacks old (Ok files) = nothing_written old (graph_text files)
-graph_lacks old (Err fault) = Appends-nil old
+pub draws_lack : (drawing : DrawingOf) (explains : Bool) (old : Option (List ℕ)) (given : Result Files PbxFault) → Draws drawing explains given old old (Err NoMemory)
+draws_lack drawing explains old (Ok files) = inl (Appends-nil old)
+draws_lack drawing explains old (Err fault) = Appends-nil old
 
-graphs_lack : (files : List ℕ → Source) (path : List ℕ) (queues_path old : Option (List ℕ)) → GraphsFiles files path queues_path old old (Err (nowhere NoMemory))
-graphs_lack files path queues_path old =
-    Reads-any (files path) _ (λ plan. ReadsSome-any (option_map files queues_path) _ (λ queues. (
-      graph_lacks old (contents_in plan queues),
-      lacks_files_place path queues_path plan queues,
+graphs_lack : (files : List ℕ → Source) (drawing : DrawingOf) (explains : Bool) (old : Option (List ℕ)) → GraphsFiles files drawing explains old old (Err (nowhere NoMemory))
+graphs_lack files drawing explains old =
+    Reads-any (files drawing.file) _ (λ plan. ReadsSome-any (option_map files drawing.queues) _ (λ queues. (
+      draws_lack drawing explains old (contents_in plan queues),
+      lacks_files_place drawing.file drawing.queues plan queues,
     )))
 
-pub graph_text_lacks : (files : List ℕ → Source) (path : List ℕ) (queues_path old : Option (List ℕ)) (plan : PlanTextOf)
-    → GraphsText files path queues_path old old plan (Err (nowhere NoMemory))
-graph_text_lacks files path queues_path old plan = (graphs_lack (with_text files path plan.text) path queues_path old, tt)
+pub graph_text_lacks : (files : List ℕ → Source) (drawing : DrawingOf) (explains : Bool) (old : Option (List ℕ)) (plan : PlanTextOf)
+    → GraphsText files drawing explains old old plan (Err (nowhere NoMemory))
+graph_text_lacks files drawing explains old plan = graphs_lack (with_text files drawing.file plan.text) drawing explains old
 
-graph_queues_lack : (files : List ℕ → Source) (path : List ℕ) (queues_path old : Option (List ℕ)) (plan : PlanTextOf) (queues : Option (List ℕ))
-    → GraphsWithQueues files path queues_path old old plan queues (Err (nowhere NoMemory))
-graph_queues_lack files path queues_path old plan None = graph_text_lacks files path queues_path old plan
-graph_queues_lack files path queues_path old plan (Some queues) =
-    queues_lack files queues (λ files. GraphsText files path queues_path old old plan) old (λ files. graph_text_lacks files path queues_path old plan)
+graph_queues_lack : (files : List ℕ → Source) (drawing : DrawingOf) (explains : Bool) (old : Option (List ℕ)) (plan : PlanTextOf) (queues : Option (List ℕ))
+    → GraphsWithQueues files drawing explains old old plan queues (Err (nowhere NoMemory))
+graph_queues_lack files drawing explains old plan None = graph_text_lacks files drawing explains old plan
+graph_queues_lack files drawing explains old plan (Some queues) =
+    queues_lack files queues (λ files. GraphsText files drawing explains old old plan) old (λ files. graph_text_lacks files drawing explains old plan)
 
-pub graph_plan_lacks : (files : List ℕ → Source) (path : List ℕ) (queues_path old : Option (List ℕ)) (plan : PlanTextOf)
-    → GraphsPlan files path queues_path old old plan (Err (nowhere NoMemory))
-graph_plan_lacks files path queues_path old plan = graph_queues_lack files path queues_path old plan queues_path
+pub graph_plan_lacks : (files : List ℕ → Source) (drawing : DrawingOf) (explains : Bool) (old : Option (List ℕ)) (plan : PlanTextOf)
+    → GraphsPlan files drawing explains old old plan (Err (nowhere NoMemory))
+graph_plan_lacks files drawing explains old plan = graph_queues_lack files drawing explains old plan drawing.queues
 
 -- memory may run out before a request does anything
 pub Serves-lacks : (files : List ℕ → Source) (input : Source) (want : RequestOf) (options : OptionsOf) (old : Option (List ℕ)) → Serves files input want options old old (Err (nowhere NoMemory))
@@ -745,9 +745,10 @@ Serves-lacks files input (testing file is_traced is_covered) options old = Reads
 Serves-lacks files input (comparing before after) options old = (diffs_lack files before after old, tt)
 Serves-lacks files input (comparing_files before after) options old =
     dialplan_lacks (DiffsAfter options.clock files before after old old) before old (diff_after_lacks options.clock files before after old) Report options.clock files
-Serves-lacks files input (drawing file queues) options old = (graphs_lack files file queues old, tt)
-Serves-lacks files input (drawing_files file queues) options old =
-    dialplan_lacks (GraphsPlan files file queues old old) file old (graph_plan_lacks files file queues old) Report options.clock files
+Serves-lacks files input (drawing question) options old = graphs_lack files question options.explains old
+Serves-lacks files input (drawing_files question) options old =
+    dialplan_lacks (GraphsPlan files question options.explains old old) question.file old (graph_plan_lacks files question options.explains old) Report
+    options.clock files
 Serves-lacks files input (reaching question) options old =
     Reads-any (files question.file) _ (λ plan. ReadsSome-any (option_map files question.queues) _ (λ queues. (
       reaches_lacks question options.explains old (plan >>= λ plan. some_text queues >>= λ queues. files_of plan queues),

@@ -5,6 +5,7 @@ use Rattle.dp_answer.specs.Asks.{AskOf}
 use Rattle.dp_program.specs.Texts.{OfRun, paths_of}
 use Rattle.dp_wide_runs.specs.Kinds.{ChoiceOf, choice_of}
 use Rattle.dp_program.specs.declared.options.Options.{Options}
+use Rattle.dp_program.specs.declared.request.GraphQuestion.{GraphQuestion}
 use Rattle.dp_program.specs.declared.request.Lookup.{Lookup}
 use Rattle.dp_program.specs.declared.request.ReachQuestion.{ReachQuestion}
 use Rattle.dp_program.specs.declared.request.Request.{Request}
@@ -42,6 +43,19 @@ question_of question = record {
   ask = asked_in question;
 }
 
+-- what a picture shows, with its texts
+pub record DrawingOf : Type 0 where
+  pub file : List ℕ
+  pub queues : Option (List ℕ)
+  pub from : Option (List ℕ)
+
+abbrev pub drawing_of : GraphQuestion → DrawingOf
+drawing_of question = record {
+  file = question.file.now;
+  queues = option_map (λ path. path.now) question.queues;
+  from = option_map (λ context. context.now) question.from;
+}
+
 -- the options of a request, with their texts
 pub record OptionsOf : Type 0 where
   pub explains : Bool
@@ -73,8 +87,8 @@ pub data RequestOf : Type 0 where
   testing : List ℕ → Bool → Bool → RequestOf
   comparing : List ℕ → List ℕ → RequestOf
   comparing_files : List ℕ → List ℕ → RequestOf
-  drawing : List ℕ → Option (List ℕ) → RequestOf
-  drawing_files : List ℕ → Option (List ℕ) → RequestOf
+  drawing : DrawingOf → RequestOf
+  drawing_files : DrawingOf → RequestOf
   reaching : QuestionOf → RequestOf
 
 -- what a request asks for
@@ -100,6 +114,6 @@ request_asked (DebugWide files held is_verbose) = debug_wide (paths_of files) he
 request_asked (Test file is_traced is_covered) = testing file.now is_traced is_covered
 request_asked (Diff files) = comparing files.before.now files.after.now
 request_asked (DiffIncluding files) = comparing_files files.before.now files.after.now
-request_asked (Graph files) = drawing files.plan.now (option_map (λ path. path.now) files.queues)
-request_asked (GraphIncluding files) = drawing_files files.plan.now (option_map (λ path. path.now) files.queues)
+request_asked (Graph question) = drawing (drawing_of question)
+request_asked (GraphIncluding question) = drawing_files (drawing_of question)
 request_asked (Reach question) = reaching (question_of question)

@@ -367,8 +367,9 @@ Serves files input (testing file is_traced is_covered) options old new answered 
     TestsFile (manner_of is_traced is_covered) files file old new answered
 Serves files input (comparing before after) options old new answered = Quietly (DiffsFiles files before after old new) answered
 Serves files input (comparing_files before after) options old new answered = DiffsIncluding options.clock files before after old new answered
-Serves files input (drawing file queues) options old new answered = Quietly (GraphsFiles files file queues old new) answered
-Serves files input (drawing_files file queues) options old new answered = GraphsIncluding options.clock files file queues old new answered
+Serves files input (drawing question) options old new answered = GraphsFiles files question options.explains old new answered
+Serves files input (drawing_files question) options old new answered =
+    GraphsIncluding options.clock files question options.explains old new answered
 Serves files input (reaching question) options old new answered = ReachesFiles files question options.explains old new answered
 
 -- whether a read of the input failed, given the result: only a request without a command reads the input
@@ -394,6 +395,6 @@ fails_on_input (debug_wide paths held is_verbose) result = false
 fails_on_input (testing file is_traced is_covered) result = false
 fails_on_input (comparing before after) result = false
 fails_on_input (comparing_files before after) result = false
-fails_on_input (drawing file queues) result = false
-fails_on_input (drawing_files file queues) result = false
+fails_on_input (drawing question) result = false
+fails_on_input (drawing_files question) result = false
 fails_on_input (reaching question) result = false

@@ -1,26 +1,33 @@
 //! The requests that write a dialplan as a picture.
-ghost use Rattle.std.specs.Prelude.{◌≡◌, ◌++◌, ◌||◌, OnOk, Ok};
+ghost use Rattle.std.specs.Prelude.{◌≡◌, ◌++◌, ◌||◌, IfOk, OnOk, Ok};
 ghost use Rattle.std.specs.Option.{option_map};
+ghost use Rattle.indexmap.specs.IndexSet.{insert_all};
+ghost use Rattle.dp_answer.specs.Asks.{ask_of as ask_texts};
+ghost use Rattle.dp_audit.specs.Candidates.{same_id};
 ghost use Rattle.dp_commands.specs.Faults.{is_write_failed};
 ghost use Rattle.dp_commands.specs.Run.{files_of};
 ghost use Rattle.dp_program.specs.Dialplans.{text_now};
 ghost use Rattle.dp_program.specs.Faulted.{without_place};
 ghost use Rattle.dp_program.specs.Graphs as spec;
+ghost use Rattle.dp_program.specs.Requests.{drawing_of, options_of};
 
 use crate::dialplans::{PlanText, PlanUse, ReadDialplan, faulty, read_dialplan};
 use crate::faulted::Faulted;
 use crate::files::ReadFiles;
-use crate::hints::{Served, without_hint};
+use crate::hints::{HintedPlan, Served, push_told};
 use crate::made_files::MadeFiles;
-use crate::plan_and_queues::{PlanAndQueues, files_in, placed_over};
+use crate::options::Options;
+use crate::plan_and_queues::{PlanAndQueues, PlanPaths, files_in, placed_over};
 use crate::queue_texts::{ReadQueues, read_queue_text};
-use crate::request::PlanPaths;
+use crate::request::GraphQuestion;
 use crate::texts::{read_named, read_text};
+use dp_answer::{Ask, reached_entries};
 use dp_commands::{Code, Files, PbxFault};
 use dp_conf::WriteTold;
 use dp_graph::{GraphFault, QueueExit, write_graph};
-use dp_plan::{NoMemory, Text};
+use dp_plan::{Dialplan, EntryId, NoMemory, Text};
 use dp_queue::Queue;
+use indexmap::IndexSet;
 use std::alloc::Global;
 
 /// Adds the way out of a queue, if it has one.
@@ -49,16 +56,21 @@ fn push_exits(alloc: Global, exits: &mut Vec<QueueExit>, queues: &[Queue]) -> Re
     Ok(())
 }
 
-/// Writes the picture of a dialplan, with the ways out of its queues.
+/// Writes the picture of a dialplan, with the ways out of its queues. If entries are given, these are filled.
 #[tactic(auto, using(crate::proofs::DiffLemmas::nothing_written), unfolding(crate::specs::Graphs::graph_text))]
-fn write_picture<W: WriteTold>(alloc: Global, files: &Files, output: &mut W) -> Result<u8, PbxFault>
-    ensures writes { spec.WritesGraph (W.contents output.old) (W.contents output.new)
-        (Ok (record { plan = files.now.plan; queues = files.now.queues })) result }
+fn write_picture<W: WriteTold>(
+    alloc: Global,
+    files: &Files,
+    filled: Option<&IndexSet<EntryId>>,
+    output: &mut W,
+) -> Result<u8, PbxFault>
+    ensures writes { spec.WritesText (W.contents output.old) (W.contents output.new)
+        (spec.graph_text (record { plan = files.now.plan; queues = files.now.queues }) (option_map (λ set. set.now.keys) filled.entry)) result }
     ensures told { W.has_failed output.new ≡ (W.has_failed output.old || is_write_failed result) }
 {
     let mut exits = Vec::new(alloc);
     push_exits(alloc, &mut exits, files.queues.queues())?;
-    match write_graph(alloc, &files.plan, None, &exits, output) {
+    match write_graph(alloc, &files.plan, filled, &exits, output) {
         Ok(()) => Ok(0),
         Err(GraphFault::WriteFailed) => Err(PbxFault::Coded {
             code: Code::WriteFailed,
@@ -68,53 +80,157 @@ fn write_picture<W: WriteTold>(alloc: Global, files: &Files, output: &mut W) -> 
     }
 }
 
+/// Adds entries, each once.
+fn add_entries(filled: &mut IndexSet<EntryId>, entries: &[EntryId]) -> Result<(), NoMemory>
+    ensures { OnOk result (filled.new.keys ≡ insert_all same_id filled.old.keys entries.now) }
+{
+    for entry in entries {
+        filled.insert(*entry)?;
+    }
+    Ok(())
+}
+
+/// The question about calls that come in at a context, whatever is dialled and wherever other calls come in.
+fn ask_from(context: &str) -> Ask<'_>
+    ensures { ask_texts result ≡ spec.ask_from context.now }
+{
+    Ask {
+        context: context.as_bytes(),
+        target: None,
+        starts: None,
+        exten: None,
+        caller: None,
+    }
+}
+
+/// The entries that a call which comes in at a context may run.
+fn filled_from(alloc: Global, files: &Files, context: &str) -> Result<IndexSet<EntryId>, NoMemory>
+    ensures { IfOk result (λ filled. spec.Fills (record { plan = files.now.plan; queues = files.now.queues }) context.now filled.keys) }
+{
+    let entries = reached_entries(alloc, &files.plan, &files.queues, &ask_from(context))?;
+    let mut filled = IndexSet::new(alloc);
+    add_entries(&mut filled, &entries)?;
+    Ok(filled)
+}
+
+/// The entries that are filled, if a context is named.
+fn filled_of(
+    alloc: Global,
+    files: &Files,
+    from: Option<&str>,
+) -> Result<Option<IndexSet<EntryId>>, NoMemory>
+    ensures { IfOk result (λ filled. spec.IsFilled (record { plan = files.now.plan; queues = files.now.queues })
+        (option_map (λ context. context.now) from.entry) (option_map (λ set. set.keys) filled)) }
+{
+    let Some(context) = from else {
+        return Ok(None);
+    };
+    let filled = filled_from(alloc, files, context)?;
+    Ok(Some(filled))
+}
+
+/// The hint on the context, if one is named.
+fn hint_of(
+    alloc: Global,
+    question: &GraphQuestion<'_>,
+    explains: bool,
+    plan: &Dialplan,
+) -> Result<Vec<u8>, NoMemory>
+    ensures { IfOk result (λ hint. hint.items ≡ spec.hint_of (drawing_of question.now) explains plan.now) }
+{
+    let mut hint = Vec::new(alloc);
+    let told = HintedPlan {
+        file: question.file,
+        plan,
+        explains,
+    };
+    if let Some(context) = question.from {
+        push_told(alloc, &mut hint, told, context.as_bytes())?;
+    }
+    Ok(hint)
+}
+
+/// Writes the picture of a dialplan and its queues. The status is 1 if there is a hint.
+#[tactic(auto, using(crate::proofs::GraphLemmas::draws_front, crate::proofs::GraphLemmas::draws_nothing))]
+fn draw_files<W: WriteTold>(
+    alloc: Global,
+    question: &GraphQuestion<'_>,
+    explains: bool,
+    files: &Files,
+    output: &mut W,
+) -> Result<Served, PbxFault>
+    ensures draws { spec.Draws (drawing_of question.now) explains (Ok (record { plan = files.now.plan; queues = files.now.queues }))
+        (W.contents output.old) (W.contents output.new) result }
+    ensures told { W.has_failed output.new ≡ (W.has_failed output.old || is_write_failed result) }
+{
+    let hint = hint_of(alloc, question, explains, &files.plan)?;
+    let filled = filled_of(alloc, files, question.from)?;
+    let status = if hint.is_empty() { 0 } else { 1 };
+    write_picture(alloc, files, filled.as_ref(), output)?;
+    Ok(Served { status, hint })
+}
+
 /// Writes the picture of the dialplan and of the queues that texts hold.
 #[tactic(auto, using(crate::proofs::GraphLemmas::graph_fault, crate::proofs::GraphLemmas::graph_drawn))]
 fn draw_texts<W: WriteTold>(
     alloc: Global,
+    question: &GraphQuestion<'_>,
+    explains: bool,
     texts: &PlanAndQueues,
     output: &mut W,
-) -> Result<u8, PbxFault>
-    ensures writes { spec.WritesGraph (W.contents output.old) (W.contents output.new)
-        (files_of texts.now.plan.items (option_map (λ text. text.items) texts.now.queues)) result }
+) -> Result<Served, PbxFault>
+    ensures draws { spec.Draws (drawing_of question.now) explains
+        (files_of texts.now.plan.items (option_map (λ text. text.items) texts.now.queues)) (W.contents output.old) (W.contents output.new) result }
     ensures told { W.has_failed output.new ≡ (W.has_failed output.old || is_write_failed result) }
 {
     let files = files_in(alloc, texts)?;
-    write_picture(alloc, &files, output)
+    draw_files(alloc, question, explains, &files, output)
 }
 
 /// Writes the picture of the dialplan of a file, with the ways out of the queues of another file, if it is named.
 pub(crate) fn serve_graph<'a, F: ReadFiles, W: WriteTold>(
     files: &F,
     alloc: Global,
-    paths: &PlanPaths<'a>,
+    question: &GraphQuestion<'a>,
+    explains: bool,
     output: &mut W,
-) -> Result<u8, Faulted<'a>>
-    ensures serves { spec.GraphsFiles (F.source_at files.now) paths.now.plan.now (option_map (λ path. path.now) paths.now.queues)
-        (W.contents output.old) (W.contents output.new) result }
+) -> Result<Served, Faulted<'a>>
+    ensures serves { spec.GraphsFiles (F.source_at files.now) (drawing_of question.now) explains (W.contents output.old)
+        (W.contents output.new) result }
     ensures told { W.has_failed output.new ≡ (W.has_failed output.old || is_write_failed (without_place result)) }
 {
-    let plan = read_text(files, alloc, paths.plan)?;
-    let queues = read_named(files, alloc, paths.queues)?;
+    let plan = read_text(files, alloc, question.file)?;
+    let queues = read_named(files, alloc, question.queues)?;
     let texts = PlanAndQueues { plan, queues };
-    let answered = draw_texts(alloc, &texts, output);
-    placed_over(*paths, texts, answered)
+    let answered = draw_texts(alloc, question, explains, &texts, output);
+    let paths = PlanPaths {
+        plan: question.file,
+        queues: question.queues,
+    };
+    placed_over(paths, texts, answered)
+}
+
+/// What a picture shows, and whether names that are similar to a missing one are suggested.
+#[derive(Clone, Copy)]
+struct GraphAsked<'r, 'a> {
+    question: &'r GraphQuestion<'a>,
+    explains: bool,
 }
 
 /// Writes the picture of the dialplan of a file, given its text.
 fn draw_plan<'a, F: ReadFiles, W: WriteTold>(
     files: &F,
     alloc: Global,
-    paths: &PlanPaths<'a>,
+    asked: GraphAsked<'_, 'a>,
     plan: &PlanText,
     output: &mut W,
 ) -> Result<Served, Faulted<'a>>
-    ensures serves { spec.GraphsText (F.source_at files.now) paths.now.plan.now (option_map (λ path. path.now) paths.now.queues)
+    ensures serves { spec.GraphsText (F.source_at files.now) (drawing_of asked.entry.question.now) asked.entry.explains
         (W.contents output.old) (W.contents output.new) (text_now plan.now) result }
     ensures told { W.has_failed output.new ≡ (W.has_failed output.old || is_write_failed (without_place result)) }
 {
-    let made = plan.made_files(files, paths.plan);
-    without_hint(alloc, serve_graph(&made, alloc, paths, output))
+    let made = plan.made_files(files, asked.question.file);
+    serve_graph(&made, alloc, asked.question, asked.explains, output)
 }
 
 /// The text of a dialplan, and the path of its queues.
@@ -128,11 +244,11 @@ struct QueuedPlan<'r, 'a> {
 fn draw_after_queues<'a, F: ReadFiles, W: WriteTold>(
     files: &F,
     alloc: Global,
-    paths: &PlanPaths<'a>,
+    asked: GraphAsked<'_, 'a>,
     queued: QueuedPlan<'_, 'a>,
     output: &mut W,
 ) -> Result<Served, Faulted<'a>>
-    ensures serves { spec.GraphsAfterQueues (F.source_at files.now) paths.now.plan.now (option_map (λ path. path.now) paths.now.queues)
+    ensures serves { spec.GraphsAfterQueues (F.source_at files.now) (drawing_of asked.entry.question.now) asked.entry.explains
         (W.contents output.old) (W.contents output.new) (text_now queued.entry.plan.now) queued.entry.queues.now result }
     ensures told { W.has_failed output.new ≡ (W.has_failed output.old || is_write_failed (without_place result)) }
 {
@@ -143,9 +259,9 @@ fn draw_after_queues<'a, F: ReadFiles, W: WriteTold>(
                 path: queued.queues,
                 text: &text,
             };
-            draw_plan(&made, alloc, paths, queued.plan, output)
+            draw_plan(&made, alloc, asked, queued.plan, output)
         }
-        Ok(ReadQueues::Given(None)) => draw_plan(files, alloc, paths, queued.plan, output),
+        Ok(ReadQueues::Given(None)) => draw_plan(files, alloc, asked, queued.plan, output),
         Ok(ReadQueues::Unread(told)) => Ok(faulty(told)),
         Err(unread) => Err(Faulted::from(unread)),
     }
@@ -155,38 +271,42 @@ fn draw_after_queues<'a, F: ReadFiles, W: WriteTold>(
 fn draw_with_queues<'a, F: ReadFiles, W: WriteTold>(
     files: &F,
     alloc: Global,
-    paths: &PlanPaths<'a>,
+    asked: GraphAsked<'_, 'a>,
     plan: &PlanText,
     output: &mut W,
 ) -> Result<Served, Faulted<'a>>
-    ensures serves { spec.GraphsPlan (F.source_at files.now) paths.now.plan.now (option_map (λ path. path.now) paths.now.queues)
+    ensures serves { spec.GraphsPlan (F.source_at files.now) (drawing_of asked.entry.question.now) asked.entry.explains
         (W.contents output.old) (W.contents output.new) (text_now plan.now) result }
     ensures told { W.has_failed output.new ≡ (W.has_failed output.old || is_write_failed (without_place result)) }
 {
-    match paths.queues {
-        None => draw_plan(files, alloc, paths, plan, output),
+    match asked.question.queues {
+        None => draw_plan(files, alloc, asked, plan, output),
         Some(queues) => {
             let queued = QueuedPlan { plan, queues };
-            draw_after_queues(files, alloc, paths, queued, output)
+            draw_after_queues(files, alloc, asked, queued, output)
         }
     }
 }
 
 /// Writes the picture of the dialplan of a file and of those that it includes, with the ways out of the queues of another file and of those
-/// that it includes, if it is named, given the word of `--clock`.
+/// that it includes, if it is named.
 pub(crate) fn serve_graph_including<'a, F: ReadFiles, W: WriteTold>(
     files: &F,
     alloc: Global,
-    paths: &PlanPaths<'a>,
-    clock: Option<&str>,
+    question: &GraphQuestion<'a>,
+    options: Options<'_>,
     output: &mut W,
 ) -> Result<Served, Faulted<'a>>
-    ensures serves { spec.GraphsIncluding (option_map (λ word. word.now) clock.entry) (F.source_at files.now) paths.now.plan.now
-        (option_map (λ path. path.now) paths.now.queues) (W.contents output.old) (W.contents output.new) result }
+    ensures serves { spec.GraphsIncluding (options_of options.entry).clock (F.source_at files.now) (drawing_of question.now)
+        (options_of options.entry).explains (W.contents output.old) (W.contents output.new) result }
     ensures told { W.has_failed output.new ≡ (W.has_failed output.old || is_write_failed (without_place result)) }
 {
-    match read_dialplan(files, alloc, paths.plan, PlanUse::Report, clock) {
-        Ok(ReadDialplan::Loads(plan)) => draw_with_queues(files, alloc, paths, &plan, output),
+    let asked = GraphAsked {
+        question,
+        explains: options.explains,
+    };
+    match read_dialplan(files, alloc, question.file, PlanUse::Report, options.clock) {
+        Ok(ReadDialplan::Loads(plan)) => draw_with_queues(files, alloc, asked, &plan, output),
         Ok(ReadDialplan::Faulty(told)) => Ok(faulty(told)),
         Err(unread) => Err(Faulted::from(unread)),
     }

@@ -40,4 +40,4 @@ pub use files::ReadFiles;
 pub use hints::Served;
 pub use options::Options;
 pub use program::serve;
-pub use request::{CheckFiles, DiffFiles, Lookup, PlanPaths, ReachQuestion, Request, RunFiles};
+pub use request::{CheckFiles, DiffFiles, GraphQuestion, Lookup, ReachQuestion, Request, RunFiles};

@@ -8,10 +8,18 @@ ghost use Rattle.dp_program.specs.Faulted.{StandsIn, without_place};
 ghost use Rattle.dp_program.specs.PlanAndQueues as spec;
 
 use crate::faulted::{Faulted, placed_in_two, with_place};
-use crate::request::PlanPaths;
 use crate::texts::FileText;
 use dp_commands::{Files, PbxFault, read_files};
 use std::alloc::Global;
+
+/// The files of a dialplan and of its queues, by their paths.
+#[derive(Clone, Copy)]
+pub(crate) struct PlanPaths<'a> {
+    /// The dialplan.
+    pub(crate) plan: &'a str,
+    /// The queues; without a file there are none.
+    pub(crate) queues: Option<&'a str>,
+}
 
 /// The text of a dialplan, and that of its queues if their file is named.
 #[derive(Drop)]

@@ -194,11 +194,15 @@ pub fn serve<'a, F: ReadFiles, I: ReadTold, W: WriteTold, R: Threads + Wait + Sy
         Request::DiffIncluding { files: paths } => {
             serve_diff_including(files, alloc, paths, options.clock, output)
         }
-        Request::Graph { files: paths } => {
-            without_hint(alloc, serve_graph(files, alloc, paths, output))
-        }
-        Request::GraphIncluding { files: paths } => {
-            serve_graph_including(files, alloc, paths, options.clock, output)
+        Request::Graph { question } => serve_graph(
+            files,
+            alloc,
+            question,
+            options.explains,
+            output,
+        ),
+        Request::GraphIncluding { question } => {
+            serve_graph_including(files, alloc, question, options, output)
         }
         Request::Reach { question } => serve_reach(
             files,

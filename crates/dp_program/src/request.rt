@@ -26,13 +26,15 @@ pub struct CheckFiles<'a> {
     pub queues: &'a str,
 }
 
-/// The files of a dialplan and of its queues, by their paths.
+/// What a picture shows, in words of the command line.
 #[derive(Clone, Copy, Debug, PartialEq, Eq)]
-pub struct PlanPaths<'a> {
-    /// The dialplan.
-    pub plan: &'a str,
-    /// The queues; without a file there are none.
+pub struct GraphQuestion<'a> {
+    /// The file of the dialplan.
+    pub file: &'a str,
+    /// The file of the queues; without it there are no queues.
     pub queues: Option<&'a str>,
+    /// The name of a context: what a call that comes in there may reach is filled, and the rest is grey. Without it nothing is.
+    pub from: Option<&'a str>,
 }
 
 /// The files of two dialplans that are compared, by their paths.
@@ -200,14 +202,15 @@ pub enum Request<'a> {
     DiffIncluding {
         files: DiffFiles<'a>,
     },
-    /// `graph [--queues QUEUES] FILE`: writes a dialplan as a picture in the DOT language, with the ways out of its queues if they are named.
+    /// `graph [--queues QUEUES] [--from CONTEXT] FILE`: writes a dialplan as a picture in the DOT language, with the ways out of its queues if
+    /// they are named. If a context is named, what a call that comes in there may reach is filled.
     Graph {
-        files: PlanPaths<'a>,
+        question: GraphQuestion<'a>,
     },
-    /// `graph --asterisk [--queues QUEUES] FILE`: does the same for a dialplan and queues that are read from a file each and from those that
+    /// `graph --asterisk [--queues QUEUES] [--from CONTEXT] FILE`: does the same for a dialplan and queues that are read from a file each and from those that
     /// it includes. If the dialplan has a fault, or the queues have anything that this program cannot follow, nothing is written.
     GraphIncluding {
-        files: PlanPaths<'a>,
+        question: GraphQuestion<'a>,
     },
     /// `reach [--queues QUEUES] [--start CONTEXTS] [--exten BYTES] [--caller NUMBERS] [--to TARGET] FILE CONTEXT`: reports what a call that
     /// comes in at a context may run, or whether it may reach another context.

@@ -133,11 +133,11 @@ compared : asked_of (codes "pbx" ∷ codes "diff" ∷ codes "--asterisk" ∷ cod
 unfolding clap_on_literals asked_of
 compared = refl
 
-drawn : asked_of (codes "pbx" ∷ codes "graph" ∷ codes "a.conf" ∷ []) ≡ Some (drawing (codes "a.conf") None)
+drawn : asked_of (codes "pbx" ∷ codes "graph" ∷ codes "a.conf" ∷ []) ≡ Some (drawing (record { file = codes "a.conf"; queues = None; from = None }))
 unfolding clap_on_literals asked_of
 drawn = refl
 
-drawn_files : asked_of (codes "pbx" ∷ codes "graph" ∷ codes "--queues" ∷ codes "q.conf" ∷ codes "--asterisk" ∷ codes "a.conf" ∷ []) ≡ Some (drawing_files (codes "a.conf") (Some (codes "q.conf")))
+drawn_files : asked_of (codes "pbx" ∷ codes "graph" ∷ codes "--queues" ∷ codes "q.conf" ∷ codes "--asterisk" ∷ codes "--from" ∷ codes "main" ∷ codes "a.conf" ∷ []) ≡ Some (drawing_files (record { file = codes "a.conf"; queues = Some (codes "q.conf"); from = Some (codes "main") }))
 unfolding clap_on_literals asked_of
 drawn_files = refl
 

@@ -530,12 +530,15 @@ Options:
       --asterisk         Read included files, templates and block comments
       --clock <MOMENT>   With --asterisk: the moment by which includes with times are read, like 'fri 2026-11-27 09:30'
       --queues <QUEUES>  The queues, such as queues.conf, whose ways out are drawn
+      --from <CONTEXT>   A context where calls come in: what they can reach is filled, and the rest is grey
       --explain          Print below each fault, and below each note of `check`, where it is and what the manual says about it
   -h, --help             Print help
 
 Prints a picture in the DOT language, which `dot` of Graphviz makes into an image. Each context is a box with its extensions, in the order
 in which a look-up tries them, and what each does first. Arrows are dashed for includes, solid for jumps, double for subroutines, and
 dotted for the ways out of queues, which --queues names. A target that only the call decides is a diamond; one that does not exist is red.
+
+With --from CONTEXT the entries that a call from CONTEXT may run are filled, as `pbx reach` finds them, and all others are grey.
 
 With --asterisk included files, templates and block comments are read too. If lines have faults, each fault is printed on standard
 error with its file and line, and the status is 1.

@@ -1,9 +1,9 @@
 use Rattle.std.proofs.Common.{ℕ, List, Err, sym, subst}
-use Rattle.std.specs.Option.{option_map}
 use Rattle.dp_program.specs.Dialplans.{text_now}
 use Rattle.dp_program.specs.Files.{Source}
 use Rattle.dp_program.specs.Graphs.{GraphsText}
 use Rattle.dp_program.specs.QueueTexts.{ReadsQueues}
+use Rattle.dp_program.specs.Requests.{drawing_of}
 use Rattle.dp_program.specs.declared.faulted.Faulted.{Faulted}
 use Rattle.dp_program.proofs.QueueLemmas.{queues_refused}
 use Rattle.dp_program.proofs.ServesLemmas.{graph_text_lacks}
@@ -13,11 +13,11 @@ use Rattle.dp_program.proofs.graphs.draw_after_queues.Goals as goal
 pub returns-in-Err-clause-serves : goal.returns-in-Err-clause-serves
 returns-in-Err-clause-serves g c =
     let files = g.F.ReadFiles.source_at c.args.files.now in
-    let path = c.args.paths.now.plan.now in
-    let named = option_map (λ path. path.now) c.args.paths.now.queues in
+    let drawing = drawing_of c.args.asked.question.now in
+    let explains = c.args.asked.explains in
     let queues = c.args.queued.queues.now in
     let old = g.W.WriteTold.contents c.args.output.now in
     let plan = text_now c.args.queued.plan.now in
-    subst (λ (faulted : Faulted). ReadsQueues files queues (λ (files : List ℕ → Source). GraphsText files path named old old plan) old old (Err faulted)) (sym c.from.ensures)
-    (queues_refused files queues (λ (files : List ℕ → Source). GraphsText files path named old old plan) old (λ files. graph_text_lacks files path named old plan) _
+    subst (λ (faulted : Faulted). ReadsQueues files queues (λ (files : List ℕ → Source). GraphsText files drawing explains old old plan) old old (Err faulted)) (sym c.from.ensures)
+    (queues_refused files queues (λ (files : List ℕ → Source). GraphsText files drawing explains old old plan) old (λ files. graph_text_lacks files drawing explains old plan) _
     c.in-Err.ensures.path c.in-Err.ensures.read)

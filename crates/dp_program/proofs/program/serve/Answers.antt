@@ -1,7 +1,6 @@
 use Rattle.std.proofs.Common.{ℕ, Option, Result, subst, sym}
 use Rattle.std.specs.Option.{option_map}
 use Rattle.dp_program.specs.Dialplans.{moment_in}
-use Rattle.dp_program.specs.Graphs.{GraphsFiles}
 use Rattle.dp_program.specs.Including.{ChecksBothIncluding}
 use Rattle.dp_program.specs.declared.faulted.Faulted.{Faulted}
 use Rattle.dp_program.proofs.program.serve.Goals as goal
@@ -22,19 +21,9 @@ returns-in-CheckBothIncluding-clause-serves g c =
       c.without_hint-in-CheckBothIncluding.ensures.nothing,
     )
 
--- the picture has no hint
+-- a picture is written
 pub returns-in-Graph-clause-serves : goal.returns-in-Graph-clause-serves
-returns-in-Graph-clause-serves g c =
-    let files = g.F.ReadFiles.source_at c.args.files.now in
-    let plan = c.in-Graph.paths.plan.now in
-    let queues = option_map (λ path. path.now) c.in-Graph.paths.queues in
-    let old = g.W.WriteTold.contents c.args.output.now in
-    let new = g.W.WriteTold.contents c.serve_graph.new.output in
-    rw c.in-Graph.is (
-      subst (λ (answered : Result ℕ Faulted). GraphsFiles files plan queues old new answered) (sym c.without_hint-in-Graph.ensures.same) c.serve_graph.ensures.serves,
-      c.without_hint-in-Graph.ensures.nothing,
-    )
+returns-in-Graph-clause-serves g c = rw c.in-Graph.is c.serve_graph.ensures.serves
 
--- nor has that of a dialplan that is read with its files, but for what is wrong with them
 pub returns-in-GraphIncluding-clause-serves : goal.returns-in-GraphIncluding-clause-serves
 returns-in-GraphIncluding-clause-serves g c = rw c.in-GraphIncluding.is c.serve_graph_including.ensures.serves
