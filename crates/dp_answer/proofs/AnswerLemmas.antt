@@ -1,12 +1,14 @@
 -- The reports of answers, and what is proved of them.
-use Rattle.std.proofs.Common.{◌≡◌, ℕ, Bool, true, false, List, ◌++◌, Option, Some, None, IsTrue, refl, sym, ap, subst, ◌∙◌}
+use Rattle.std.proofs.Common.{◌≡◌, ℕ, Bool, true, false, List, ◌++◌, Option, Some, None, IsTrue, map, refl, sym, ap, subst, ◌∙◌}
 use Rattle.std.specs.Prelude.{is_some}
 use Rattle.std.specs.Global.{Vec}
 use Rattle.std.specs.Option.{option_map_or}
 use Rattle.dp_answer.specs.Asks.{AskOf, is_lacking, outside_of, starts_of}
 use Rattle.dp_answer.specs.Reports.{IsReport, IsReportBy, IsRight, ReportOf, Told, answer_text, assumptions, has_answer, head_text, may_reach, nothing_told, status_by, no_proof_line, verdict}
-use Rattle.dp_answer.specs.Steps.{IsTold, answers_by}
-use Rattle.dp_closed.specs.Answers.{answers_in}
+use Rattle.dp_answer.specs.Steps.{AreTerms, IsFoundBy, IsTold, answers_by, answers_of}
+use Rattle.dp_answer.specs.declared.terms.Terms.{Terms}
+use Rattle.dp_answer.specs.declared.trails.Found.{Found}
+use Rattle.dp_closed.specs.Answers.{answers_in, shown_outside}
 use Rattle.dp_plan.specs.Lookup.{number_of}
 use Rattle.dp_plan.specs.Plan.{PlanOf}
 use Rattle.dp_queue.specs.declared.settings.Settings.{Settings}
@@ -73,3 +75,13 @@ lacking-report plan settings ask report lacks nothing = subst (λ b. IsReportBy 
 pub right-report : (plan : PlanOf) (settings : List Settings) (ask : AskOf) (report : ReportOf)
     → is_lacking plan ask ≡ false → IsRight plan settings ask report → IsReport plan settings ask report
 right-report plan settings ask report lacks right = subst (λ b. IsReportBy b plan settings ask report) (sym lacks) right
+
+-- a report of what was found on the terms of the question
+pub found-report : (plan : PlanOf) (settings : List Settings) (ask : AskOf) (terms : Terms) (found : Found) (starts : List (Vec ℕ)) (report : ReportOf)
+    → AreTerms plan settings ask terms → IsFoundBy terms plan ask.context found → starts ≡ terms.outside.contexts.items
+    → IsTold plan (assumptions ask (map (λ name. name.items) starts) ++ no_proof_line found.is_proved) (answers_of found) ask.target report
+    → IsReport plan settings ask report
+found-report plan settings ask terms found starts report are found_by same told =
+    let told_in : List (Vec ℕ) → Type 0 = λ names. IsTold plan (assumptions ask (map (λ name. name.items) names) ++ no_proof_line found.is_proved) (answers_of found) ask.target report in
+    right-report plan settings ask report are.has_all
+    (right-told plan settings ask report (shown_outside terms.outside) found.is_proved found.search.marks are.outside (found_by settings are.ways) (subst told_in same told))

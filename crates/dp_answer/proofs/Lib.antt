@@ -1,4 +1,5 @@
 mod AnswerLemmas
 mod HeadLemmas
 mod RangeLemmas
+mod ReachedLemmas
 mod ReportLemmas

@@ -1,5 +1,6 @@
 pub mod Asks
 pub mod RangeSteps
 pub mod Ranges
+pub mod Reached
 pub mod Reports
 pub mod Steps

@@ -1,9 +1,11 @@
 -- The steps of private functions. No public clause depends on them.
 use Rattle.std.specs.Prelude.{◌≡◌, ℕ, Bool, true, false, List, ◌++◌, Option, Some, None}
 use Rattle.std.specs.Global.{Vec}
+use Rattle.dp_answer.specs.Asks.{AskOf, is_lacking, outside_of}
 use Rattle.dp_answer.specs.Reports.{ReportOf, Told, answer_status, answer_text}
 use Rattle.dp_answer.specs.declared.answer.OutsideQuestion.{OutsideQuestion}
 use Rattle.dp_answer.specs.declared.report.Report.{Report}
+use Rattle.dp_answer.specs.declared.terms.Terms.{Terms}
 use Rattle.dp_answer.specs.declared.trails.Found.{Found}
 use Rattle.dp_closed.specs.Answers.{answers_in, shown_outside}
 use Rattle.dp_closed.specs.Claimed.{AreWays}
@@ -24,6 +26,21 @@ answers_by false marks = None
 
 abbrev pub answers_of : Found → Option (List (Vec Bool))
 answers_of found = answers_by found.is_proved found.search.marks
+
+-- the terms of a question that names no context which the dialplan lacks, with queues of these settings
+pub record AreTerms (plan : PlanOf) (settings : List Settings) (ask : AskOf) (terms : Terms) : Type 0 where
+  pub has_all : is_lacking plan ask ≡ false
+  pub outside : shown_outside terms.outside ≡ outside_of plan ask
+  pub ways : AreWays settings terms.ways.items
+
+abbrev pub AreTermsIfAny : PlanOf → List Settings → AskOf → Option Terms → Type 0
+AreTermsIfAny plan settings ask None = is_lacking plan ask ≡ true
+AreTermsIfAny plan settings ask (Some terms) = AreTerms plan settings ask terms
+
+-- a call that comes in at the context runs only entries in the answer, with any queues that have the ways out
+abbrev pub IsFoundBy : Terms → PlanOf → List ℕ → Found → Type 0
+IsFoundBy terms plan context found = (settings : List Settings) → AreWays settings terms.ways.items
+    → RunsOnly standard_rows (shown_outside terms.outside) context plan settings (answers_in (answers_of found))
 
 -- a report, as its text and status
 abbrev pub shown_report : Report → ReportOf

@@ -9,13 +9,16 @@ mod head;
 mod jumps;
 mod names;
 mod ranges;
+mod reached;
 mod report;
 mod route;
 mod search;
+mod terms;
 mod text;
 mod trails;
 mod turned_orders;
 mod ways;
 
 pub use ask::Ask;
+pub use reached::reached_entries;
 pub use report::{Report, report_on};

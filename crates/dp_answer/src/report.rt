@@ -6,13 +6,11 @@ ghost use Rattle.dp_answer.specs.Reports as spec;
 ghost use Rattle.dp_answer.specs.Steps.{IsTold, answers_of, shown_report};
 ghost use Rattle.dp_closed.specs.Answers.{answers_in};
 
-use crate::answer::{OutsideQuestion, answer};
 use crate::ask::Ask;
-use crate::asked::{is_lacking, outside_of};
 use crate::head::push_head;
+use crate::terms::Terms;
 use crate::text::push_entry;
 use crate::trails::{Found, Trails, told_of_all, told_of_target};
-use crate::ways::ways_of;
 use dp_closed::Marks;
 use dp_conf::NoMemory;
 use dp_plan::{Dialplan, EntryId, Text};
@@ -27,7 +25,7 @@ pub struct Report {
 }
 
 /// Whether the entry is among the answers, which are the marked entries, or all without marks.
-fn is_answer(answers: Option<&Marks>, id: EntryId) -> bool
+pub(crate) fn is_answer(answers: Option<&Marks>, id: EntryId) -> bool
     ensures { result ≡ answers_in (option_map (λ marks. marks.now) answers.entry) id }
 {
     match answers {
@@ -37,7 +35,7 @@ fn is_answer(answers: Option<&Marks>, id: EntryId) -> bool
 }
 
 /// The number of entries of the context with a number.
-fn count_at(plan: &Dialplan, number: usize) -> usize
+pub(crate) fn count_at(plan: &Dialplan, number: usize) -> usize
     ensures { result ≡ spec.count_at plan.now number }
 {
     match plan.contexts().get(number) {
@@ -240,21 +238,13 @@ pub fn report_on(
     ensures { IfOk result (λ report. spec.IsReport plan.now (map (λ queue. queue.settings) queues.now.queues) (ask_of ask.now)
         (record { text = report.text.items; status = report.status })) }
 {
-    let outside = outside_of(alloc, plan, ask)?;
-    if is_lacking(alloc, plan, ask, &outside.contexts)? {
+    let Some(terms) = Terms::of(alloc, plan, queues, ask)? else {
         return Ok(Report {
             text: Vec::new(alloc),
             status: 1,
         });
-    }
-    let ways = ways_of(alloc, queues)?;
-    let question = OutsideQuestion {
-        plan,
-        ways: &ways,
-        outside: &outside,
-        context: ask.context,
     };
-    let found = answer(alloc, question)?;
-    let report = report_found(alloc, plan, ask, &found, &outside.contexts)?;
+    let found = terms.find(alloc, plan, ask.context)?;
+    let report = report_found(alloc, plan, ask, &found, &terms.outside.contexts)?;
     Ok(report)
 }

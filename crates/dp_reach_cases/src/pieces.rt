@@ -2,6 +2,7 @@
 mod answers;
 mod cuts;
 mod duties;
+mod entries;
 mod names;
 mod notation;
 mod shapes;
@@ -10,6 +11,7 @@ mod texts;
 use crate::pieces::answers::{ANSWERS, Answers};
 use crate::pieces::cuts::{CUTS, Cuts};
 use crate::pieces::duties::{CLAIMED, Claimed, DUTIES, Duties, FOUND, Found, REACHED, Reached};
+use crate::pieces::entries::{ENTRIES, Entries};
 use crate::pieces::names::{NAMES, Names};
 use crate::pieces::shapes::{SHAPES, Shapes};
 use crate::pieces::texts::{TEXTS, Texts};
@@ -53,4 +55,10 @@ fn duties_reached_places_and_findings(rt: HostRuntime) -> Result<(), Fail> {
 #[test]
 fn entries_and_contexts_that_a_call_may_reach(rt: HostRuntime) -> Result<(), Fail> {
     check::<Answers>(rt.alloc(), ANSWERS)
+}
+
+/// Which entries a call may run, in the order of the dialplan.
+#[test]
+fn entries_that_a_call_may_run_in_order(rt: HostRuntime) -> Result<(), Fail> {
+    check::<Entries>(rt.alloc(), ENTRIES)
 }

@@ -18,6 +18,8 @@ ways→[main]¶exten => s,1,Queue(help)¶[out]¶exten => 1,1,Hangup()¶
 wayout→[help]¶context = out¶
 ends→[in]¶exten => s,1,Goto(main,s,1)¶[main]¶exten => s,1,WaitExten(5)¶exten => h,1,Goto(late,s,1)¶exten => i,1,Goto(lost,s,1)¶[late]¶exten => s,1,NoOp()¶[lost]¶exten => s,1,NoOp()¶
 empty→
+back→[last]¶exten => s,1,NoOp()¶ same => n,Hangup()¶[lost]¶exten => s,1,Hangup()¶[first]¶exten => 2,1,Hangup()¶exten => _1X,1,Goto(last,s,1)¶
+shared→[in]¶exten => 5,1,Hangup()¶include => more¶[other]¶exten => 7,1,Hangup()¶[more]¶exten => 7,1,Hangup()¶exten => 5,2,NoOp()¶
 routes→[globals]¶CARRIER=PJSIP/carrier¶RECEPTION=200¶[from-carrier]¶exten => _X.,1,Set(CALLERNUMBER=${CALLERID(num)})¶ same => n,Goto(reception,s,1)¶exten => _+X.,1,Goto(reception,s,1)¶[reception]¶exten => s,1,Answer()¶ same => n,Set(tries=0)¶ same => n(menu),Background(welcome)¶ same => n,WaitExten(5)¶exten => 1,1,Gosub(ring,s,1(${RECEPTION},20))¶ same => n,Goto(desk,1)¶exten => 2,1,Goto(internal,210,1)¶exten => i,1,Set(tries=$[${tries} + 1])¶ same => n,GotoIf($[${tries} < 2]?s,menu)¶ same => n,Goto(desk,1)¶exten => t,1,Goto(desk,1)¶exten => desk,1,Dial(PJSIP/${RECEPTION},30)¶ same => n,Hangup()¶exten => h,1,NoOp(${CALLERNUMBER} left)¶include => lobby-features¶[lobby-features]¶exten => *60,1,Answer()¶ same => n,Playback(opening-hours)¶ same => n,Hangup()¶exten => _*2XX,1,Goto(internal,${EXTEN:1},1)¶[from-lobby]¶include => internal¶include => lobby-features¶[internal]¶exten => _[23]XX,1,Gosub(ring,s,1(${EXTEN},20))¶ same => n,GotoIf($["${DIALSTATUS}" = "BUSY"]?busy)¶ same => n,Playback(not-there)¶ same => n,Hangup()¶ same => n(busy),Playback(busy)¶ same => n,Hangup()¶[ring]¶exten => s,1,Dial(PJSIP/${ARG1},${ARG2})¶ same => n,Return()¶[from-staff]¶include => internal¶include => national¶include => international¶[national]¶exten => _0ZX.,1,Dial(${CARRIER}/${EXTEN},60)¶ same => n,Hangup()¶[international]¶exten => _00ZX.,1,Set(CALLERID(num)=+4989123450)¶ same => n,Dial(${CARRIER}/${EXTEN},60)¶ same => n,Hangup()¶
 opened→[globals]¶CARRIER=PJSIP/carrier¶RECEPTION=200¶[from-carrier]¶exten => _X.,1,Set(CALLERNUMBER=${CALLERID(num)})¶ same => n,Goto(reception,s,1)¶exten => _+X.,1,Goto(reception,s,1)¶[reception]¶exten => s,1,Answer()¶ same => n,Set(tries=0)¶ same => n(menu),Background(welcome)¶ same => n,WaitExten(5)¶exten => 1,1,Gosub(ring,s,1(${RECEPTION},20))¶ same => n,Goto(desk,1)¶exten => 2,1,Goto(internal,210,1)¶exten => i,1,Set(tries=$[${tries} + 1])¶ same => n,GotoIf($[${tries} < 2]?s,menu)¶ same => n,Goto(desk,1)¶exten => t,1,Goto(desk,1)¶exten => desk,1,Dial(PJSIP/${RECEPTION},30)¶ same => n,Hangup()¶exten => h,1,NoOp(${CALLERNUMBER} left)¶include => lobby-features¶[lobby-features]¶exten => *60,1,Answer()¶ same => n,Playback(opening-hours)¶ same => n,Hangup()¶exten => _*2XX,1,Goto(internal,${EXTEN:1},1)¶exten => _**X.,1,Goto(from-staff,${EXTEN:2},1)¶[from-lobby]¶include => internal¶include => lobby-features¶[internal]¶exten => _[23]XX,1,Gosub(ring,s,1(${EXTEN},20))¶ same => n,GotoIf($["${DIALSTATUS}" = "BUSY"]?busy)¶ same => n,Playback(not-there)¶ same => n,Hangup()¶ same => n(busy),Playback(busy)¶ same => n,Hangup()¶[ring]¶exten => s,1,Dial(PJSIP/${ARG1},${ARG2})¶ same => n,Return()¶[from-staff]¶include => internal¶include => national¶include => international¶[national]¶exten => _0ZX.,1,Dial(${CARRIER}/${EXTEN},60)¶ same => n,Hangup()¶[international]¶exten => _00ZX.,1,Set(CALLERID(num)=+4989123450)¶ same => n,Dial(${CARRIER}/${EXTEN},60)¶ same => n,Hangup()¶
 "#;
@@ -62,22 +64,36 @@ fn queues_of(alloc: Global, name: &str) -> Result<Queues, Fail> {
     Queues::load(alloc, text.as_bytes()).map_err(|_| Fail::from("no queues"))
 }
 
+/// What is asked of a dialplan and its queues.
+#[derive(Drop)]
+pub(super) struct Asked<'a> {
+    pub(super) plan: Dialplan,
+    pub(super) queues: Queues,
+    pub(super) ask: Ask<'a>,
+}
+
+/// What a case asks, as `Answers` says.
+pub(super) fn asked_of(alloc: Global, asked: &str) -> Result<Asked<'_>, Fail> {
+    let mut words = asked.split('|');
+    let text = file_of(alloc, words.next().unwrap_or(""))?;
+    let queues = queues_of(alloc, words.next().unwrap_or(""))?;
+    let Ok((plan, _)) = Dialplan::load(alloc, text.as_bytes()) else {
+        return Err(Fail::from("no dialplan"));
+    };
+    let ask = Ask {
+        context: words.next().unwrap_or("").as_bytes(),
+        target: given_word(words.next()),
+        starts: given_word(words.next()),
+        exten: given_word(words.next()),
+        caller: given_word(words.next()),
+    };
+    Ok(Asked { plan, queues, ask })
+}
+
 impl Question for Answers {
     fn answer(alloc: Global, asked: &str) -> Result<String, Fail> {
-        let mut words = asked.split('|');
-        let text = file_of(alloc, words.next().unwrap_or(""))?;
-        let queues = queues_of(alloc, words.next().unwrap_or(""))?;
-        let Ok((plan, _)) = Dialplan::load(alloc, text.as_bytes()) else {
-            return text_of(alloc, "no dialplan");
-        };
-        let ask = Ask {
-            context: words.next().unwrap_or("").as_bytes(),
-            target: given_word(words.next()),
-            starts: given_word(words.next()),
-            exten: given_word(words.next()),
-            caller: given_word(words.next()),
-        };
-        let report = report_on(alloc, &plan, &queues, &ask)?;
+        let asked = asked_of(alloc, asked)?;
+        let report = report_on(alloc, &asked.plan, &asked.queues, &asked.ask)?;
         let mut out = String::new(alloc);
         write!(out, "{} ", report.status)?;
         for byte in &report.text {
