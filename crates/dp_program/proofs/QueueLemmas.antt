@@ -1,11 +1,12 @@
 -- Commands over queues that are read with the files that they include.
-use Rattle.std.proofs.Common.{◌≡◌, ℕ, List, Option, Some, None, Result, Ok, Err, refl, ap}
+use Rattle.std.proofs.Common.{◌≡◌, ℕ, List, Option, Some, None, Result, Ok, Err, refl, ap, subst, sym}
 use Rattle.std.proofs.KnownBytes.{Appends-nil}
 use Rattle.dp_conf.specs.Answers.{Refuses}
 use Rattle.dp_commands.specs.Faults.{reason_of}
 use Rattle.dp_commands.specs.declared.fault.PbxFault.{PbxFault}
 use Rattle.dp_commands.specs.declared.fault.PbxFault.TheVariants.{NoMemory}
 use Rattle.dp_files.specs.FolderFiles.{ReadsFolder, nothing_known}
+use Rattle.dp_files.specs.Sources.{Telling}
 use Rattle.dp_notices.specs.QueueFiles.{queues_of}
 use Rattle.dp_program.specs.Dialplans.{with_text}
 use Rattle.dp_program.specs.Faulted.{in_file, nowhere, place_unread, unread_fault}
@@ -16,6 +17,11 @@ use Rattle.dp_program.specs.declared.faulted.Faulted.{Faulted}
 use Rattle.dp_program.specs.declared.faulted.Unread.{Unread}
 use Rattle.dp_program.specs.declared.hints.Served.{Served}
 use Rattle.dp_program.proofs.ReadsLemmas.{by_reason}
+
+-- what holds of the result of reading holds of what the files give
+pub queues_known : (path : List ℕ) (may_tell : Telling → Type 0) (read : QueuesRead) (P : Result QueuesRead PbxFault → Type 0)
+    → ReadsFolder may_tell (λ has. queues_read (queues_of has path) ≡ Ok read) → P (Ok read) → ReadsFolder may_tell (λ has. P (queues_read (queues_of has path)))
+queues_known path may_tell read P reads holds = (reads.0, reads.1, λ has agrees. subst P (sym (reads.2 has agrees)) holds)
 
 module _ (files : List ℕ → Source) (path : List ℕ) (Holds : (List ℕ → Source) → Result Served Faulted → Type 0) (old : Option (List ℕ))
     (lacks : (files : List ℕ → Source) → Holds files (Err (nowhere NoMemory))) where

@@ -1,11 +1,12 @@
-use Rattle.std.proofs.Common.{ℕ, List, Err, sym, subst}
+use Rattle.std.proofs.Common.{ℕ, List, Some, Err, sym, subst}
 use Rattle.dp_program.specs.Dialplans.{text_now}
 use Rattle.dp_program.specs.Files.{Source}
 use Rattle.dp_program.specs.Graphs.{GraphsText}
-use Rattle.dp_program.specs.QueueTexts.{ReadsQueues}
+use Rattle.dp_program.specs.Including.{MayTellOf}
+use Rattle.dp_program.specs.QueueTexts.{OnQueues, ReadsQueues}
 use Rattle.dp_program.specs.Requests.{drawing_of}
 use Rattle.dp_program.specs.declared.faulted.Faulted.{Faulted}
-use Rattle.dp_program.proofs.QueueLemmas.{queues_refused}
+use Rattle.dp_program.proofs.QueueLemmas.{queues_known, queues_refused}
 use Rattle.dp_program.proofs.ServesLemmas.{graph_text_lacks}
 use Rattle.dp_program.proofs.graphs.draw_after_queues.Goals as goal
 
@@ -21,3 +22,17 @@ returns-in-Err-clause-serves g c =
     subst (λ (faulted : Faulted). ReadsQueues files queues (λ (files : List ℕ → Source). GraphsText files drawing explains old old plan) old old (Err faulted)) (sym c.from.ensures)
     (queues_refused files queues (λ (files : List ℕ → Source). GraphsText files drawing explains old old plan) old (λ files. graph_text_lacks files drawing explains old plan) _
     c.in-Err.ensures.path c.in-Err.ensures.read)
+
+-- the queues have the text that was made
+pub returns-in-Ok-Given-Some-clause-serves : goal.returns-in-Ok-Given-Some-clause-serves
+returns-in-Ok-Given-Some-clause-serves g c =
+    let files = g.F.ReadFiles.source_at c.args.files.now in
+    let drawing = drawing_of c.args.asked.question.now in
+    let explains = c.args.asked.explains in
+    let queues = c.args.queued.queues.now in
+    let old = g.W.WriteTold.contents c.args.output.now in
+    let new = g.W.WriteTold.contents c.draw_plan.new.output in
+    let plan = text_now c.args.queued.plan.now in
+    queues_known queues (MayTellOf files queues) _
+    (λ read. OnQueues files queues (λ (files : List ℕ → Source). GraphsText files drawing explains old new plan) old new read c.draw_plan.result)
+    (rw c.in-Ok-Given-Some.field-0-is at c.in-Ok-Given-Some.ensures.read) c.draw_plan.ensures.serves
