@@ -4,8 +4,8 @@ use Rattle.std.specs.Prelude.{ℕ, Bool, true, false, ◌&&◌, String, string_b
 use Rattle.std.specs.Option.{option_and_then, option_map, option_map_or}
 use Rattle.std.specs.declared.alloc.Global.{Global}
 use Rattle.clap.specs.Simple.{App, new_app, new_rule, on_top, with_rule, with_subcommand, subcommand_of}
-use Rattle.clap.specs.Walk.{Row, Rule, first_of}
-use Rattle.clap.specs.declared.builder.action.ArgAction.TheVariants.{SetTrue}
+use Rattle.clap.specs.Walk.{Row, Rule, all_of, first_of}
+use Rattle.clap.specs.declared.builder.action.ArgAction.TheVariants.{Append, SetTrue}
 use Rattle.dp_conf.specs.Words.{same_text}
 use Rattle.dp_commands.specs.Script.{number_within}
 use Rattle.dp_conf.specs.Numbers.{most_priority}
@@ -18,6 +18,10 @@ use Rattle.dp_wide_runs.specs.Kinds.{KindsTold, all, only, except, are_kinds}
 -- a word that must be given
 abbrev pub required_word : List ℕ → Rule
 required_word name = record (new_rule name) { required = true }
+
+-- words of which at least one must be given
+abbrev pub required_words : List ℕ → Rule
+required_words name = record (required_word name) { action = Some Append }
 
 -- an optional word
 abbrev pub free_word : List ℕ → Rule
@@ -121,11 +125,11 @@ debug_app =
     with_explain (with_files (with_verbose (with_rule (with_more_files (with_asterisk (new_app (codes "debug"))))
     (required_named_word (codes "CONTEXT,EXTEN,PRIORITY") (codes "break")))))
 
--- `test [--trace] [--cover] [--explain] FILE`
+-- `test [--trace] [--cover] [--explain] FILE..`
 abbrev pub test_app : App
 test_app =
     with_explain (with_rule (with_rule (with_rule (new_app (codes "test")) (flag (codes "trace") (codes "trace"))) (flag (codes "cover") (codes "cover")))
-    file_word)
+    (required_words (codes "FILE")))
 
 -- a command with the words for what may come in: the contexts at which calls do, and the bytes of extensions and of callers' numbers
 abbrev pub with_outside : App → App
@@ -315,10 +319,13 @@ debug_asked words =
     option_and_then (λ paths. option_map (λ held. debug_of (is_set (codes "asterisk") words) paths held (is_set (codes "verbose") words))
     (first_of (codes "CONTEXT,EXTEN,PRIORITY") words)) (run_paths words)
 
+-- the request of `test` on these files, given its other words
+abbrev pub test_of : List Row → List (List ℕ) → RequestOf
+test_of words files = testing files (is_set (codes "trace") words) (is_set (codes "cover") words)
+
 -- the request of `test`
 abbrev pub test_asked : List Row → Option RequestOf
-test_asked words =
-    option_map (λ file. testing file (is_set (codes "trace") words) (is_set (codes "cover") words)) (first_of (codes "FILE") words)
+test_asked words = option_map (test_of words) (all_of (codes "FILE") words)
 
 -- the request of `diff` on two files, given whether it reads the files that the dialplans include
 abbrev pub diff_of : Bool → List ℕ → List ℕ → RequestOf

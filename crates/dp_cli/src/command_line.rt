@@ -1,5 +1,5 @@
 //! The command line: what its words ask for.
-ghost use Rattle.std.specs.Prelude.{◌≡◌, IfOk, IfErr, Some, is_some, codes, option_map, true, false};
+ghost use Rattle.std.specs.Prelude.{◌≡◌, IfOk, IfErr, Some, is_some, codes, map, option_map, true, false};
 ghost use Rattle.std.specs.Option.{option_and_then};
 ghost use Rattle.clap.specs.Faults.{fault_of};
 ghost use Rattle.clap.specs.Kinds.{FailsBy};
@@ -7,7 +7,7 @@ ghost use Rattle.clap.specs.Matches.{found_of};
 ghost use Rattle.clap.specs.Simple.{subcommand_of, subcommand_rows_of};
 ghost use Rattle.clap.specs.Takes.{takes};
 ghost use Rattle.clap.specs.Values.{kind_of};
-ghost use Rattle.clap.specs.Walk.{first_of, rows_of};
+ghost use Rattle.clap.specs.Walk.{all_of, first_of, rows_of};
 ghost use Rattle.clap.specs.declared.error.kind.ErrorKind.TheVariants.{ArgumentConflict, MissingRequiredArgument, OutOfMemory, ValueValidation};
 ghost use Rattle.dp_commands.specs.Script.{number_within};
 ghost use Rattle.dp_program.specs.Entries.{fault_numbered};
@@ -32,7 +32,7 @@ use dp_program::{
 use std::alloc::Global;
 
 /// What a command line asks for.
-#[derive(Clone, Copy, Debug, PartialEq, Eq)]
+#[derive(Debug, PartialEq, Eq, Drop)]
 pub struct Invocation<'a> {
     /// What the program does.
     pub request: Request<'a>,
@@ -142,6 +142,20 @@ pub(crate) fn word_of<'a>(given: &ArgMatches<'a>, name: &str) -> Option<&'a str>
     ensures { option_map (λ word. word.now) result ≡ first_of name.now (rows_of (found_of given.now)) }
 {
     given.get_str(name)
+}
+
+/// All words with this name among the words of a command, if there are any.
+fn words_of<'a>(
+    alloc: Global,
+    given: &ArgMatches<'a>,
+    name: &str,
+) -> Result<Option<Vec<&'a str>>, NoMemory>
+    ensures { IfOk result (λ words. option_map (λ words. map (λ word. word.now) words.items) words ≡ all_of name.now (rows_of (found_of given.now))) }
+{
+    match given.get_strs(name) {
+        Some(words) => Ok(Some(Vec::from_slice(alloc, words)?)),
+        None => Ok(None),
+    }
 }
 
 /// Whether the flag with this name is given.
@@ -365,15 +379,25 @@ fn debug_request<'a>(given: &ArgMatches<'a>) -> Option<Request<'a>>
     Some(debug_of(is_set(given, "asterisk"), files, held, is_verbose))
 }
 
-/// The request of `test`.
-fn test_request<'a>(given: &ArgMatches<'a>) -> Option<Request<'a>>
-    ensures { option_map request_asked result ≡ spec.test_asked (rows_of (found_of given.now)) }
+/// The request of `test` on these files.
+fn test_of<'a>(given: &ArgMatches<'_>, files: Vec<&'a str>) -> Request<'a>
+    ensures { request_asked result ≡ spec.test_of (rows_of (found_of given.now)) (map (λ file. file.now) files.items) }
 {
-    Some(Request::Test {
-        file: word_of(given, "FILE")?,
+    Request::Test {
+        files,
         is_traced: is_set(given, "trace"),
         is_covered: is_set(given, "cover"),
-    })
+    }
+}
+
+/// The request of `test`.
+fn test_request<'a>(alloc: Global, given: &ArgMatches<'a>) -> Result<Option<Request<'a>>, NoMemory>
+    ensures { IfOk result (λ request. option_map request_asked request ≡ spec.test_asked (rows_of (found_of given.now))) }
+{
+    match words_of(alloc, given, "FILE")? {
+        Some(files) => Ok(Some(test_of(given, files))),
+        None => Ok(None),
+    }
 }
 
 /// The request of `diff` on two files, given whether it reads the files that the dialplans include.
@@ -453,7 +477,7 @@ fn command_request<'a>(
         "match" => match_request(alloc, given),
         "run" => run_request(alloc, given),
         "debug" => Ok(debug_request(given)),
-        "test" => Ok(test_request(given)),
+        "test" => Ok(test_request(alloc, given)?),
         "audit" => audit_request(alloc, given),
         "diff" => Ok(diff_request(given)),
         "graph" => Ok(graph_request(given)),

@@ -47,6 +47,17 @@ fn required_word<'a>(alloc: Global, name: &'a str, help: &'a str) -> Arg<'a>
     Arg::new(alloc, name).required(true).help(help)
 }
 
+/// Words of which at least one must be given.
+fn required_words<'a>(alloc: Global, name: &'a str, help: &'a str) -> Arg<'a>
+    ensures rule { rule_of result ≡ spec.required_words name.now }
+    ensures local { result.global ≡ false }
+{
+    Arg::new(alloc, name)
+        .required(true)
+        .action(ArgAction::Append)
+        .help(help)
+}
+
 /// An optional word.
 fn free_word<'a>(alloc: Global, name: &'a str, help: &'a str) -> Arg<'a>
     ensures rule { rule_of result ≡ spec.free_word name.now }
@@ -514,11 +525,11 @@ fn test_command<'a>(alloc: Global) -> Result<Command<'a>, NoMemory>
         alloc,
         "cover",
         "cover",
-        "Print at the end how many entries of the dialplan ran in a test, and each entry that did not",
+        "Print at the end how many entries of each dialplan ran in a test, and each entry that did not",
     );
     let test = with_word(test, cover);
-    let file = required_word(alloc, "FILE", "The test file, such as office.test");
-    let test = with_word(test, file);
+    let files = required_words(alloc, "FILE", "The test files, such as office.test");
+    let test = with_word(test, files);
     with_explain(alloc, test)
 }
 

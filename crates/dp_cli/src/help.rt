@@ -74,11 +74,11 @@ Example:
 
 /// What the help of `test` says below its words.
 pub(crate) const TEST_NOTES: &str = "\
-Runs each test of FILE in a world of its own, on the dialplan that the file names, which is read as `check --asterisk` reads it.
+Runs each test of the files in a world of its own, on the dialplan that its file names, which is read as `check --asterisk` reads it.
 Each event is followed by all steps that are possible. A test passes if no event is refused, nothing stays unknown, and each
-`expect` line comes true. The results are in the Test Anything Protocol, version 14. A test that fails has its line, what was
-expected, what came instead, and the last entries that ran. If the test file or a file that it names has faults, each is printed
-on standard error with its file and line, no test runs, and the status is 1.
+`expect` line comes true. The results of all files are one list in the Test Anything Protocol, version 14. A test that fails has its
+line, what was expected, what came instead, and the last entries that ran. If a test file or a file that it names has faults, those of
+all files are printed on standard error with their files and lines, no test runs, and the status is 1.
 
 Example:
   $ cat office.test

@@ -29,7 +29,7 @@ use Rattle.dp_program.specs.Reaches.{Reaches}
 use Rattle.dp_program.specs.Requests.{DrawingOf, OptionsOf, RequestOf, LookupOf, QuestionOf, joined, check, check_files, check_queue_files, check_both_files, check_queues, check_both, listing, listing_files, auditing, auditing_by, matching, matching_files, explaining, run, run_wide, debug, debug_wide, testing, comparing, comparing_files, drawing, drawing_files, reaching}
 use Rattle.dp_program.specs.Entries.{explanation_of}
 use Rattle.dp_program.specs.Serves.{AuditsAsked, AuditsFile, AuditsFileBy, AuditsText, ChecksBoth, DebugsAsked, DebugsFiles, DebugsFilesVerbosely, DebugsVerbosely, ListsText, LooksUp, LooksUpText, PlacesOf, ReportsOn, Runs, RunsBeside, RunsPlan, RunsPlans, RunsSecond, RunsAsked, RunsFiles, RunsFilesVerbosely, RunsFilesWide, RunsVerbosely, RunsWide, Serves, SharesSome, debug_of_texts, files_read, in_force_at, in_force_at_first, look_up, places_read, run_of_texts, wide_run_of_texts, RunsFilesWideVerbosely, RunsTextsWideVerbosely, RunsWideAsked, RunsWideBy, RunsWideVerbosely, RunManner, RunsQueues, RunsWithQueues, DebugsFilesWide, DebugsFilesWideVerbosely, DebugsTextsWideVerbosely, DebugsWide, DebugsWideVerbosely, DiffsAfter, DiffsTexts, debugging, running, wide_debug_of_texts}
-use Rattle.dp_program.specs.TestFiles.{manner_of}
+use Rattle.dp_program.specs.TestSuites.{manner_of}
 use Rattle.dp_program.specs.Texts.{OfRun, ReadsTexts, all_texts, some_text, sources_of}
 use Rattle.dp_program.specs.declared.dialplans.PlanUse.TheVariants.{Report, LookUp, Run as to_run}
 use Rattle.dp_program.specs.declared.faulted.Faulted.{Faulted}
@@ -741,7 +741,7 @@ Serves-lacks files input (debug paths held is_verbose) options old = (debug_aske
 Serves-lacks files input (debug_wide paths held is_verbose) options old =
     dialplan_lacks (RunsQueues options.clock paths files (debugging held is_verbose) old old) paths.plan old
     (queues_plan_lacks options.clock paths files (debugging held is_verbose) old) to_run options.clock files
-Serves-lacks files input (testing file is_traced is_covered) options old = Reads-any (files file) _ (tests_lack (manner_of is_traced is_covered) files file old)
+Serves-lacks files input (testing paths is_traced is_covered) options old = tests_lack (manner_of is_traced is_covered) files [] paths old
 Serves-lacks files input (comparing before after) options old = (diffs_lack files before after old, tt)
 Serves-lacks files input (comparing_files before after) options old =
     dialplan_lacks (DiffsAfter options.clock files before after old old) before old (diff_after_lacks options.clock files before after old) Report options.clock files

@@ -15,5 +15,7 @@ pub mod Requests
 pub mod Serves
 pub mod Status
 pub mod TestFiles
+pub mod TestSuites
+pub mod TestTexts
 pub mod Texts
 pub mod WideRuns

@@ -1,5 +1,5 @@
 -- Requests, with the texts of their words.
-use Rattle.std.specs.Prelude.{ℕ, Bool, List, Option}
+use Rattle.std.specs.Prelude.{ℕ, Bool, List, map, Option}
 use Rattle.std.specs.Option.{option_map}
 use Rattle.dp_answer.specs.Asks.{AskOf}
 use Rattle.dp_program.specs.Texts.{OfRun, paths_of}
@@ -84,7 +84,7 @@ pub data RequestOf : Type 0 where
   run_wide : OfRun (List ℕ) → Bool → RequestOf
   debug : OfRun (List ℕ) → List ℕ → Bool → RequestOf
   debug_wide : OfRun (List ℕ) → List ℕ → Bool → RequestOf
-  testing : List ℕ → Bool → Bool → RequestOf
+  testing : List (List ℕ) → Bool → Bool → RequestOf
   comparing : List ℕ → List ℕ → RequestOf
   comparing_files : List ℕ → List ℕ → RequestOf
   drawing : DrawingOf → RequestOf
@@ -111,7 +111,7 @@ request_asked (Run files threads is_verbose) = run (paths_of files) threads is_v
 request_asked (RunWide files is_verbose) = run_wide (paths_of files) is_verbose
 request_asked (Debug files held is_verbose) = debug (paths_of files) held.now is_verbose
 request_asked (DebugWide files held is_verbose) = debug_wide (paths_of files) held.now is_verbose
-request_asked (Test file is_traced is_covered) = testing file.now is_traced is_covered
+request_asked (Test files is_traced is_covered) = testing (map (λ path. path.now) files.items) is_traced is_covered
 request_asked (Diff files) = comparing files.before.now files.after.now
 request_asked (DiffIncluding files) = comparing_files files.before.now files.after.now
 request_asked (Graph question) = drawing (drawing_of question)

@@ -25,7 +25,7 @@ use Rattle.dp_program.specs.Including.{ChecksBothIncluding, ChecksIncluding, Che
 use Rattle.dp_program.specs.QueueTexts.{ReadsQueues}
 use Rattle.dp_program.specs.Reaches.{ReachesFiles}
 use Rattle.dp_program.specs.Requests.{OptionsOf, RequestOf, LookupOf, joined, check, check_files, check_queue_files, check_both_files, check_queues, check_both, listing, listing_files, auditing, auditing_by, matching, matching_files, explaining, run, run_wide, debug, debug_wide, testing, comparing, comparing_files, drawing, drawing_files, reaching}
-use Rattle.dp_program.specs.TestFiles.{TestsFile, manner_of}
+use Rattle.dp_program.specs.TestSuites.{TestsFiles, manner_of}
 use Rattle.dp_program.specs.Texts.{OfRun, ReadsTexts, all_texts, sources_of}
 use Rattle.dp_program.specs.declared.dialplans.PlanUse.TheVariants.{Report, LookUp, Run as to_run}
 use Rattle.dp_program.specs.declared.faulted.Faulted.{Faulted}
@@ -363,8 +363,8 @@ Serves files input (debug paths held is_verbose) options old new answered =
     Quietly (DebugsAsked paths (sources_of files paths) held is_verbose old new) answered
 Serves files input (debug_wide paths held is_verbose) options old new answered =
     RunsIncluding options.clock paths files (debugging held is_verbose) old new answered
-Serves files input (testing file is_traced is_covered) options old new answered =
-    TestsFile (manner_of is_traced is_covered) files file old new answered
+Serves files input (testing paths is_traced is_covered) options old new answered =
+    TestsFiles (manner_of is_traced is_covered) files paths old new answered
 Serves files input (comparing before after) options old new answered = Quietly (DiffsFiles files before after old new) answered
 Serves files input (comparing_files before after) options old new answered = DiffsIncluding options.clock files before after old new answered
 Serves files input (drawing question) options old new answered = GraphsFiles files question options.explains old new answered
@@ -392,7 +392,7 @@ fails_on_input (run paths threads is_verbose) result = false
 fails_on_input (run_wide paths is_verbose) result = false
 fails_on_input (debug paths held is_verbose) result = false
 fails_on_input (debug_wide paths held is_verbose) result = false
-fails_on_input (testing file is_traced is_covered) result = false
+fails_on_input (testing paths is_traced is_covered) result = false
 fails_on_input (comparing before after) result = false
 fails_on_input (comparing_files before after) result = false
 fails_on_input (drawing question) result = false

@@ -1,10 +1,8 @@
--- What `pbx test` does with a test file: it reads the dialplan and the queues that its head names, and writes the results of its tests.
-use Rattle.std.specs.Prelude.{◌≡◌, ℕ, Bool, true, false, List, [], ◌∷◌, ◌++◌, Option, Some, None, Result, Ok, Err, MatchBool, codes, decimal, if◌then◌else◌}
-use Rattle.std.specs.Io.KnownBytes.{Appends}
+-- What `pbx test` reads for a test file: the dialplan and the queues that its head names, and the dialplans that its `reload` lines name.
+use Rattle.std.specs.Prelude.{◌≡◌, ℕ, List, [], ◌∷◌, ◌++◌, Option, Some, None, Result, Ok, Err, MatchBool, codes, decimal}
 use Rattle.std.specs.List.{flat_map}
 use Rattle.std.specs.Option.{option_and_then, option_map, option_map_or}
 use Rattle.std.specs.Str.{is_utf8}
-use Rattle.dp_conf.specs.Fronts.{AppendsFront}
 use Rattle.dp_commands.specs.Codes.{code_text}
 use Rattle.dp_commands.specs.LinePlaces.{places_of}
 use Rattle.dp_commands.specs.declared.fault.Code.{Code}
@@ -15,29 +13,19 @@ use Rattle.dp_files.specs.FolderFiles.{ReadsFolder, path_of}
 use Rattle.dp_files.specs.declared.reading.ReadingFault.{ReadingFault}
 use Rattle.dp_notices.specs.PlanFiles.{plan_of}
 use Rattle.dp_notices.specs.QueueFiles.{QueueFilesOf, queues_of}
-use Rattle.dp_program.specs.Dialplans.{DialplanRead, FailsToRead, PlanTextOf, dialplan_read, faulty, loads, places_in, text_now}
-use Rattle.dp_program.specs.Faulted.{in_none, nowhere, place_of}
-use Rattle.dp_program.specs.Files.{Reads, Source}
+use Rattle.dp_program.specs.Dialplans.{DialplanRead, PlanTextOf, dialplan_read, faulty, loads, places_in, text_now}
+use Rattle.dp_program.specs.Files.{Source}
 use Rattle.dp_program.specs.Including.{MayTellOf, reading_fault}
 use Rattle.dp_program.specs.QueueTexts.{QueuesRead, given, queues_or_notices, unread}
 use Rattle.dp_program.specs.declared.dialplans.PlanUse.TheVariants.{LookUp}
-use Rattle.dp_program.specs.declared.faulted.Faulted.{Faulted}
-use Rattle.dp_program.specs.declared.hints.Served.{Served}
 use Rattle.dp_program.specs.declared.test_inputs.NamedLine.{NamedLine}
 use Rattle.dp_program.specs.declared.test_inputs.ReadInputs.{ReadInputs}
 use Rattle.dp_program.specs.declared.test_inputs.ReadInputs.TheVariants.{Ready, Lacking}
 use Rattle.dp_program.specs.declared.test_inputs.Reloads.{Reloads}
 use Rattle.dp_program.specs.declared.test_inputs.TestInputs.{TestInputs}
-use Rattle.dp_program.specs.declared.test_reports.TestManner.{TestManner}
-use Rattle.dp_program.specs.declared.test_reports.TestReport.{TestReport}
-use Rattle.dp_test_runs.specs.Coverage.{coverage_in}
-use Rattle.dp_test_runs.specs.Points.{entered_in, has_failed, points_of}
-use Rattle.dp_test_runs.specs.Tap.{tap_text}
 use Rattle.dp_test_runs.specs.declared.named_text.NamedText.{NamedText}
 use Rattle.dp_test_runs.specs.declared.points.TestedFile.{TestedFile}
-use Rattle.dp_test_runs.specs.declared.tap.Point.{Point}
 use Rattle.dp_tests.specs.Faults.{kind_name}
-use Rattle.dp_tests.specs.Files.{file_of}
 use Rattle.dp_tests.specs.declared.fault.TestFault.{TestFault}
 use Rattle.dp_tests.specs.declared.file.Act.{Act}
 use Rattle.dp_tests.specs.declared.file.Act.TheVariants.{Turns, Reload, Expect}
@@ -224,25 +212,17 @@ pub record AreInputs (files : List ℕ → Source) (path : List ℕ) (file : Tes
   pub reloads_read : AreReloads files (clock_of file.clock) path (reloads_of file) no_reloads reloads
   pub joined : read ≡ inputs_by (wrong_lines plan queues reloads) plan queues reloads
 
--- ---- the report
+-- ---- the texts that the tests of a file run on
 
--- what is written, what is told beside it, and the status
-pub record ReportOf : Type 0 where
-  pub written : List ℕ
-  pub told : List ℕ
-  pub status : ℕ
-
--- the result of a call
-abbrev pub report_now : TestReport → ReportOf
-report_now report = record { written = report.written; told = report.told.items; status = report.status }
-
--- no test runs
-abbrev pub refuses : List ℕ → ReportOf
-refuses lines = record { written = []; told = lines; status = 1 }
-
--- the results of tests, with what is added to them; the status is 1 if a test failed
-abbrev pub results : Bool → List Point → List ℕ → ReportOf
-results traces points added = record { written = tap_text traces points ++ added; told = []; status = if has_failed points then 1 else 0 }
+-- a test file with this path and text, and the texts that its tests run on
+pub record IsTested (tested : TestedFile) (path text : List ℕ) (file : TestFile) (inputs : InputsOf) : Type 0 where
+  pub path_is : tested.path.now ≡ path
+  pub text_is : tested.text.now ≡ text
+  pub file_is : tested.file.now ≡ file
+  pub plan_is : tested.texts.plan.now ≡ inputs.plan.text
+  pub queues_are : option_map (λ text. text.now) tested.texts.queues ≡ inputs.queues
+  pub reloaded_are : tested.texts.reloaded.now ≡ inputs.reloaded
+  pub places_are : places_of tested.places ≡ places_in inputs.plan
 
 -- the line of the head that names the queues, or else the dialplan
 abbrev pub queues_head : TestFile → HeadLine
@@ -271,111 +251,7 @@ place_by path head None = place_text path head.line
 abbrev pub refused_line : List ℕ → TestFile → Code → Option ℕ → List ℕ
 refused_line path file code line = place_by path (head_of_fault file code) line ++ (code_text code ++ codes "\n")
 
--- no test runs because of a fault of the texts that tests run on
-abbrev pub refuses_by : List ℕ → TestFile → PbxFault → ReportOf
-refuses_by path file (Coded code line) = refuses (refused_line path file code line)
-refuses_by path file NoMemory = refuses []
-
--- what is asked for besides the results: the trace of each test, and the coverage of the dialplan
-pub record MannerOf : Type 0 where
-  pub traces : Bool
-  pub covers : Bool
-
-abbrev pub manner_now : TestManner → MannerOf
-manner_now manner = record { traces = manner.traces; covers = manner.covers }
-
-abbrev pub manner_of : Bool → Bool → MannerOf
-manner_of traces covers = record { traces = traces; covers = covers }
-
--- the coverage of the dialplan by tests, if it is asked for
-abbrev pub coverage_asked : Bool → TestedFile → List Point → Result (List ℕ) PbxFault
-coverage_asked false tested points = Ok []
-coverage_asked true tested points = coverage_in (record { text = tested.texts.plan; places = tested.places }) (entered_in points)
-
--- the report on tests, given their coverage
-abbrev pub report_with : Bool → List ℕ → TestFile → List Point → Result (List ℕ) PbxFault → ReportOf
-report_with traces path file points (Ok added) = results traces points added
-report_with traces path file points (Err fault) = refuses_by path file fault
-
--- the report on the tests of a file, given their results or the fault of the texts that they run on
-abbrev pub report_by : MannerOf → List ℕ → TestFile → TestedFile → Result (List Point) PbxFault → ReportOf
-report_by manner path file tested (Ok points) = report_with manner.traces path file points (coverage_asked manner.covers tested points)
-report_by manner path file tested (Err fault) = refuses_by path file fault
-
--- a test file with this path and text, and the texts that its tests run on
-pub record IsTested (tested : TestedFile) (path text : List ℕ) (file : TestFile) (inputs : InputsOf) : Type 0 where
-  pub path_is : tested.path.now ≡ path
-  pub text_is : tested.text.now ≡ text
-  pub file_is : tested.file.now ≡ file
-  pub plan_is : tested.texts.plan.now ≡ inputs.plan.text
-  pub queues_are : option_map (λ text. text.now) tested.texts.queues ≡ inputs.queues
-  pub reloaded_are : tested.texts.reloaded.now ≡ inputs.reloaded
-  pub places_are : places_of tested.places ≡ places_in inputs.plan
-
--- the report on such a file
-pub record ReportsOn (manner : MannerOf) (path text : List ℕ) (file : TestFile) (inputs : InputsOf) (report : ReportOf) : Type 0 where
-  pub tested : TestedFile
-  pub is_tested : IsTested tested path text file inputs
-  pub reported : report ≡ report_by manner path file tested (points_of tested)
-
--- the report on a test file, given the texts that its tests run on, or the lines about what is wrong with them
-abbrev pub ReportsRead : MannerOf → List ℕ → List ℕ → TestFile → ReportOf → InputsRead → Type 0
-ReportsRead manner path text file report (ready inputs) = ReportsOn manner path text file inputs report
-ReportsRead manner path text file report (lacking lines) = report ≡ refuses lines
-
--- a possible report on a test file: one with faults runs no test
-pub record ReportsInputs (manner : MannerOf) (files : List ℕ → Source) (path text : List ℕ) (file : TestFile) (report : ReportOf) : Type 0 where
-  pub read : InputsRead
-  pub inputs : AreInputs files path file read
-  pub reported : ReportsRead manner path text file report read
-
-abbrev pub MayReport : MannerOf → (List ℕ → Source) → List ℕ → List ℕ → Result TestFile (List TestFault) → ReportOf → Type 0
-MayReport manner files path text (Ok file) report = ReportsInputs manner files path text file report
-MayReport manner files path text (Err faults) report = report ≡ refuses (fault_lines path faults)
-
--- ---- the output and the result
-
--- a report that was made is written, or a write fails; or memory ran out before
-abbrev pub WritesMade : {E : Type 0} → Result TestReport E → Option (List ℕ) → Option (List ℕ) → Result Served Faulted → Type 0
-WritesMade (Ok report) old new (Ok served) =
-    Appends old new report.written × (served.status ≡ report.status) × (served.hint.items ≡ report.told.items)
-WritesMade (Ok report) old new (Err faulted) = AppendsFront old new report.written × (faulted ≡ nowhere (Coded WriteFailed None))
-WritesMade (Err refused) old new (Ok served) = ⊥
-WritesMade (Err refused) old new (Err faulted) = Appends old new [] × (faulted ≡ nowhere NoMemory)
-
--- a report is written, or a write fails
-abbrev pub WritesBytes : ReportOf → Option (List ℕ) → Option (List ℕ) → Result Served PbxFault → Type 0
-WritesBytes report old new (Ok served) = Appends old new report.written × (served.status ≡ report.status) × (served.hint.items ≡ report.told)
-WritesBytes report old new (Err fault) = AppendsFront old new report.written × (fault ≡ Coded WriteFailed None)
-
--- the report is written, or memory runs out before, or a write fails
-pub record Gives (MayBe : ReportOf → Type 0) (old new : Option (List ℕ)) (served : Served) : Type 0 where
-  pub report : ReportOf
-  pub may_be : MayBe report
-  pub written : Appends old new report.written
-  pub status : served.status ≡ report.status
-  pub told : served.hint.items ≡ report.told
-
-pub record Loses (MayBe : ReportOf → Type 0) (old new : Option (List ℕ)) (code : Code) (line : Option ℕ) : Type 0 where
-  pub report : ReportOf
-  pub may_be : MayBe report
-  pub written : AppendsFront old new report.written
-  pub code_is : code ≡ WriteFailed
-  pub line_is : line ≡ None
-
-abbrev pub LosesBy : (ReportOf → Type 0) → Option (List ℕ) → Option (List ℕ) → PbxFault → Type 0
-LosesBy MayBe old new (Coded code line) = Loses MayBe old new code line
-LosesBy MayBe old new NoMemory = Appends old new []
-
-abbrev pub WritesReport : (ReportOf → Type 0) → Option (List ℕ) → Option (List ℕ) → Result Served Faulted → Type 0
-WritesReport MayBe old new (Ok served) = Gives MayBe old new served
-WritesReport MayBe old new (Err faulted) = LosesBy MayBe old new faulted.fault × (place_of faulted.place ≡ in_none)
-
--- the same for the test file at a path, given its text or the fault with which it was not read
-abbrev pub TestsText : MannerOf → (List ℕ → Source) → List ℕ → Option (List ℕ) → Option (List ℕ) → Result (List ℕ) PbxFault → Result Served Faulted → Type 0
-TestsText manner files path old new (Ok text) answered = WritesReport (MayReport manner files path text (file_of text)) old new answered
-TestsText manner files path old new (Err fault) answered = FailsToRead path fault old new answered
-
--- the output and result of the tests of the file at a path
-abbrev pub TestsFile : MannerOf → (List ℕ → Source) → List ℕ → Option (List ℕ) → Option (List ℕ) → Result Served Faulted → Type 0
-TestsFile manner files path old new answered = Reads (files path) (λ text. TestsText manner files path old new text answered)
+-- the line about a fault of these texts; running out of memory has no line
+abbrev pub fault_of_texts : List ℕ → TestFile → PbxFault → List ℕ
+fault_of_texts path file (Coded code line) = refused_line path file code line
+fault_of_texts path file NoMemory = []

@@ -24,7 +24,7 @@ use crate::reaches::serve_reach;
 use crate::reports::{Manner, serve_audit, serve_explain, serve_list, serve_match};
 use crate::request::Request;
 use crate::runs::{PlainRun, serve_debug, serve_joined, serve_run};
-use crate::test_reports::{TestManner, serve_test};
+use crate::test_reports::{TestManner, serve_tests};
 use crate::verbose_runs::{serve_debug_verbose, serve_run_verbose};
 use crate::wide_audits::serve_audit_by;
 use crate::wide_runs::{WideRun, serve_run_including};
@@ -178,7 +178,7 @@ pub fn serve<'a, F: ReadFiles, I: ReadTold, W: WriteTold, R: Threads + Wait + Sy
             serve_run_including(files, alloc, asked, output)
         }
         Request::Test {
-            file,
+            files: paths,
             is_traced,
             is_covered,
         } => {
@@ -186,7 +186,7 @@ pub fn serve<'a, F: ReadFiles, I: ReadTold, W: WriteTold, R: Threads + Wait + Sy
                 traces: *is_traced,
                 covers: *is_covered,
             };
-            serve_test(files, alloc, manner, file, output)
+            serve_tests(files, alloc, manner, paths, output)
         }
         Request::Diff { files: paths } => {
             without_hint(alloc, serve_diff(files, alloc, paths, output))

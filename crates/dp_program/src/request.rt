@@ -95,7 +95,7 @@ impl<'a> RunFiles<'a> {
 }
 
 /// What a command line asks for.
-#[derive(Clone, Copy, Debug, PartialEq, Eq)]
+#[derive(Debug, PartialEq, Eq, Drop)]
 pub enum Request<'a> {
     /// No command: runs the joined text of the standard input.
     Joined,
@@ -187,10 +187,10 @@ pub enum Request<'a> {
         held: &'a str,
         is_verbose: bool,
     },
-    /// `test [--trace] [--cover] FILE`: runs the tests of a file on the dialplan and the queues that its head names, over the wide table.
-    /// The report has what ran in each test if it is asked for, and the entries that ran in none.
+    /// `test [--trace] [--cover] FILE..`: runs the tests of files, each on the dialplan and the queues that its head names, over the wide
+    /// table. The report has what ran in each test if it is asked for, and the entries that ran in none.
     Test {
-        file: &'a str,
+        files: Vec<&'a str>,
         is_traced: bool,
         is_covered: bool,
     },

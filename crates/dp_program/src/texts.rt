@@ -1,15 +1,17 @@
 //! The texts of named files.
-ghost use Rattle.std.specs.Prelude.{◌≡◌, [], IfErr, true, unwrap_or};
+ghost use Rattle.std.specs.Prelude.{◌≡◌, ◌++◌, ◌∷◌, ℕ, List, [], IfErr, IfOk, OnOk, map, true, unwrap_or};
 ghost use Rattle.std.specs.Option.{option_map};
 ghost use Rattle.dp_conf.specs.Answers.{Answers};
+ghost use Rattle.dp_commands.specs.declared.fault.PbxFault.TheVariants.{NoMemory};
 ghost use Rattle.dp_program.specs.Faulted.{unread_path, unread_place, unread_reason};
 ghost use Rattle.dp_program.specs.Files.{Reads, is_read_fault};
+ghost use Rattle.dp_program.specs.TestTexts as tests;
 ghost use Rattle.dp_program.specs.Texts as spec;
 
 use crate::faulted::Unread;
 use crate::files::ReadFiles;
 use crate::request::RunFiles;
-use dp_commands::RunTexts;
+use dp_commands::{PbxFault, RunTexts};
 use std::alloc::Global;
 
 /// The text of a file, with its path.
@@ -108,4 +110,56 @@ pub(crate) fn read_texts<'a, F: ReadFiles>(
         second_plan,
         script,
     })
+}
+
+/// Adds the text of a file.
+fn push_text<'a>(
+    texts: &mut Vec<FileText<'a>>,
+    path: &'a str,
+    text: Vec<u8>,
+) -> Result<(), Unread<'a>>
+    ensures ok { OnOk result (map tests.text_in texts.new.items ≡ map tests.text_in texts.old.items ++ tests.text_at path.now text.items ∷ []) }
+    ensures err { IfErr result (λ unread. unread.path.now ≡ path.now) }
+    ensures memory { IfErr result (λ unread. unread.fault ≡ NoMemory) }
+{
+    match texts.push(FileText { path, text }) {
+        Ok(()) => Ok(()),
+        Err(refused) => Err(Unread {
+            path,
+            fault: PbxFault::from(refused),
+        }),
+    }
+}
+
+/// Reads the file at a path, and adds its text.
+fn add_text<'a, F: ReadFiles>(
+    files: &F,
+    alloc: Global,
+    texts: &mut Vec<FileText<'a>>,
+    path: &'a str,
+) -> Result<(), Unread<'a>>
+    ensures ok { OnOk result ((text : tests.TestText) × tests.Gives (F.source_at files.now) path.now text
+        × (map tests.text_in texts.new.items ≡ map tests.text_in texts.old.items ++ text ∷ [])) }
+    ensures err { IfErr result (λ unread. tests.Fails (F.source_at files.now) path.now unread) }
+    ensures fault { IfErr result (λ unread. is_read_fault unread.fault ≡ true) }
+{
+    let text = read_text(files, alloc, path)?;
+    push_text(texts, path, text)
+}
+
+/// The texts of the files at these paths, which are read in this order until one has a fault.
+pub(crate) fn read_all<'a, F: ReadFiles>(
+    files: &F,
+    alloc: Global,
+    paths: &[&'a str],
+) -> Result<Vec<FileText<'a>>, Unread<'a>>
+    ensures ok { IfOk result (λ texts. tests.GiveAll (F.source_at files.now) (map (λ path. path.now) paths.now) (map tests.text_in texts.items)) }
+    ensures err { IfErr result (λ unread. tests.FailsAmong (F.source_at files.now) (map (λ path. path.now) paths.now) unread) }
+    ensures fault { IfErr result (λ unread. is_read_fault unread.fault ≡ true) }
+{
+    let mut texts = Vec::new(alloc);
+    for path in paths {
+        add_text(files, alloc, &mut texts, *path)?;
+    }
+    Ok(texts)
 }

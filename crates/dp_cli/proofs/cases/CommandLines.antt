@@ -145,13 +145,17 @@ debugged_wide : asked_of (codes "pbx" ∷ codes "debug" ∷ codes "--asterisk" �
 unfolding clap_on_literals asked_of
 debugged_wide = refl
 
-tested : asked_of (codes "pbx" ∷ codes "test" ∷ codes "a.test" ∷ []) ≡ Some (testing (codes "a.test") false false)
+tested : asked_of (codes "pbx" ∷ codes "test" ∷ codes "a.test" ∷ []) ≡ Some (testing (codes "a.test" ∷ []) false false)
 unfolding clap_on_literals asked_of
 tested = refl
 
-tested_with_cover : asked_of (codes "pbx" ∷ codes "test" ∷ codes "--cover" ∷ codes "a.test" ∷ []) ≡ Some (testing (codes "a.test") false true)
+tested_with_cover : asked_of (codes "pbx" ∷ codes "test" ∷ codes "--cover" ∷ codes "a.test" ∷ []) ≡ Some (testing (codes "a.test" ∷ []) false true)
 unfolding clap_on_literals asked_of
 tested_with_cover = refl
+
+tested_several : asked_of (codes "pbx" ∷ codes "test" ∷ codes "a.test" ∷ codes "--trace" ∷ codes "b.test" ∷ codes "c.test" ∷ []) ≡ Some (testing (codes "a.test" ∷ codes "b.test" ∷ codes "c.test" ∷ []) true false)
+unfolding clap_on_literals asked_of
+tested_several = refl
 
 -- whether faults are explained
 no_command_explains : (options_of (codes "pbx" ∷ [])).explains ≡ false
@@ -198,6 +202,10 @@ extra_word = refl
 missing_word : fault_of pbx_app (codes "pbx" ∷ codes "run" ∷ codes "a.conf" ∷ []) ≡ kind.MissingRequiredArgument ∷ []
 unfolding clap_on_literals
 missing_word = refl
+
+missing_test : fault_of pbx_app (codes "pbx" ∷ codes "test" ∷ codes "--cover" ∷ []) ≡ kind.MissingRequiredArgument ∷ []
+unfolding clap_on_literals
+missing_test = refl
 
 missing_break : fault_of pbx_app (codes "pbx" ∷ codes "debug" ∷ codes "a.conf" ∷ codes "b.script" ∷ []) ≡ kind.MissingRequiredArgument ∷ []
 unfolding clap_on_literals

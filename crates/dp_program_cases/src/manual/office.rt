@@ -311,4 +311,11 @@ TAP version 14
 ok 1 - a busy phone leads to the busy message of its mailbox
 ok 2 - a phone that nobody answers leads to its mailbox
 ? 0
+$ pbx test sample/office/tests/helpdesk.test sample/office/tests/phones.test
+TAP version 14
+1..3
+ok 1 - the second agent rings after the first declines
+ok 2 - a busy phone leads to the busy message of its mailbox
+ok 3 - a phone that nobody answers leads to its mailbox
+? 0
 "##;

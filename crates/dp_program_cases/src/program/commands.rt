@@ -519,6 +519,21 @@ test @random.test→1→→@random:2: note Random¶
 test @missing→1→→fault 7 ReadFailed¶
 test --explain @missing→1→→fault 7 ReadFailed¶  @missing¶  a file could not be opened or read¶
 test @long→1→→fault 8 TooLong¶
+# The results of several files are one list, in the order of the files.
+test @first.test @changes.test→0→TAP version 14¶1..2¶ok 1 - one¶ok 2 - a dialplan is reloaded¶→
+test @changes.test @none.test @first.test @first.test→0→TAP version 14¶1..3¶ok 1 - a dialplan is reloaded¶ok 2 - one¶ok 3 - one¶→
+test @none.test --trace @first.test→0→TAP version 14¶1..1¶# @first:2 main,100,1 NoOp(hello)¶# @first:3 main,100,2 Goto(200,1)¶# @first:4 main,200,1 Hangup()¶ok 1 - one¶→
+test @first.test @fails.test @changes.test→1→TAP version 14¶1..4¶ok 1 - one¶not ok 2 - one¶  ---¶  at: '@fails.test:4'¶  expected: '1 ran NoOp'¶  got: 'Hangup()'¶  trace:¶    - '@first:2 main,100,1 NoOp(hello)'¶    - '@first:3 main,100,2 Goto(200,1)'¶    - '@first:4 main,200,1 Hangup()'¶  ...¶not ok 3 - two¶  ---¶  at: '@fails.test:7'¶  expected: 'done'¶  got: 'refused 49 Ended'¶  trace:¶    - '@first:2 main,100,1 NoOp(hello)'¶    - '@first:3 main,100,2 Goto(200,1)'¶    - '@first:4 main,200,1 Hangup()'¶  ...¶ok 4 - a dialplan is reloaded¶→
+# The coverage is that of each dialplan, by the tests of all files that are on it.
+test --cover @first.test @changes.test→0→TAP version 14¶1..2¶ok 1 - one¶ok 2 - a dialplan is reloaded¶# covered 3 of 3 entries¶# covered 0 of 2 entries¶# never @changing:5 main,100,1 NoOp¶# never @changing:6 main,100,2 NoOp¶→
+test --cover @none.test @changes.test @first.test→0→TAP version 14¶1..2¶ok 1 - a dialplan is reloaded¶ok 2 - one¶# covered 3 of 3 entries¶# covered 0 of 2 entries¶# never @changing:5 main,100,1 NoOp¶# never @changing:6 main,100,2 NoOp¶→
+# All faults of all files, in the order of the files. Then no test runs.
+test @first.test @faulty.test→1→→@faulty.test:3: fault BadLine¶@faulty.test:4: fault BadExpect¶
+test --cover @lost.test @first.test @switched.test @faulty.test→1→→@lost.test:1: fault 7 ReadFailed nowhere.conf¶@lost.test:2: fault 7 ReadFailed nowhere.queues¶@lost.test:4: fault 7 ReadFailed nowhere.plan¶@switched:2: note Switch¶@faulty.test:3: fault BadLine¶@faulty.test:4: fault BadExpect¶
+# A test file that cannot be read comes before all that is wrong with the others.
+test @faulty.test @missing @long→1→→fault 7 ReadFailed¶
+test --explain @first.test @missing→1→→fault 7 ReadFailed¶  @missing¶  a file could not be opened or read¶
+test @first.test @long @missing→1→→fault 8 TooLong¶
 ";
 
 /// `run --verbose` and `debug --verbose`.

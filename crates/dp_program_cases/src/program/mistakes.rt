@@ -78,8 +78,8 @@ debug @missing @missing→the following required arguments were not provided:¶ 
 debug --clock friday --break main,s,1 a b→the following required arguments were not provided:¶  --asterisk→pbx debug [OPTIONS] --break <CONTEXT,EXTEN,PRIORITY> <FILE> <SCRIPT>
 debug --asterisk --clock friday --break main,s,1 a b→invalid value 'friday' for '--clock <MOMENT>': a moment is written like 'fri 2026-11-27 09:30'→pbx debug [OPTIONS] --break <CONTEXT,EXTEN,PRIORITY> <FILE> <SCRIPT>
 debug --break main,s,1 a b c→unexpected argument 'c' found→pbx debug [OPTIONS] --break <CONTEXT,EXTEN,PRIORITY> <FILE> <SCRIPT>
-test→the following required arguments were not provided:¶  <FILE>→pbx test <FILE>
-test a b→unexpected argument 'b' found→pbx test [OPTIONS] <FILE>
+test→the following required arguments were not provided:¶  <FILE>...→pbx test <FILE>...
+test --cover→the following required arguments were not provided:¶  <FILE>...→pbx test --cover <FILE>...
 check --version→unexpected argument '--version' found¶¶  tip: to pass '--version' as a value, use '-- --version'→pbx check [OPTIONS] [FILE]
 help dial→unrecognized subcommand 'dial'→pbx [COMMAND]
 ";
@@ -456,22 +456,22 @@ Example:
 const TEST_HELP: &str = "\
 Run the tests of a dialplan
 
-Usage: pbx test [OPTIONS] <FILE>
+Usage: pbx test [OPTIONS] <FILE>...
 
 Arguments:
-  <FILE>  The test file, such as office.test
+  <FILE>...  The test files, such as office.test
 
 Options:
       --trace    Print above the result of each test what ran in it, as lines that begin with `#`
-      --cover    Print at the end how many entries of the dialplan ran in a test, and each entry that did not
+      --cover    Print at the end how many entries of each dialplan ran in a test, and each entry that did not
       --explain  Print below each fault, and below each note of `check`, where it is and what the manual says about it
   -h, --help     Print help
 
-Runs each test of FILE in a world of its own, on the dialplan that the file names, which is read as `check --asterisk` reads it.
+Runs each test of the files in a world of its own, on the dialplan that its file names, which is read as `check --asterisk` reads it.
 Each event is followed by all steps that are possible. A test passes if no event is refused, nothing stays unknown, and each
-`expect` line comes true. The results are in the Test Anything Protocol, version 14. A test that fails has its line, what was
-expected, what came instead, and the last entries that ran. If the test file or a file that it names has faults, each is printed
-on standard error with its file and line, no test runs, and the status is 1.
+`expect` line comes true. The results of all files are one list in the Test Anything Protocol, version 14. A test that fails has its
+line, what was expected, what came instead, and the last entries that ran. If a test file or a file that it names has faults, those of
+all files are printed on standard error with their files and lines, no test runs, and the status is 1.
 
 Example:
   $ cat office.test
