@@ -4,3 +4,4 @@ pub mod Matches
 pub mod Notes
 pub mod Objects
 pub mod Strings
+pub mod WideFindings

@@ -9,7 +9,7 @@ use dp_audit::Finding;
 use dp_plan::{Dialplan, EntryId, NoMemory};
 
 /// The word for the kind of a finding.
-fn kind_of(finding: &Finding) -> &'static [u8]
+pub(crate) fn kind_of(finding: &Finding) -> &'static [u8]
     ensures { result.now ≡ spec.kind_of finding.now }
 {
     match finding {
@@ -36,7 +36,11 @@ fn push_missing(out: &mut Vec<u8>, plan: &Dialplan, id: EntryId) -> Result<(), N
 
 /// Adds the fields of what a finding is about.
 #[tactic(auto, unfolding(crate::specs::Findings::subject_fields))]
-fn push_subject(out: &mut Vec<u8>, plan: &Dialplan, finding: &Finding) -> Result<(), NoMemory>
+pub(crate) fn push_subject(
+    out: &mut Vec<u8>,
+    plan: &Dialplan,
+    finding: &Finding,
+) -> Result<(), NoMemory>
     ensures { OnOk result (out.new.items ≡ out.old.items ++ fields_text (spec.subject_fields plan.now finding.now)) }
 {
     match finding {
@@ -72,11 +76,7 @@ pub(crate) fn begin_finding(out: &mut Vec<u8>, kind: &[u8]) -> Result<(), NoMemo
 
 /// Adds the line of a finding.
 #[tactic(auto, unfolding(crate::specs::Findings::finding_line, crate::specs::Objects::object_text))]
-pub(crate) fn push_finding(
-    out: &mut Vec<u8>,
-    plan: &Dialplan,
-    finding: &Finding,
-) -> Result<(), NoMemory>
+fn push_finding(out: &mut Vec<u8>, plan: &Dialplan, finding: &Finding) -> Result<(), NoMemory>
     ensures { OnOk result (out.new.items ≡ out.old.items ++ spec.finding_line plan.now finding.now) }
 {
     begin_finding(out, kind_of(finding))?;
