@@ -1,1 +1,3 @@
+mod LinesLemmas
+mod ReadingLemmas
 mod StringLemmas

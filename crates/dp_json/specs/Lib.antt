@@ -1,7 +1,9 @@
 pub mod Entries
 pub mod Findings
+pub mod Lines
 pub mod Matches
 pub mod Notes
 pub mod Objects
+pub mod Reading
 pub mod Strings
 pub mod WideFindings

@@ -13,6 +13,7 @@
 
 mod entry;
 mod findings;
+pub mod laws;
 mod matching;
 mod notes;
 mod object;

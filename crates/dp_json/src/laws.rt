@@ -1,0 +1,32 @@
+//! Laws of the lines that are written.
+ghost use Rattle.std.specs.Prelude.{◌≡◌, ℕ, List, Some, length, true};
+ghost use Rattle.std.specs.List.{AllByRecursion};
+ghost use Rattle.json.specs.Json.{document, object};
+ghost use Rattle.dp_audit.specs.declared.candidate.Candidate.{Candidate};
+ghost use Rattle.dp_audit.specs.declared.finding.Finding.{Finding};
+ghost use Rattle.dp_plan.specs.Plan.{PlanOf};
+ghost use Rattle.dp_json.specs.Findings.{findings_text};
+ghost use Rattle.dp_json.specs.Lines.{is_line, line_count};
+ghost use Rattle.dp_json.specs.Matches.{candidates_text};
+ghost use Rattle.dp_json.specs.Objects.{Field, object_text};
+ghost use Rattle.dp_json.specs.Reading.{IsField, members_read};
+ghost use Rattle.dp_json.specs.WideFindings.{wide_text};
+ghost use Rattle.dp_wide_runs.specs.declared.wide_finding.WideFinding.{WideFinding};
+
+/// The line of an object has one line feed, at its end. This function does nothing.
+pub fn an_object_is_one_line()
+    ensures { (fields : List Field) → is_line (object_text fields) ≡ true }
+{}
+
+/// Findings and candidates have as many lines as there are. This function does nothing.
+pub fn each_finding_has_one_line()
+    ensures findings { (plan : PlanOf) (findings : List Finding) → line_count (findings_text plan findings) ≡ length findings }
+    ensures wide { (plan : PlanOf) (findings : List WideFinding) → line_count (wide_text plan findings) ≡ length findings }
+    ensures candidates { (plan : PlanOf) (priority : ℕ) (candidates : List Candidate)
+        → line_count (candidates_text plan priority candidates) ≡ length candidates }
+{}
+
+/// A reader of JSON reads the fields of an object back from its line, by the grammar of the kit's reader. This function does nothing.
+pub fn an_object_reads_back()
+    ensures { (fields : List Field) → AllByRecursion IsField fields → document (object_text fields) ≡ Some (object (members_read fields)) }
+{}
