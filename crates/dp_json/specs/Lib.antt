@@ -3,6 +3,7 @@ pub mod Findings
 pub mod Lines
 pub mod Matches
 pub mod Notes
+pub mod Notices
 pub mod Objects
 pub mod Reading
 pub mod Strings

@@ -16,14 +16,18 @@ mod findings;
 pub mod laws;
 mod matching;
 mod notes;
+mod notices;
 mod object;
 mod string;
 mod wide_findings;
 
 pub use dp_audit::{Candidate, Finding, Verdict};
+pub use dp_files::SourceFile;
+pub use dp_notices::{NotedLine, Notice, Shown};
 pub use dp_plan::{Dialplan, EntryId, NoMemory, Note, NoteKind, Priority};
 pub use dp_wide_runs::WideFinding;
 pub use findings::{push_finding_count, push_findings};
 pub use matching::{push_candidates, push_match};
 pub use notes::{push_notes, push_plan_counts};
+pub use notices::{push_fault_count, push_notices, push_queue_count};
 pub use wide_findings::push_wide_findings;
