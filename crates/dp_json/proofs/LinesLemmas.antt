@@ -125,7 +125,7 @@ count_clear : (xs ys : List ℕ) → Clear xs → line_count (xs ++ 10 ∷ ys) �
 count_clear [] ys h = refl
 count_clear (x ∷ xs) ys h = count_by x (xs ++ 10 ∷ ys) h.0 ∙ count_clear xs ys h.1
 
-count_object : (fields : List Field) (ys : List ℕ) → line_count (object_text fields ++ ys) ≡ 1 + line_count ys
+pub count_object : (fields : List Field) (ys : List ℕ) → line_count (object_text fields ++ ys) ≡ 1 + line_count ys
 count_object fields ys =
     ap (λ (t : List ℕ). line_count (t ++ ys)) (with_feed fields)
     ∙ (ap line_count (append_assoc (before_feed fields) (10 ∷ []) ys) ∙ count_clear (before_feed fields) ys (clear_before fields))
