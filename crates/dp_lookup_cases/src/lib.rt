@@ -1,5 +1,5 @@
 //! Cases of look-ups through lists of entries and through tries, of their use in an audit, of what answers differently after a
-//! change, and of pictures of dialplans, as tables with their answers.
+//! change, of pictures of dialplans, and of findings as JSON, as tables with their answers.
 //!
 //! A crate with tests is proved twice, so the cases of the libraries are in crates of their own, where each is proved once.
 #![tactic(auto)]
@@ -12,5 +12,7 @@ mod endless;
 mod graph;
 #[cfg(test)]
 mod lookup;
+#[cfg(test)]
+mod objects;
 #[cfg(test)]
 mod trie;

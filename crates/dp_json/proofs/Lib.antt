@@ -1,0 +1,5 @@
+mod LinesLemmas
+mod NoticesLemmas
+mod ReadingLemmas
+mod StringLemmas
+mod Utf8Lemmas

@@ -1,0 +1,10 @@
+pub mod Entries
+pub mod Findings
+pub mod Lines
+pub mod Matches
+pub mod Notes
+pub mod Notices
+pub mod Objects
+pub mod Reading
+pub mod Strings
+pub mod WideFindings

@@ -1,0 +1,33 @@
+//! What the commands find, as JSON for other tools: an object on a line of its own for each line that a command prints. No command uses it
+//! yet.
+//!
+//! ```text
+//! LINE  = '{' FIELD (',' FIELD)* '}' LINE-FEED
+//! FIELD = STRING ':' (STRING | NUMBER)
+//! ```
+//!
+//! The first field of each object is `type`, with a word for what the object tells of. A field that does not apply is left out. Which
+//! fields an object has is this program's own choice. So is how a text is written that is not UTF-8: its bytes count as characters of
+//! Latin-1.
+#![tactic(auto)]
+
+mod entry;
+mod findings;
+pub mod laws;
+mod matching;
+mod notes;
+mod notices;
+mod object;
+mod string;
+mod wide_findings;
+
+pub use dp_audit::{Candidate, Finding, Verdict};
+pub use dp_files::SourceFile;
+pub use dp_notices::{NotedLine, Notice, Shown};
+pub use dp_plan::{Dialplan, EntryId, NoMemory, Note, NoteKind, Priority};
+pub use dp_wide_runs::WideFinding;
+pub use findings::{push_finding_count, push_findings};
+pub use matching::{push_candidates, push_match};
+pub use notes::{push_notes, push_plan_counts};
+pub use notices::{push_fault_count, push_notices, push_queue_count};
+pub use wide_findings::push_wide_findings;
