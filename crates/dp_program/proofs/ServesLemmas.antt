@@ -1,5 +1,5 @@
 -- The output and result of a request that is refused: no output, and the fault.
-use Rattle.std.proofs.Common.{◌≡◌, ℕ, Bool, true, false, List, max, Option, Some, None, Result, Ok, Err, refl, sym, ap, ◌∙◌, subst, inl, arith}
+use Rattle.std.proofs.Common.{◌≡◌, ℕ, Bool, true, false, List, [], max, Option, Some, None, Result, Ok, Err, refl, sym, ap, ◌∙◌, subst, inl, arith}
 use Rattle.std.specs.Option.{option_map}
 use Rattle.std.proofs.KnownBytes.{Appends-nil}
 use Rattle.dp_conf.specs.Answers.{Refuses, ◌>>=◌}
@@ -674,30 +674,30 @@ diff_after_lacks clock files before_path after_path old before =
     dialplan_lacks (DiffsTexts files before_path after_path old old before) after_path old (diff_texts_lack files before_path after_path old before) Report clock files
 
 -- memory may run out before a picture is written
-pub draws_lack : (drawing : DrawingOf) (explains : Bool) (old : Option (List ℕ)) (given : Result Files PbxFault) → Draws drawing explains given old old (Err NoMemory)
-draws_lack drawing explains old (Ok files) = inl (Appends-nil old)
-draws_lack drawing explains old (Err fault) = Appends-nil old
+pub draws_lack : (question : DrawingOf) (explains : Bool) (old : Option (List ℕ)) (given : Result Files PbxFault) → Draws question explains given old old (Err NoMemory)
+draws_lack question explains old (Ok files) = inl (Appends-nil old)
+draws_lack question explains old (Err fault) = Appends-nil old
 
-graphs_lack : (files : List ℕ → Source) (drawing : DrawingOf) (explains : Bool) (old : Option (List ℕ)) → GraphsFiles files drawing explains old old (Err (nowhere NoMemory))
-graphs_lack files drawing explains old =
-    Reads-any (files drawing.file) _ (λ plan. ReadsSome-any (option_map files drawing.queues) _ (λ queues. (
-      draws_lack drawing explains old (contents_in plan queues),
-      lacks_files_place drawing.file drawing.queues plan queues,
+graphs_lack : (files : List ℕ → Source) (question : DrawingOf) (explains : Bool) (old : Option (List ℕ)) → GraphsFiles files question explains old old (Err (nowhere NoMemory))
+graphs_lack files question explains old =
+    Reads-any (files question.file) _ (λ plan. ReadsSome-any (option_map files question.queues) _ (λ queues. (
+      draws_lack question explains old (contents_in plan queues),
+      lacks_files_place question.file question.queues plan queues,
     )))
 
-pub graph_text_lacks : (files : List ℕ → Source) (drawing : DrawingOf) (explains : Bool) (old : Option (List ℕ)) (plan : PlanTextOf)
-    → GraphsText files drawing explains old old plan (Err (nowhere NoMemory))
-graph_text_lacks files drawing explains old plan = graphs_lack (with_text files drawing.file plan.text) drawing explains old
+pub graph_text_lacks : (files : List ℕ → Source) (question : DrawingOf) (explains : Bool) (old : Option (List ℕ)) (plan : PlanTextOf)
+    → GraphsText files question explains old old plan (Err (nowhere NoMemory))
+graph_text_lacks files question explains old plan = graphs_lack (with_text files question.file plan.text) question explains old
 
-graph_queues_lack : (files : List ℕ → Source) (drawing : DrawingOf) (explains : Bool) (old : Option (List ℕ)) (plan : PlanTextOf) (queues : Option (List ℕ))
-    → GraphsWithQueues files drawing explains old old plan queues (Err (nowhere NoMemory))
-graph_queues_lack files drawing explains old plan None = graph_text_lacks files drawing explains old plan
-graph_queues_lack files drawing explains old plan (Some queues) =
-    queues_lack files queues (λ files. GraphsText files drawing explains old old plan) old (λ files. graph_text_lacks files drawing explains old plan)
+graph_queues_lack : (files : List ℕ → Source) (question : DrawingOf) (explains : Bool) (old : Option (List ℕ)) (plan : PlanTextOf) (queues : Option (List ℕ))
+    → GraphsWithQueues files question explains old old plan queues (Err (nowhere NoMemory))
+graph_queues_lack files question explains old plan None = graph_text_lacks files question explains old plan
+graph_queues_lack files question explains old plan (Some queues) =
+    queues_lack files queues (λ files. GraphsText files question explains old old plan) old (λ files. graph_text_lacks files question explains old plan)
 
-pub graph_plan_lacks : (files : List ℕ → Source) (drawing : DrawingOf) (explains : Bool) (old : Option (List ℕ)) (plan : PlanTextOf)
-    → GraphsPlan files drawing explains old old plan (Err (nowhere NoMemory))
-graph_plan_lacks files drawing explains old plan = graph_queues_lack files drawing explains old plan drawing.queues
+pub graph_plan_lacks : (files : List ℕ → Source) (question : DrawingOf) (explains : Bool) (old : Option (List ℕ)) (plan : PlanTextOf)
+    → GraphsPlan files question explains old old plan (Err (nowhere NoMemory))
+graph_plan_lacks files question explains old plan = graph_queues_lack files question explains old plan question.queues
 
 -- memory may run out before a request does anything
 pub Serves-lacks : (files : List ℕ → Source) (input : Source) (want : RequestOf) (options : OptionsOf) (old : Option (List ℕ)) → Serves files input want options old old (Err (nowhere NoMemory))

@@ -1,5 +1,5 @@
-use Rattle.std.proofs.Common.{ℕ, List, Some, Err, sym, subst}
-use Rattle.dp_program.specs.Dialplans.{text_now}
+use Rattle.std.proofs.Common.{ℕ, List, Err, sym, subst}
+use Rattle.dp_program.specs.Dialplans.{text_now, with_text}
 use Rattle.dp_program.specs.Files.{Source}
 use Rattle.dp_program.specs.Graphs.{GraphsText}
 use Rattle.dp_program.specs.Including.{MayTellOf}
@@ -35,4 +35,5 @@ returns-in-Ok-Given-Some-clause-serves g c =
     let plan = text_now c.args.queued.plan.now in
     queues_known queues (MayTellOf files queues) _
     (λ read. OnQueues files queues (λ (files : List ℕ → Source). GraphsText files drawing explains old new plan) old new read c.draw_plan.result)
-    (rw c.in-Ok-Given-Some.field-0-is at c.in-Ok-Given-Some.ensures.read) c.draw_plan.ensures.serves
+    (rw c.in-Ok-Given-Some.field-0-is at c.in-Ok-Given-Some.ensures.read)
+    (subst (λ (text : List ℕ). GraphsText (with_text files queues text) drawing explains old new plan c.draw_plan.result) c.deref.ensures.value c.draw_plan.ensures.serves)
