@@ -35,5 +35,5 @@ returns-in-Ok-Given-Some-clause-serves g c =
     let plan = text_now c.args.queued.plan.now in
     queues_known queues (MayTellOf files queues) _
     (λ read. OnQueues files queues (λ (files : List ℕ → Source). GraphsText files drawing explains old new plan) old new read c.draw_plan.result)
-    (rw c.in-Ok-Given-Some.field-0-is at c.in-Ok-Given-Some.ensures.read)
+    (rw (c.in-Ok-Given-Some.field-0-is, c.in-Ok-Given-Some.field-0-0-is) at c.in-Ok-Given-Some.ensures.read)
     (subst (λ (text : List ℕ). GraphsText (with_text files queues text) drawing explains old new plan c.draw_plan.result) c.deref.ensures.value c.draw_plan.ensures.serves)
