@@ -381,7 +381,7 @@ fn debug_request<'a>(given: &ArgMatches<'a>) -> Option<Request<'a>>
 
 /// The request of `test` on these files.
 fn test_of<'a>(given: &ArgMatches<'_>, files: Vec<&'a str>) -> Request<'a>
-    ensures { request_asked result ≡ spec.test_of (rows_of (found_of given.now)) (map (λ file. file.now) files.items) }
+    ensures { request_asked result ≡ spec.test_of (rows_of (found_of given.now)) (map (λ file. file.now) files.entry.items) }
 {
     Request::Test {
         files,
