@@ -144,7 +144,14 @@ pub(crate) fn word_of<'a>(given: &ArgMatches<'a>, name: &str) -> Option<&'a str>
     given.get_str(name)
 }
 
-/// All words with this name among the words of a command, if there are any.
+/// All words with this name among the words of a command, if there are any, as they are kept.
+fn kept_words<'r, 'a>(given: &'r ArgMatches<'a>, name: &str) -> Option<&'r [&'a str]>
+    ensures { option_map (λ words. map (λ word. word.now) words.now) result ≡ all_of name.now (rows_of (found_of given.now)) }
+{
+    given.get_strs(name)
+}
+
+/// The same, as a list of their own.
 fn words_of<'a>(
     alloc: Global,
     given: &ArgMatches<'a>,
@@ -152,7 +159,7 @@ fn words_of<'a>(
 ) -> Result<Option<Vec<&'a str>>, NoMemory>
     ensures { IfOk result (λ words. option_map (λ words. map (λ word. word.now) words.items) words ≡ all_of name.now (rows_of (found_of given.now))) }
 {
-    match given.get_strs(name) {
+    match kept_words(given, name) {
         Some(words) => Ok(Some(Vec::from_slice(alloc, words)?)),
         None => Ok(None),
     }
