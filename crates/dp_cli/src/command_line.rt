@@ -1,5 +1,5 @@
 //! The command line: what its words ask for.
-ghost use Rattle.std.specs.Prelude.{◌≡◌, IfOk, IfErr, Some, is_some, codes, map, option_map, true, false};
+ghost use Rattle.std.specs.Prelude.{◌≡◌, [], IfOk, IfErr, Some, is_some, codes, map, option_map, true, false};
 ghost use Rattle.std.specs.Option.{option_and_then};
 ghost use Rattle.clap.specs.Faults.{fault_of};
 ghost use Rattle.clap.specs.Kinds.{FailsBy};
@@ -398,8 +398,9 @@ fn test_of<'a>(given: &ArgMatches<'_>, files: Vec<&'a str>) -> Request<'a>
 }
 
 /// The request of `test`.
-fn test_request<'a>(alloc: Global, given: &ArgMatches<'a>) -> Result<Option<Request<'a>>, NoMemory>
-    ensures { IfOk result (λ request. option_map request_asked request ≡ spec.test_asked (rows_of (found_of given.now))) }
+fn test_request<'a>(alloc: Global, given: &ArgMatches<'a>) -> Result<Option<Request<'a>>, Error>
+    ensures asked { IfOk result (λ request. option_map request_asked request ≡ spec.test_asked (rows_of (found_of given.now))) }
+    ensures kinds { FailsBy [] result }
 {
     match words_of(alloc, given, "FILE")? {
         Some(files) => Ok(Some(test_of(given, files))),
@@ -484,7 +485,7 @@ fn command_request<'a>(
         "match" => match_request(alloc, given),
         "run" => run_request(alloc, given),
         "debug" => Ok(debug_request(given)),
-        "test" => Ok(test_request(alloc, given)?),
+        "test" => test_request(alloc, given),
         "audit" => audit_request(alloc, given),
         "diff" => Ok(diff_request(given)),
         "graph" => Ok(graph_request(given)),

@@ -15,6 +15,11 @@ returns-in-run-clause-kinds c =
     let P : List ℕ → Type 0 = λ name. FailsBy (command_kinds name (rows_of (found_of c.args.given.now))) c.run_request.result in
     subst P (sym c.in-run.is) c.run_request.ensures.kinds
 
+pub returns-in-test-clause-kinds : goal.returns-in-test-clause-kinds
+returns-in-test-clause-kinds c =
+    let P : List ℕ → Type 0 = λ name. FailsBy (command_kinds name (rows_of (found_of c.args.given.now))) c.test_request.result in
+    subst P (sym c.in-test.is) c.test_request.ensures.kinds
+
 pub returns-in-audit-clause-kinds : goal.returns-in-audit-clause-kinds
 returns-in-audit-clause-kinds c =
     let P : List ℕ → Type 0 = λ name. FailsBy (command_kinds name (rows_of (found_of c.args.given.now))) c.audit_request.result in
