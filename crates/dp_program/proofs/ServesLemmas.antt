@@ -22,7 +22,7 @@ use Rattle.dp_program.specs.Checks.{both_report}
 use Rattle.dp_program.specs.Dialplans.{PlanTextOf, moment_in, with_text}
 use Rattle.dp_program.specs.Faulted.{StandsIn, in_none, nowhere, place_by, place_in_file, place_in_files, place_in_two, place_of, place_of_report, place_of_run, place_of_two, place_unread, without_place, unread_fault, unread_path, unread_place}
 use Rattle.dp_program.specs.Files.{Source, Reads}
-use Rattle.dp_program.specs.Graphs.{Draws, GraphsFiles, GraphsPlan, GraphsText, GraphsWithQueues}
+use Rattle.dp_program.specs.Graphs.{Draws, GraphsFiles, GraphsPlan, GraphsText, GraphsWide, GraphsWithQueues}
 use Rattle.dp_program.specs.Hints.{Tells, audit_hint_of, match_hint_of, status_in}
 use Rattle.dp_program.specs.PlanAndQueues.{contents_in, place_of_files}
 use Rattle.dp_program.specs.Reaches.{Reaches}
@@ -699,6 +699,12 @@ pub graph_plan_lacks : (files : List ℕ → Source) (question : DrawingOf) (exp
     → GraphsPlan files question explains old old plan (Err (nowhere NoMemory))
 graph_plan_lacks files question explains old plan = graph_queues_lack files question explains old plan question.queues
 
+graph_wide_lacks : (from clock : Option (List ℕ)) (files : List ℕ → Source) (question : DrawingOf) (explains : Bool) (old : Option (List ℕ))
+    → GraphsWide from clock files question explains old old (Err (nowhere NoMemory))
+graph_wide_lacks None clock files question explains old =
+    dialplan_lacks (GraphsPlan files question explains old old) question.file old (graph_plan_lacks files question explains old) Report clock files
+graph_wide_lacks (Some context) clock files question explains old = (Appends-nil old, refl)
+
 -- memory may run out before a request does anything
 pub Serves-lacks : (files : List ℕ → Source) (input : Source) (want : RequestOf) (options : OptionsOf) (old : Option (List ℕ)) → Serves files input want options old old (Err (nowhere NoMemory))
 Serves-lacks files input joined options old = ((Reads-any input _ (λ text. writes_lacks old _), refl), tt)
@@ -747,8 +753,7 @@ Serves-lacks files input (comparing_files before after) options old =
     dialplan_lacks (DiffsAfter options.clock files before after old old) before old (diff_after_lacks options.clock files before after old) Report options.clock files
 Serves-lacks files input (drawing question) options old = graphs_lack files question options.explains old
 Serves-lacks files input (drawing_files question) options old =
-    dialplan_lacks (GraphsPlan files question options.explains old old) question.file old (graph_plan_lacks files question options.explains old) Report
-    options.clock files
+    graph_wide_lacks question.from options.clock files question options.explains old
 Serves-lacks files input (reaching question) options old =
     Reads-any (files question.file) _ (λ plan. ReadsSome-any (option_map files question.queues) _ (λ queues. (
       reaches_lacks question options.explains old (plan >>= λ plan. some_text queues >>= λ queues. files_of plan queues),

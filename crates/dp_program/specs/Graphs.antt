@@ -1,5 +1,5 @@
 -- What is written about a dialplan as a picture, with the ways out of its queues.
-use Rattle.std.specs.Prelude.{◌≡◌, ◌⊎◌, ℕ, Bool, ◌==◌, List, [], ◌∷◌, length, map, Option, Some, None, Result, Ok, Err, if◌then◌else◌}
+use Rattle.std.specs.Prelude.{◌≡◌, ◌⊎◌, ℕ, Bool, ◌==◌, List, [], ◌∷◌, length, map, codes, Option, Some, None, Result, Ok, Err, if◌then◌else◌}
 use Rattle.std.specs.Io.KnownBytes.{Appends}
 use Rattle.std.specs.List.{flat_map}
 use Rattle.std.specs.Option.{option_map_or, option_to_list}
@@ -18,7 +18,7 @@ use Rattle.dp_commands.specs.declared.fault.PbxFault.TheVariants.{Coded, NoMemor
 use Rattle.dp_graph.specs.Picture.{picture_of}
 use Rattle.dp_graph.specs.Printing.{text_of}
 use Rattle.dp_graph.specs.declared.exit.QueueExit.{QueueExit}
-use Rattle.dp_program.specs.Dialplans.{PlanTextOf, ReadsDialplan, with_text}
+use Rattle.dp_program.specs.Dialplans.{PlanTextOf, ReadsDialplan, TellsFaults, with_text}
 use Rattle.dp_program.specs.Files.{Source}
 use Rattle.dp_program.specs.PlanAndQueues.{OnFiles}
 use Rattle.dp_program.specs.QueueTexts.{ReadsQueues}
@@ -130,3 +130,12 @@ GraphsPlan files drawing explains old new plan answered = GraphsWithQueues files
 abbrev pub GraphsIncluding : Option (List ℕ) → (List ℕ → Source) → DrawingOf → Bool → Option (List ℕ) → Option (List ℕ) → Result Served Faulted → Type 0
 GraphsIncluding clock files drawing explains old new answered =
     ReadsDialplan Report clock files drawing.file (GraphsPlan files drawing explains old new) old new answered
+
+-- the line for a context that is named where it is not known what a call reaches
+unfoldable pub from_refused : List ℕ
+from_refused = codes "pbx: --from cannot be used with --asterisk yet: what a call reaches by the applications of this option is not known\n"
+
+-- the same, unless a context is named: then nothing is written, and the line is the hint
+abbrev pub GraphsWide : Option (List ℕ) → Option (List ℕ) → (List ℕ → Source) → DrawingOf → Bool → Option (List ℕ) → Option (List ℕ) → Result Served Faulted → Type 0
+GraphsWide None clock files drawing explains old new answered = GraphsIncluding clock files drawing explains old new answered
+GraphsWide (Some context) clock files drawing explains old new answered = TellsFaults from_refused old new answered

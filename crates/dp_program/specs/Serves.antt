@@ -19,7 +19,7 @@ use Rattle.dp_program.specs.Diffs.{DiffsFiles}
 use Rattle.dp_program.specs.Entries.{entry_of, explanation_of}
 use Rattle.dp_program.specs.Faulted.{StandsIn, in_none, place_of_report, place_of_run, place_of_two, without_place}
 use Rattle.dp_program.specs.Files.{Source, Reads, has_read_failed}
-use Rattle.dp_program.specs.Graphs.{GraphsFiles, GraphsIncluding}
+use Rattle.dp_program.specs.Graphs.{GraphsFiles, GraphsWide}
 use Rattle.dp_program.specs.Hints.{Tells, TellsNothing, audit_hint_of, match_hint_of, status_in}
 use Rattle.dp_program.specs.Including.{ChecksBothIncluding, ChecksIncluding, ChecksQueuesIncluding}
 use Rattle.dp_program.specs.QueueTexts.{ReadsQueues}
@@ -369,7 +369,7 @@ Serves files input (comparing before after) options old new answered = Quietly (
 Serves files input (comparing_files before after) options old new answered = DiffsIncluding options.clock files before after old new answered
 Serves files input (drawing question) options old new answered = GraphsFiles files question options.explains old new answered
 Serves files input (drawing_files question) options old new answered =
-    GraphsIncluding options.clock files question options.explains old new answered
+    GraphsWide question.from options.clock files question options.explains old new answered
 Serves files input (reaching question) options old new answered = ReachesFiles files question options.explains old new answered
 
 -- whether a read of the input failed, given the result: only a request without a command reads the input

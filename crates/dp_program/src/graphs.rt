@@ -1,12 +1,12 @@
 //! The requests that write a dialplan as a picture.
-ghost use Rattle.std.specs.Prelude.{◌≡◌, ◌++◌, ◌||◌, IfOk, OnOk, Ok};
+ghost use Rattle.std.specs.Prelude.{◌≡◌, ◌++◌, ◌||◌, List, ℕ, Option, IfOk, OnOk, Ok, false};
 ghost use Rattle.std.specs.Option.{option_map};
 ghost use Rattle.indexmap.specs.IndexSet.{insert_all};
 ghost use Rattle.dp_answer.specs.Asks.{ask_of as ask_texts};
 ghost use Rattle.dp_audit.specs.Candidates.{same_id};
 ghost use Rattle.dp_commands.specs.Faults.{is_write_failed};
 ghost use Rattle.dp_commands.specs.Run.{files_of};
-ghost use Rattle.dp_program.specs.Dialplans.{text_now};
+ghost use Rattle.dp_program.specs.Dialplans.{TellsFaults, text_now};
 ghost use Rattle.dp_program.specs.Faulted.{without_place};
 ghost use Rattle.dp_program.specs.Graphs as spec;
 ghost use Rattle.dp_program.specs.Requests.{drawing_of, options_of};
@@ -290,7 +290,7 @@ fn draw_with_queues<'a, F: ReadFiles, W: WriteTold>(
 
 /// Writes the picture of the dialplan of a file and of those that it includes, with the ways out of the queues of another file and of those
 /// that it includes, if it is named.
-pub(crate) fn serve_graph_including<'a, F: ReadFiles, W: WriteTold>(
+fn draw_including<'a, F: ReadFiles, W: WriteTold>(
     files: &F,
     alloc: Global,
     question: &GraphQuestion<'a>,
@@ -309,5 +309,43 @@ pub(crate) fn serve_graph_including<'a, F: ReadFiles, W: WriteTold>(
         Ok(ReadDialplan::Loads(plan)) => draw_with_queues(files, alloc, asked, &plan, output),
         Ok(ReadDialplan::Faulty(told)) => Ok(faulty(told)),
         Err(unread) => Err(Faulted::from(unread)),
+    }
+}
+
+/// The line for `--from` beside `--asterisk`.
+#[tactic(auto, unfolding(crate::specs::Graphs::from_refused))]
+fn from_refused() -> &'static [u8]
+    ensures { result.now ≡ spec.from_refused }
+{
+    b"pbx: --from cannot be used with --asterisk yet: what a call reaches by the applications of this option is not known\n"
+}
+
+/// The result of a request that names a context where it is not known what a call reaches.
+fn refuse_from<'a>(alloc: Global) -> Result<Served, Faulted<'a>>
+    ensures tells { (old : Option (List ℕ)) → TellsFaults spec.from_refused old old result }
+    ensures told { is_write_failed (without_place result) ≡ false }
+{
+    match Vec::from_slice(alloc, from_refused()) {
+        Ok(told) => Ok(faulty(told)),
+        Err(_) => Err(Faulted::from(PbxFault::NoMemory)),
+    }
+}
+
+/// Writes the picture of the dialplan of a file and of those that it includes, unless a context is named: which entries a call reaches is
+/// known only over the applications of this program.
+pub(crate) fn serve_graph_including<'a, F: ReadFiles, W: WriteTold>(
+    files: &F,
+    alloc: Global,
+    question: &GraphQuestion<'a>,
+    options: Options<'_>,
+    output: &mut W,
+) -> Result<Served, Faulted<'a>>
+    ensures serves { spec.GraphsWide (drawing_of question.now).from (options_of options.entry).clock (F.source_at files.now) (drawing_of question.now)
+        (options_of options.entry).explains (W.contents output.old) (W.contents output.new) result }
+    ensures told { W.has_failed output.new ≡ (W.has_failed output.old || is_write_failed (without_place result)) }
+{
+    match question.from {
+        Some(_) => refuse_from(alloc),
+        None => draw_including(files, alloc, question, options, output),
     }
 }

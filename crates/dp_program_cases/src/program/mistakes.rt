@@ -538,7 +538,8 @@ Prints a picture in the DOT language, which `dot` of Graphviz makes into an imag
 in which a look-up tries them, and what each does first. Arrows are dashed for includes, solid for jumps, double for subroutines, and
 dotted for the ways out of queues, which --queues names. A target that only the call decides is a diamond; one that does not exist is red.
 
-With --from CONTEXT the entries that a call from CONTEXT may run are filled, as `pbx reach` finds them, and all others are grey.
+With --from CONTEXT the entries that a call from CONTEXT may run are filled, as `pbx reach` finds them, and all others are grey. This cannot
+be used with --asterisk yet.
 
 With --asterisk included files, templates and block comments are read too. If lines have faults, each fault is printed on standard
 error with its file and line, and the status is 1.

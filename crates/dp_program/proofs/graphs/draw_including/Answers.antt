@@ -7,7 +7,7 @@ use Rattle.dp_program.specs.declared.dialplans.PlanUse.TheVariants.{Report}
 use Rattle.dp_program.specs.declared.faulted.Faulted.{Faulted}
 use Rattle.dp_program.proofs.DialplanLemmas.{dialplan_known, dialplan_refused}
 use Rattle.dp_program.proofs.ServesLemmas.{graph_plan_lacks}
-use Rattle.dp_program.proofs.graphs.serve_graph_including.Goals as goal
+use Rattle.dp_program.proofs.graphs.draw_including.Goals as goal
 
 -- the picture is that of the generated text
 pub returns-in-Ok-Loads-clause-serves : goal.returns-in-Ok-Loads-clause-serves
