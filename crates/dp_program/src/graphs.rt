@@ -320,14 +320,22 @@ fn from_refused() -> &'static [u8]
     b"pbx: --from cannot be used with --asterisk yet: what a call reaches by the applications of this option is not known\n"
 }
 
+/// The same, as a hint.
+fn refusal_of_from(alloc: Global) -> Result<Vec<u8>, NoMemory>
+    ensures { IfOk result (λ told. told.items ≡ spec.from_refused) }
+{
+    let told = Vec::from_slice(alloc, from_refused())?;
+    Ok(told)
+}
+
 /// The result of a request that names a context where it is not known what a call reaches.
 fn refuse_from<'a>(alloc: Global) -> Result<Served, Faulted<'a>>
     ensures tells { (old : Option (List ℕ)) → TellsFaults spec.from_refused old old result }
     ensures told { is_write_failed (without_place result) ≡ false }
 {
-    match Vec::from_slice(alloc, from_refused()) {
+    match refusal_of_from(alloc) {
         Ok(told) => Ok(faulty(told)),
-        Err(_) => Err(Faulted::from(PbxFault::NoMemory)),
+        Err(refused) => Err(Faulted::from(PbxFault::from(refused))),
     }
 }
 
