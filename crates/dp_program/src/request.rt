@@ -207,8 +207,9 @@ pub enum Request<'a> {
     Graph {
         question: GraphQuestion<'a>,
     },
-    /// `graph --asterisk [--queues QUEUES] [--from CONTEXT] FILE`: does the same for a dialplan and queues that are read from a file each and from those that
-    /// it includes. If the dialplan has a fault, or the queues have anything that this program cannot follow, nothing is written.
+    /// `graph --asterisk [--queues QUEUES] FILE`: does the same for a dialplan and queues that are read from a file each and from those that
+    /// it includes. If the dialplan has a fault, or the queues have anything that this program cannot follow, nothing is written. A context
+    /// is refused, since it is not known what a call reaches by the applications of the wide table.
     GraphIncluding {
         question: GraphQuestion<'a>,
     },
