@@ -116,10 +116,11 @@ fn candidates_text(
     Ok(text)
 }
 
-/// The extensions that match a dialled text, searched from a context, each with what decides about it. Dashes make no difference, so they
-/// are dropped first.
+/// The extensions that match a dialled text, searched from a context, each with what decides about it at a priority. They are in the order
+/// in which a look-up tries them (dialplan, pattern matching). Dashes make no difference, so they are dropped first. It fails only if
+/// memory runs out.
 #[tactic(auto, using(crate::proofs::DashesLemmas::candidates_undashed))]
-fn find_candidates(
+pub fn find_candidates(
     alloc: Global,
     plan: &Dialplan,
     context: &[u8],

@@ -27,7 +27,7 @@ mod verbose_debug;
 
 pub use begun::{Files, read_files};
 pub use block::Block;
-pub use candidates::match_all;
+pub use candidates::{find_candidates, match_all};
 pub use debug::{debug_script, push_end, read_break};
 pub use explained::{FileLine, line_in};
 pub use explanations::Explanations;
@@ -37,7 +37,9 @@ pub use in_force::{PlanNames, PlanPlaces};
 pub use joined::run_joined;
 pub use line_places::{LinePlaces, LinePosition, SourceLines};
 pub use reading::{ReadLine, read_script_by};
-pub use report::{LoadedPlan, check, check_explained, list_plan, match_one, read_plan};
+pub use report::{
+    LoadedPlan, check, check_explained, find_answer, list_plan, match_one, read_plan,
+};
 pub use run::{run_lines, run_script, take_event, take_show};
 pub use script::{PlainLines, ScriptLine, Turn, read_script};
 pub use script_line::{number_within, read_channel, words};

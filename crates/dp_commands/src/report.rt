@@ -246,10 +246,11 @@ pub(crate) fn without_dashes(alloc: Global, text: &[u8]) -> Result<Vec<u8>, NoMe
     Ok(digits)
 }
 
-/// The entry that answers a dialled text at a priority, searched from a context. Dashes make no difference, so they are dropped first:
-/// otherwise each name that is tried would have to pass over them.
+/// The entry that answers a dialled text at a priority, searched from a context; None if none does (dialplan, pattern matching). Dashes make
+/// no difference, so they are dropped first: otherwise each name that is tried would have to pass over them. It fails only if memory runs
+/// out.
 #[tactic(auto, using(crate::proofs::DashesLemmas::found_undashed))]
-pub(crate) fn find_answer(
+pub fn find_answer(
     alloc: Global,
     plan: &Dialplan,
     context: &[u8],

@@ -23,6 +23,7 @@ mod wide_turn;
 pub use debug::{debug_wide, debug_wide_verbose};
 pub use kinds::{AuditChoice, KindChoice, are_kinds};
 pub use run::run_wide;
+pub use told::find_told;
 pub use verbose::run_wide_verbose;
 pub use wide_audit::audit_by;
 pub use wide_finding::WideFinding;

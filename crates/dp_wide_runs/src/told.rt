@@ -286,8 +286,8 @@ fn push_functions(
     push_no_functions(list, alloc, plan)
 }
 
-/// All reported findings on a dialplan.
-pub(crate) fn find_told(
+/// All findings on a dialplan that an audit with this choice reports, in their order. It fails only if memory runs out.
+pub fn find_told(
     alloc: Global,
     plan: &Dialplan,
     choice: AuditChoice<'_>,
