@@ -1,5 +1,5 @@
 -- A closed audit is right about every run from the beginning.
-use Rattle.std.proofs.Common.{◌≡◌, inl, inr, ℕ, ◌+◌, ◌-◌, ◌≤◌, ◌==◌, nat_lt, nat_eq, Bool, true, false, cond, List, [], ◌∷◌, ◌++◌, length, map, codes, Some, None, slice_get, unwrap_or, refl, sym, subst, arith, if◌then◌else◌}
+use Rattle.std.proofs.Common.{◌≡◌, inl, inr, ℕ, ◌+◌, ◌-◌, ◌≤◌, ◌==◌, nat_lt, nat_eq, Bool, true, false, cond, List, [], ◌∷◌, ◌++◌, length, map, codes, Option, Some, None, slice_get, unwrap_or, refl, sym, subst, arith, if◌then◌else◌}
 use Rattle.std.proofs.lemmas.List.{length-append}
 use Rattle.std.proofs.lemmas.Option.{slice_get_past}
 use Rattle.std.specs.Cmp.Lexicographic.{pointwise}
@@ -12,10 +12,10 @@ use Rattle.dp_plan.specs.declared.plan.GlobalVariable.{GlobalVariable}
 use Rattle.dp_queue.specs.Queues.{QueuesOf}
 use Rattle.dp_vars.proofs.VariablesLemmas.{get-texts}
 use Rattle.dp_vars.specs.Sights.{QueueCounts, channel_map, given_by}
-use Rattle.dp_vars.specs.Values.{standard_functions}
+use Rattle.dp_vars.specs.Functions.{SettingTarget, Variable, Global, Local, Caller, Nothing}
 use Rattle.dp_vars.specs.Variables.{Named, first_value, value_or_empty}
 use Rattle.dp_app.specs.Lawful.{IsLawful}
-use Rattle.dp_app.specs.Rows.{Rows, with_standard_functions}
+use Rattle.dp_app.specs.Rows.{Rows, with_functions}
 use Rattle.dp_app.specs.declared.touch.Touch.{Touch}
 use Rattle.dp_machine.specs.Events.{Entered, event_row, new_channel, start_call}
 use Rattle.dp_machine.specs.Replay.{final_world, world_after}
@@ -29,15 +29,13 @@ use Rattle.dp_machine.specs.declared.refusal.Refusal.TheVariants.{NumbersSpent}
 use Rattle.dp_pieces.specs.Bytes.{Bytes, IsPart, Within}
 use Rattle.dp_pieces.specs.Names.{IsWhole, IsWithin, Names, variable_pieces}
 use Rattle.dp_pieces.specs.Pieces.{Fits, exactly, any_bytes_of, pieces_set}
-use Rattle.dp_pieces.specs.Texts.{text_set}
 use Rattle.dp_pieces.proofs.FitsLemmas.{fits-exactly, fits-any_bytes_of, fits-nothing}
-use Rattle.dp_pieces.proofs.TextLemmas.{within-expansion}
 use Rattle.dp_pieces.proofs.WithinLemmas.{within-more}
 use Rattle.dp_reach.specs.Areas.{Area, Covers, Includes, IsIn}
-use Rattle.dp_reach.specs.Audits.{IsAudit, IsFromOutside, IsOneOf, Outside, RunsOnly, entrance, names_outside}
-use Rattle.dp_reach.specs.Bounds.{AreBounded, Duties}
+use Rattle.dp_reach.specs.Audits.{IsAudit, IsGlobalWithin, IsFromOutside, IsOneOf, Outside, RunsOnly, entrance, names_outside}
+use Rattle.dp_reach.specs.Bounds.{AreBounded, Obligations}
 use Rattle.dp_reach.specs.Holding.{AreHeld, Claim, IsChannelIn}
-use Rattle.dp_reach.specs.Runs.{AreAllowed, IsAllowed, IsWorldIn, with_reach}
+use Rattle.dp_reach.specs.Runs.{AreAllowed, IsAllowed, MayAssign, MayBeSet, IsWorldIn, with_reach}
 use Rattle.dp_reach.proofs.SightLemmas.{within-first}
 use Rattle.dp_reach.proofs.StoreLemmas.{held-empty, held-insert}
 use Rattle.dp_reach.proofs.WorldLemmas.{each-more, stays-within, world-more}
@@ -83,27 +81,38 @@ nothing-part set byte is = absurd cc
 seen-globals : (names : Names) → IsWhole names → (counts : QueueCounts) (globals : Named) → AreHeld names globals → IsWithin (names_outside names) (sight_of_globals counts globals)
 seen-globals names whole counts globals held = record {
   variable = nothing-fits names globals held;
+  held = λ name. within-first names (globals ∷ []) name (held, tt);
   global = λ name. within-first names (globals ∷ []) name (held, tt);
   local = λ name. tt;
   caller = tt;
   whole = record { bytes = whole.bytes; exten = nothing-part names.all; context = nothing-part names.all; caller = whole.caller; digits = whole.digits };
 }
 
-globals-held : (names : Names) → IsWhole names → (counts : QueueCounts) (globals : Named) (variables : List GlobalVariable) → AreHeld names globals
-    → AllByRecursion (λ (variable : GlobalVariable). IsPart (text_set (names_outside names) variable.value) (names.bytes variable.name)) variables
-    → AreHeld names (globals_set standard_functions counts globals variables)
+globals-held : (owing : Obligations) (names : Names) → IsWhole names → (counts : QueueCounts) (globals : Named) (variables : List GlobalVariable) → AreHeld names globals
+    → AllByRecursion (IsGlobalWithin owing names) variables → AreHeld names (globals_set owing.functions counts globals variables)
 unfolding global_value
-globals-held names whole counts globals [] held all = held
-globals-held names whole counts globals (variable ∷ variables) held all =
-    globals-held names whole counts (with_global standard_functions counts globals variable) variables
-    (held-insert names globals variable.name (global_value standard_functions counts globals variable.value) held
-    (within-more (text_set (names_outside names) variable.value) _ all.0 (global_value standard_functions counts globals variable.value)
-    (within-expansion (names_outside names) (sight_of_globals counts globals) (seen-globals names whole counts globals held) variable.value)))
+globals-held owing names whole counts globals [] held all = held
+globals-held owing names whole counts globals (variable ∷ variables) held all =
+    globals-held owing names whole counts (with_global owing.functions counts globals variable) variables
+    (held-insert names globals variable.name (global_value owing.functions counts globals variable.value) held
+    (all.0 (sight_of_globals counts globals) (seen-globals names whole counts globals held)))
     all.1
 
-module _ (touches : List ℕ → Touch) (rows : Rows) (lawful : IsLawful touches rows) (duties : List ℕ → Duties) (bounded : AreBounded duties rows) (outside : Outside) (context : List ℕ)
-    (claim : Claim) (others : EntryId → Bool) (reach : List Area) (answers : EntryId → Bool) (audit : IsAudit duties outside context claim others reach answers) where
-  allowed-one : (event : Event) → IsFromOutside outside event → IsAllowed claim event
+module _ (touches : List ℕ → Touch) (rows : Rows) (lawful : IsLawful touches rows) (owing : Obligations) (bounded : AreBounded owing.duties rows) (outside : Outside) (context : List ℕ)
+    (claim : Claim) (others : EntryId → Bool) (reach : List Area) (answers : EntryId → Bool) (audit : IsAudit owing outside context claim others reach answers) where
+  -- a fact
+  allowed-target : (target : SettingTarget) (value : List ℕ) → Within outside.facts value → MayBeSet claim target value
+  allowed-target (Variable name) value is = within-more outside.facts (claim.names.bytes name) (audit.facts name) value is
+  allowed-target (Global name) value is = within-more outside.facts (claim.names.bytes name) (audit.facts name) value is
+  allowed-target (Local name) value is = within-more outside.facts (claim.names.bytes name) (audit.facts name) value is
+  allowed-target Caller value is = within-more outside.facts claim.names.caller audit.stated value is
+  allowed-target Nothing value is = tt
+
+  allowed-assign : (channel : Option ℕ) (name value : List ℕ) → Within outside.facts value → MayAssign owing.functions claim channel name value
+  allowed-assign None name value is = within-more outside.facts (claim.names.bytes name) (audit.facts name) value is
+  allowed-assign (Some number) name value is = allowed-target (owing.functions.target name) value is
+
+  allowed-one : (event : Event) → IsFromOutside outside event → IsAllowed owing.functions claim event
   allowed-one (Start at exten caller) is =
       in-new_channel claim at exten caller (covers-one claim outside outside.contexts audit.calls at exten caller is.0 is.1)
       (within-more outside.caller claim.names.caller audit.caller caller is.2)
@@ -118,10 +127,10 @@ module _ (touches : List ℕ → Touch) (rows : Rows) (lawful : IsLawful touches
   allowed-one (Decline agent) is = tt
   allowed-one (AgentDone agent) is = tt
   allowed-one (Reload text) is = is
-  allowed-one (Assign channel name value) is = is
+  allowed-one (Assign channel name value) is = allowed-assign channel name value is
   allowed-one (Redirect number place) is = is
 
-  allowed-all : (events : List Event) → AllByRecursion (IsFromOutside outside) events → AreAllowed claim events
+  allowed-all : (events : List Event) → AllByRecursion (IsFromOutside outside) events → AreAllowed owing.functions claim events
   allowed-all [] all = tt
   allowed-all (event ∷ events) all = (allowed-one event all.0, allowed-all events all.1)
 
@@ -129,7 +138,7 @@ module _ (touches : List ℕ → Touch) (rows : Rows) (lawful : IsLawful touches
   unfolding globals_of
   opens-in queues same = record {
     plan = refl;
-    shared = record { globals = globals-held claim.names audit.all.named.whole no_queues empty claim.plan.globals (held-empty claim.names) audit.globals; settings = same };
+    shared = record { globals = globals-held owing claim.names audit.all.named.whole no_queues empty claim.plan.globals (held-empty claim.names) audit.globals; settings = same };
     channels = λ number c is. none number c (number == 0) is;
   }
     where
@@ -137,10 +146,10 @@ module _ (touches : List ℕ → Touch) (rows : Rows) (lawful : IsLawful touches
       none number c true is = absurd cc
       none number c false is = absurd cc
 
-  worlds-in : (w : World) (events : List Event) → IsWorldIn claim w → AreAllowed claim events → IsWorldIn claim (world_after (with_standard_functions rows) w events)
+  worlds-in : (w : World) (events : List Event) → IsWorldIn claim w → AreAllowed owing.functions claim events → IsWorldIn claim (world_after (with_functions rows owing.functions) w events)
   worlds-in w [] world allowed = world
   worlds-in w (event ∷ events) world allowed =
-      worlds-in (final_world (with_standard_functions rows) w event) events (world-more touches rows lawful duties bounded claim others audit.all w event world allowed.0) allowed.1
+      worlds-in (final_world (with_functions rows owing.functions) w event) events (world-more touches rows lawful owing bounded claim others audit.all w event world allowed.0) allowed.1
 
   -- the number of the channel that comes in
   record ComesIn (channels : List Channel) (number : ℕ) : Type 0 where
@@ -162,7 +171,7 @@ module _ (touches : List ℕ → Touch) (rows : Rows) (lawful : IsLawful touches
       by n e false is = is
 
   comes-in : (w : World) (exten caller : List ℕ) (number : ℕ) → Within outside.exten exten → Within outside.caller caller
-      → (event_row (with_standard_functions rows) w (Start context exten caller)).1 ≡ Started number → ComesIn (final_world (with_standard_functions rows) w (Start context exten caller)).channels number
+      → (event_row (with_functions rows owing.functions) w (Start context exten caller)).1 ≡ Started number → ComesIn (final_world (with_functions rows owing.functions) w (Start context exten caller)).channels number
   unfolding start_call
   comes-in w exten caller number within is reply = by (nat_lt (length w.channels) most_channels) reply
     where
@@ -178,13 +187,13 @@ module _ (touches : List ℕ → Touch) (rows : Rows) (lawful : IsLawful touches
       by true reply = comes-more w.channels (new_channel context exten caller) number here (let e : length w.channels + 1 ≡ number = cc in e)
       by false reply = absurd cc
 
-  pub runs-only : RunsOnly rows outside context claim.plan claim.settings answers
+  pub runs-only : RunsOnly (with_functions rows owing.functions) outside context claim.plan claim.settings answers
   runs-only queues before later exten caller number settings all reply =
-      let w : World = world_after (with_standard_functions rows) (opening claim.plan queues) before in
+      let w : World = world_after (with_functions rows owing.functions) (opening claim.plan queues) before in
       let first = each-front (IsFromOutside outside) before (Start context exten caller ∷ later) all in
       let rest = each-rest (IsFromOutside outside) before (Start context exten caller ∷ later) all in
       let world = worlds-in (opening claim.plan queues) before (opens-in queues settings) (allowed-all before first) in
       let comes = comes-in w exten caller number rest.0.1 rest.0.2 reply in
-      stays-within touches rows lawful duties bounded claim others audit.all reach answers audit.own number (final_world (with_standard_functions rows) w (Start context exten caller)) later
-      (world-more touches rows lawful duties bounded claim others audit.all w (Start context exten caller) world (allowed-one (Start context exten caller) rest.0))
+      stays-within touches rows lawful owing bounded claim others audit.all reach answers audit.own number (final_world (with_functions rows owing.functions) w (Start context exten caller)) later
+      (world-more touches rows lawful owing bounded claim others audit.all w (Start context exten caller) world (allowed-one (Start context exten caller) rest.0))
       comes.channel comes.known (allowed-all later rest.1)

@@ -1,16 +1,17 @@
 -- A channel in the reach stays in it, whatever happens to it.
-use Rattle.std.proofs.Common.{◌≡◌, ◌⊎◌, inl, inr, ℕ, ◌+◌, Bool, true, false, List, [], ◌∷◌, Option, Some, None, unwrap_or, slice_get, refl, sym, ap, ◌∙◌, codes, if◌then◌else◌}
+use Rattle.std.proofs.Common.{◌≡◌, ◌⊎◌, inl, inr, ℕ, ◌+◌, ◌-◌, Bool, true, false, List, [], ◌∷◌, length, Option, Some, None, unwrap_or, slice_get, refl, sym, ap, ◌∙◌, codes, if◌then◌else◌}
 use Rattle.std.proofs.lemmas.Option.{slice_get-map}
 use Rattle.std.specs.List.{AllByRecursion}
 use Rattle.std.specs.Option.{option_map}
 use Rattle.dp_plan.specs.declared.entry.EntryId.{EntryId}
 use Rattle.dp_queue.specs.Queues.{QueueOf}
+use Rattle.dp_vars.specs.Stores.{Frame, innermost}
 use Rattle.dp_queue.specs.declared.settings.Settings.{Settings}
-use Rattle.dp_machine.specs.Channels.{Change, Stays, TalkEnds, Talks, after_cancel, after_change, after_digit, after_dialling, ends_call, going_on, goes_on_after, hung_up, invalid, is_invalid, at_target, left_queue, after_move, ready_at, ready_in, runs_hang_up, after_talk, timed_out, after_no_answer, without_digits, after_wait, after_application, with_dial_status, with_value, without_frames}
+use Rattle.dp_machine.specs.Channels.{Change, Stays, TalkEnds, Talks, after_cancel, after_change, after_digit, after_dialling, ends_call, going_on, goes_on_after, hung_up, invalid, is_invalid, at_place_or_back, at_target, back_by, left_queue, after_move, ready_at, ready_in, runs_hang_up, after_talk, timed_out, after_no_answer, without_digits, after_wait, after_application, with_dial_status, with_value, without_frames}
 use Rattle.dp_machine.specs.Codes.{status_name}
 use Rattle.dp_machine.specs.Events.{way_out_of}
 use Rattle.dp_machine.specs.Found.{is_found}
-use Rattle.dp_machine.specs.Targets.{place_of, target_place}
+use Rattle.dp_machine.specs.Targets.{if_found, parts_place, place_of, target_place}
 use Rattle.dp_machine.specs.declared.channel.Channel.{Channel}
 use Rattle.dp_machine.specs.declared.dial_status.DialStatus.{DialStatus}
 use Rattle.dp_machine.specs.declared.shared_state.SharedState.{SharedState}
@@ -23,10 +24,10 @@ use Rattle.dp_pieces.specs.Pieces.{pieces_set}
 use Rattle.dp_pieces.proofs.FitsLemmas.{fits-exactly, fits-set}
 use Rattle.dp_pieces.proofs.WithinLemmas.{within-more}
 use Rattle.dp_reach.specs.Areas.{Area, Covers, Includes, IsIn, IsInOne, IsUnknown, beside}
-use Rattle.dp_reach.specs.Bounds.{Duties}
+use Rattle.dp_reach.specs.Bounds.{Obligations}
 use Rattle.dp_reach.specs.Closed.{IsAreaClosed, IsClosed}
 use Rattle.dp_reach.specs.Holding.{Claim, IsChannelIn, IsDialled, IsSharedIn, LeadsInto, way_of}
-use Rattle.dp_reach.proofs.StoreLemmas.{kept-set}
+use Rattle.dp_reach.proofs.StoreLemmas.{each-get, kept-set, kept-without_frame}
 use Rattle.dp_reach.proofs.TargetLemmas.{covers-same}
 use Rattle.dp_reach.proofs.UnknownLemmas.{unknown-invalid}
 
@@ -41,15 +42,15 @@ covered P [] place all is = absurd is
 covered P (area ∷ areas) place all (inl here) = record { area = area; inside = here; holds = all.0 }
 covered P (area ∷ areas) place all (inr there) = covered P areas place all.1 there
 
-module _ (duties : List ℕ → Duties) (claim : Claim) (answers : EntryId → Bool) (closed : IsClosed duties claim answers) where
+module _ (owing : Obligations) (claim : Claim) (answers : EntryId → Bool) (closed : IsClosed owing claim answers) where
   -- the area of a covered place, if its context is known
-  pub area-of : (place : Place) → Covers claim.plan claim.reach place → IsUnknown claim.plan place.context ⊎ IsFound (IsAreaClosed duties claim answers) place
+  pub area-of : (place : Place) → Covers claim.plan claim.reach place → IsUnknown claim.plan place.context ⊎ IsFound (IsAreaClosed owing claim answers) place
   area-of place (inl unknown) = inl unknown
-  area-of place (inr is) = inr (covered (IsAreaClosed duties claim answers) claim.reach place closed.areas is)
+  area-of place (inr is) = inr (covered (IsAreaClosed owing claim answers) claim.reach place closed.areas is)
 
   -- an extension of its context
-  covers-beside : (place : Place) (exten : List ℕ) → ((area : Area) → IsAreaClosed duties claim answers area → Includes claim.plan claim.reach (beside area exten))
-      → IsUnknown claim.plan place.context ⊎ IsFound (IsAreaClosed duties claim answers) place → Covers claim.plan claim.reach (place_of place.context exten 1)
+  covers-beside : (place : Place) (exten : List ℕ) → ((area : Area) → IsAreaClosed owing claim answers area → Includes claim.plan claim.reach (beside area exten))
+      → IsUnknown claim.plan place.context ⊎ IsFound (IsAreaClosed owing claim answers) place → Covers claim.plan claim.reach (place_of place.context exten 1)
   covers-beside place exten includes (inl unknown) = inl unknown
   covers-beside place exten includes (inr found) =
       includes found.area found.holds (place_of place.context exten 1) (record { context = found.inside.context; exten = fits-exactly exten })
@@ -79,7 +80,7 @@ module _ (duties : List ℕ → Duties) (claim : Claim) (answers : EntryId → B
   in-hung_up c here = in-closing c (runs_hang_up claim.plan c) here
 
   -- a value that is set
-  in-with_value : (c : Channel) (name value : List ℕ) → IsChannelIn claim c → Within (claim.names.bytes name) value → IsChannelIn claim (with_value c name value)
+  pub in-with_value : (c : Channel) (name value : List ℕ) → IsChannelIn claim c → Within (claim.names.bytes name) value → IsChannelIn claim (with_value c name value)
   in-with_value c name value here is = record { place = here.place; store = kept-set claim c.store name value here.store is; caller = here.caller; phase = here.phase }
 
   -- a move
@@ -87,15 +88,30 @@ module _ (duties : List ℕ → Duties) (claim : Claim) (answers : EntryId → B
   in-at_target c None here leads = in-hung_up c here
   in-at_target c (Some place) here leads = in-ready c place here (leads place refl)
 
+  -- back from the innermost frame
+  in-back_by : (c : Channel) (o : Option (Frame Place)) → IsChannelIn claim c → innermost c.store.frames ≡ o → IsChannelIn claim (back_by claim.plan c o)
+  in-back_by c None here is = in-hung_up c here
+  in-back_by c (Some frame) here is = record {
+    place = each-get (λ (frame : Frame Place). Covers claim.plan claim.reach frame.back) c.store.frames (length c.store.frames - 1) frame here.store.back is;
+    store = kept-without_frame claim c.store here.store;
+    caller = here.caller;
+    phase = tt;
+  }
+
+  in-at_place_or_back : (c : Channel) (o : Option Place) → IsChannelIn claim c → ((place : Place) → o ≡ Some place → Covers claim.plan claim.reach place)
+      → IsChannelIn claim (at_place_or_back claim.plan c o)
+  in-at_place_or_back c None here leads = in-back_by c (innermost c.store.frames) here refl
+  in-at_place_or_back c (Some place) here leads = in-ready c place here (leads place refl)
+
   in-after_move : (c : Channel) (move : Move) → IsChannelIn claim c → LeadsInto claim c.place move → IsChannelIn claim (after_move claim.plan c move)
   in-after_move c Next here leads = in-going_on c here
   in-after_move c (Jump target) here leads = in-at_target c (target_place claim.plan c.place target) here leads
-  in-after_move c (Enter parts) here leads = absurd leads
+  in-after_move c (Enter parts) here leads = in-at_place_or_back c (if_found claim.plan (parts_place claim.plan c.place parts)) here leads
   in-after_move c (Park phase) here leads = record { place = here.place; store = here.store; caller = here.caller; phase = leads }
   in-after_move c Hang here leads = in-hung_up c here
 
   -- the extension `i`
-  within-invalid : (place : Place) → is_invalid claim.plan place ≡ true → IsUnknown claim.plan place.context ⊎ IsFound (IsAreaClosed duties claim answers) place
+  within-invalid : (place : Place) → is_invalid claim.plan place ≡ true → IsUnknown claim.plan place.context ⊎ IsFound (IsAreaClosed owing claim answers) place
       → Within (claim.names.bytes (codes "INVALID_EXTEN")) place.exten
   within-invalid place is (inl unknown) = absurd (unknown-invalid claim.plan place unknown is)
   within-invalid place is (inr found) =

@@ -9,7 +9,7 @@ use Rattle.dp_pieces.specs.Names.{Names, head_pieces}
 use Rattle.dp_pieces.specs.Pieces.{AnyOf, Known, OneOf, Piece, exactly, any_bytes_of, pieces_set}
 use Rattle.dp_pieces.specs.Texts.{pieces_of, text_pieces}
 use Rattle.dp_reach.specs.Areas.{Area, area_at}
-use Rattle.dp_reach.specs.Bounds.{Calls, Duties, Duty, Holds, HoldsAll, Leads, Waits, gosub_duties, goto_duties, goto_if_duties}
+use Rattle.dp_reach.specs.Bounds.{Anything, Calls, Duties, Duty, Holds, HoldsAll, Leads, Waits, gosub_duties, goto_duties, goto_if_duties}
 use Rattle.dp_reach.specs.Settings.{set_duties}
 
 -- only digits
@@ -32,6 +32,7 @@ duty_text (Holds name set) = codes "set " ++ name
 duty_text (HoldsAll set) = codes "set any"
 duty_text (Calls set) = codes "set caller"
 duty_text Waits = codes "queue"
+duty_text Anything = codes "anything"
 
 abbrev owed_texts : Duties → List ℕ → List (List ℕ)
 owed_texts duties text = map duty_text (duties here (text_pieces plain text))

@@ -1,20 +1,18 @@
--- The audit that answers everything is closed: what an audit owes can be met.
+-- The audit that answers everything is closed: what an audit owes can be met, unless nothing is known of an application.
 use Rattle.std.proofs.Common.{inl, inr, ℕ, true, List, [], ◌∷◌, codes, refl}
 use Rattle.std.specs.List.{AllByRecursion}
 use Rattle.dp_plan.specs.Plan.{PlanOf}
 use Rattle.dp_plan.specs.declared.plan.GlobalVariable.{GlobalVariable}
 use Rattle.dp_queue.specs.declared.settings.Settings.{Settings}
 use Rattle.dp_app.specs.declared.place.Place.{Place}
-use Rattle.dp_pieces.specs.Bytes.{Bytes, IsPart, Within}
+use Rattle.dp_pieces.specs.Bytes.{Bytes, Within}
 use Rattle.dp_pieces.specs.Names.{Names}
 use Rattle.dp_pieces.specs.Pieces.{any_bytes_of}
-use Rattle.dp_pieces.specs.Texts.{text_pieces, text_set}
 use Rattle.dp_pieces.proofs.FitsLemmas.{fits-any_bytes_of}
-use Rattle.dp_pieces.proofs.TextLemmas.{fits-expansion}
 use Rattle.dp_pieces.proofs.WithinLemmas.{within-all}
-use Rattle.dp_reach.specs.Areas.{Area, Covers, Includes, area_at, area_matched, names_at}
-use Rattle.dp_reach.specs.Audits.{IsAudit, Outside, entrance, names_outside}
-use Rattle.dp_reach.specs.Bounds.{Calls, Duties, Duty, Holds, HoldsAll, Leads, Meets, MeetsAll, Waits}
+use Rattle.dp_reach.specs.Areas.{Area, Covers, Includes, area_at, area_matched}
+use Rattle.dp_reach.specs.Audits.{IsAudit, IsGlobalWithin, Outside, entrance}
+use Rattle.dp_reach.specs.Bounds.{Anything, Calls, Duty, Holds, HoldsAll, Leads, Meets, MeetsAll, Obligations, Waits}
 use Rattle.dp_reach.specs.Closed.{IsClosed}
 use Rattle.dp_reach.specs.Holding.{Claim}
 
@@ -38,19 +36,30 @@ any-place : (plan : PlanOf) (place : Place) → Covers plan (everywhere ∷ []) 
 any-place plan place =
     inr (inl (record { context = fits-any_bytes_of anything place.context (any-text place.context); exten = fits-any_bytes_of anything place.exten (any-text place.exten) }))
 
-module _ (duties : List ℕ → Duties) (plan : PlanOf) (settings : List Settings) where
-  meets : (duty : Duty) → Meets (widest plan settings) duty
-  meets (Leads area) = λ place inside. any-place plan place
-  meets (Holds name set) = λ byte is. refl
-  meets (HoldsAll set) = λ name byte is. refl
-  meets (Calls set) = λ byte is. refl
-  meets Waits = λ queue digit is. any-place plan _
+-- something is known of what an application does
+abbrev pub IsKnown : Duty → Type 0
+IsKnown (Leads area) = Unit {0}
+IsKnown (Holds name set) = Unit {0}
+IsKnown (HoldsAll set) = Unit {0}
+IsKnown (Calls set) = Unit {0}
+IsKnown Waits = Unit {0}
+IsKnown Anything = ⊥
 
-  meets-all : (all : List Duty) → MeetsAll (widest plan settings) all
-  meets-all [] = tt
-  meets-all (duty ∷ more) = (meets duty, meets-all more)
+module _ (owing : Obligations) (known : (name : List ℕ) (area : Area) → AllByRecursion IsKnown (owing.duties name area (any_bytes_of anything)))
+    (plan : PlanOf) (settings : List Settings) where
+  meets : (duty : Duty) → IsKnown duty → Meets (widest plan settings) duty
+  meets (Leads area) is = λ place inside. any-place plan place
+  meets (Holds name set) is = λ byte has. refl
+  meets (HoldsAll set) is = λ name byte has. refl
+  meets (Calls set) is = λ byte has. refl
+  meets Waits is = λ queue digit has. any-place plan _
+  meets Anything is = is
 
-  closed : IsClosed duties (widest plan settings) (λ id. true)
+  meets-all : (all : List Duty) → AllByRecursion IsKnown all → MeetsAll (widest plan settings) all
+  meets-all [] are = tt
+  meets-all (duty ∷ more) are = (meets duty are.0, meets-all more are.1)
+
+  closed : IsClosed owing (widest plan settings) (λ id. true)
   closed = record {
     named = record {
       whole = record { bytes = λ name byte is. refl; exten = λ byte is. refl; context = λ byte is. refl; caller = λ byte is. refl; digits = λ byte is. refl };
@@ -71,10 +80,10 @@ module _ (duties : List ℕ → Duties) (plan : PlanOf) (settings : List Setting
         invalid = λ place inside. any-place plan place;
         entries = λ id entry may. record {
           answer = refl;
-          pieces = text_pieces (names_at widest_names (area_matched everywhere entry.name)) entry.arguments;
-          fits = λ sight seen. fits-expansion (names_at widest_names (area_matched everywhere entry.name)) sight seen entry.arguments;
-          met = meets-all (duties entry.application (area_matched everywhere entry.name)
-              (text_pieces (names_at widest_names (area_matched everywhere entry.name)) entry.arguments));
+          pieces = any_bytes_of anything;
+          fits = λ sight seen. fits-any_bytes_of anything _ (any-text _);
+          met = meets-all (owing.duties entry.application (area_matched everywhere entry.name) (any_bytes_of anything))
+              (known entry.application (area_matched everywhere entry.name));
         };
       },
       tt,
@@ -85,17 +94,19 @@ module _ (duties : List ℕ → Duties) (plan : PlanOf) (settings : List Setting
   calls outside [] = tt
   calls outside (name ∷ names) = ((λ place inside. any-place plan place), calls outside names)
 
-  globals : (variables : List GlobalVariable) → AllByRecursion (λ (variable : GlobalVariable). IsPart (text_set (names_outside widest_names) variable.value) anything) variables
+  globals : (variables : List GlobalVariable) → AllByRecursion (IsGlobalWithin owing widest_names) variables
   globals [] = tt
-  globals (variable ∷ variables) = ((λ byte is. refl), globals variables)
+  globals (variable ∷ variables) = ((λ sight seen. any-text _), globals variables)
 
   -- the widest audit is closed
-  pub widest-audit : (outside : Outside) (context : List ℕ) → IsAudit duties outside context (widest plan settings) (λ id. true) (everywhere ∷ []) (λ id. true)
+  pub widest-audit : (outside : Outside) (context : List ℕ) → IsAudit owing outside context (widest plan settings) (λ id. true) (everywhere ∷ []) (λ id. true)
   widest-audit outside context = record {
     all = closed;
     own = closed;
     calls = calls outside outside.contexts;
     call = λ place inside. any-place plan place;
     caller = λ byte is. refl;
+    facts = λ name byte is. refl;
+    stated = λ byte is. refl;
     globals = globals plan.globals;
   }

@@ -2,6 +2,7 @@
 use Rattle.std.specs.Prelude.{◌≡◌, ℕ, ◌+◌, List, [], ◌∷◌, ◌++◌, map, Option, Some, None, codes, if◌then◌else◌}
 use Rattle.std.specs.Fmt.{decimal}
 use Rattle.std.specs.List.{AllByRecursion, flat_map}
+use Rattle.dp_vars.specs.Functions.{FunctionTable}
 use Rattle.dp_app.specs.Rows.{Row, Rows}
 use Rattle.dp_app.specs.Cells.{CellOf}
 use Rattle.dp_machine.specs.Events.{is_digit}
@@ -14,13 +15,14 @@ use Rattle.dp_reach.specs.Choices.{last_part, sides_in}
 use Rattle.dp_reach.specs.Holding.{Claim, IsGood, IsInside, LeadsOut}
 
 -- a duty of an application: the reach includes an area; a name, each name, or the caller's number may have these bytes; a digit may lead
--- out of each queue
+-- out of each queue; or nothing is known of what it does, so that no claim can meet it
 pub data Duty : Type 0 where
   Leads : Area → Duty
   Holds : List ℕ → Bytes → Duty
   HoldsAll : Bytes → Duty
   Calls : Bytes → Duty
   Waits : Duty
+  Anything : Duty
 
 abbrev pub Meets : Claim → Duty → Type 0
 Meets claim (Leads area) = Includes claim.plan claim.reach area
@@ -28,6 +30,7 @@ Meets claim (Holds name set) = IsPart set (claim.names.bytes name)
 Meets claim (HoldsAll set) = (name : List ℕ) → IsPart set (claim.names.bytes name)
 Meets claim (Calls set) = IsPart set claim.names.caller
 Meets claim Waits = (queue : ℕ) → LeadsOut claim queue
+Meets claim Anything = ⊥
 
 abbrev pub MeetsAll : Claim → List Duty → Type 0
 MeetsAll claim duties = AllByRecursion (Meets claim) duties
@@ -35,6 +38,15 @@ MeetsAll claim duties = AllByRecursion (Meets claim) duties
 -- the duties, given the area of the channel and the pieces of the arguments
 abbrev pub Duties : Type 0
 Duties = Area → List Piece → List Duty
+
+-- what is known of the entries of a dialplan: the functions in their texts, and the duties of each application
+pub record Obligations : Type 0 where
+  pub functions : FunctionTable
+  pub duties : List ℕ → Duties
+
+-- these functions and duties
+abbrev pub obligations : FunctionTable → (List ℕ → Duties) → Obligations
+obligations functions duties = record { functions = functions; duties = duties }
 
 -- a row stays inside if its arguments fit the pieces and its duties are met
 abbrev pub IsBounded : Duties → Row → Type 0

@@ -9,7 +9,7 @@ use Rattle.dp_vars.specs.Variables.{Named}
 use Rattle.dp_plan.specs.Plan.{PlanOf}
 use Rattle.dp_queue.specs.declared.settings.Settings.{Settings}
 use Rattle.dp_machine.specs.Events.{is_digit}
-use Rattle.dp_machine.specs.Targets.{place_of, target_place}
+use Rattle.dp_machine.specs.Targets.{if_found, parts_place, place_of, target_place}
 use Rattle.dp_machine.specs.declared.channel.Channel.{Channel}
 use Rattle.dp_machine.specs.declared.shared_state.SharedState.{SharedState}
 use Rattle.dp_app.specs.Rows.{Outcome}
@@ -75,11 +75,11 @@ IsPhaseIn claim place (Talking queue agent goes_on) = Unit {0}
 IsPhaseIn claim place (Dialling goes_on has_timer) = Unit {0}
 IsPhaseIn claim place Ended = Unit {0}
 
--- where a move may lead; no application of this program's twenty-one enters a place or goes back
+-- where a move may lead; a move that enters a place where nothing is found goes back to a frame, which returns into the reach anyhow
 abbrev pub LeadsInto : Claim → Place → Move → Type 0
 LeadsInto claim own Next = Unit {0}
 LeadsInto claim own (Jump target) = (place : Place) → target_place claim.plan own target ≡ Some place → Covers claim.plan claim.reach place
-LeadsInto claim own (Enter parts) = ⊥
+LeadsInto claim own (Enter parts) = (place : Place) → if_found claim.plan (parts_place claim.plan own parts) ≡ Some place → Covers claim.plan claim.reach place
 LeadsInto claim own (Park phase) = IsPhaseIn claim own phase
 LeadsInto claim own Hang = Unit {0}
 

@@ -1,7 +1,8 @@
 -- The duties of the applications of this program's table.
 use Rattle.std.specs.Prelude.{ℕ, List, codes, if◌then◌else◌}
 use Rattle.dp_conf.specs.Words.{same_word}
-use Rattle.dp_reach.specs.Bounds.{Duties, add_duties, dial_duties, digits_duties, gosub_duties, gosub_if_duties, goto_duties, goto_if_duties, nothing_owed, pause_duties, queue_duties, remove_duties, return_duties, unpause_duties}
+use Rattle.dp_vars.specs.Values.{standard_functions}
+use Rattle.dp_reach.specs.Bounds.{Duties, Obligations, obligations, add_duties, dial_duties, digits_duties, gosub_duties, gosub_if_duties, goto_duties, goto_if_duties, nothing_owed, pause_duties, queue_duties, remove_duties, return_duties, unpause_duties}
 use Rattle.dp_reach.specs.Settings.{set_duties}
 
 -- the duties with those of one more application, which is named in any ASCII case
@@ -36,3 +37,7 @@ standard_duties =
     (with_duties (codes "RemoveQueueMember") remove_duties
     (with_duties (codes "PauseQueueMember") pause_duties
     (with_duties (codes "UnpauseQueueMember") unpause_duties no_names))))))))))))))))))))
+
+-- what is known of the entries of a dialplan over this table
+abbrev pub standard_obligations : Obligations
+standard_obligations = obligations standard_functions standard_duties
