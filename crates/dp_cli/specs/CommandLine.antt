@@ -10,7 +10,7 @@ use Rattle.dp_conf.specs.Words.{same_text}
 use Rattle.dp_commands.specs.Script.{number_within}
 use Rattle.dp_conf.specs.Numbers.{most_priority}
 use Rattle.dp_program.specs.Entries.{fault_named, fault_numbered}
-use Rattle.dp_program.specs.Requests.{OptionsOf, RequestOf, joined, check, check_files, check_queue_files, check_both_files, check_queues, check_both, listing, listing_files, auditing, auditing_by, matching, matching_files, explaining, run, run_wide, debug, debug_wide, testing, comparing, comparing_files, drawing, drawing_files, reaching, DrawingOf, LookupOf, QuestionOf}
+use Rattle.dp_program.specs.Requests.{OptionsOf, RequestOf, joined, check, check_files, check_queue_files, check_both_files, check_queues, check_both, listing, listing_files, auditing, auditing_by, matching, matching_files, explaining, run, run_wide, debug, debug_wide, testing, comparing, comparing_files, drawing, drawing_files, reaching, reaching_files, DrawingOf, LookupOf, QuestionOf}
 use Rattle.dp_program.specs.Texts.{OfRun}
 use Rattle.dp_wide.specs.Times.{moment_of}
 use Rattle.dp_wide_runs.specs.Kinds.{KindsTold, all, only, except, are_kinds}
@@ -131,16 +131,18 @@ test_app =
     with_explain (with_rule (with_rule (with_rule (new_app (codes "test")) (flag (codes "trace") (codes "trace"))) (flag (codes "cover") (codes "cover")))
     (required_words (codes "FILE")))
 
--- a command with the words for what may come in: the contexts at which calls do, and the bytes of extensions and of callers' numbers
+-- a command with the words for what may come in: the contexts at which calls do, and the bytes of extensions, of callers' numbers and of what
+-- names are set to
 abbrev pub with_outside : App → App
 with_outside app =
-    with_rule (with_rule (with_rule app (named_word (codes "CONTEXTS") (codes "start"))) (named_word (codes "BYTES") (codes "exten")))
-    (named_word (codes "NUMBERS") (codes "caller"))
+    with_rule (with_rule (with_rule (with_rule app (named_word (codes "CONTEXTS") (codes "start"))) (named_word (codes "BYTES") (codes "exten")))
+    (named_word (codes "NUMBERS") (codes "caller"))) (named_word (codes "VALUES") (codes "facts"))
 
--- `reach [--queues QUEUES] [--start CONTEXTS] [--exten BYTES] [--caller NUMBERS] [--to TARGET] [--explain] FILE CONTEXT`
+-- `reach [--asterisk [--clock MOMENT]] [--queues QUEUES] [--start CONTEXTS] [--exten BYTES] [--caller NUMBERS] [--facts VALUES] [--to TARGET]
+-- [--explain] FILE CONTEXT`
 abbrev pub reach_app : App
 reach_app =
-    with_explain (with_rule (with_rule (with_rule (with_outside (with_queues (new_app (codes "reach")))) (named_word (codes "TARGET") (codes "to")))
+    with_explain (with_rule (with_rule (with_rule (with_outside (with_queues (with_asterisk (new_app (codes "reach"))))) (named_word (codes "TARGET") (codes "to")))
     file_word) (required_word (codes "CONTEXT")))
 
 -- a command that prints its version for `--version` and `-V`
@@ -337,9 +339,23 @@ abbrev pub diff_asked : List Row → Option RequestOf
 diff_asked words =
     option_and_then (λ before. option_map (diff_of (is_set (codes "asterisk") words) before) (first_of (codes "NEW") words)) (first_of (codes "OLD") words)
 
+-- the bytes of what names are set to from outside, if no others are given: only with `--asterisk` is something set
+abbrev pub usual_facts : List ℕ
+usual_facts = codes "0-9A-Za-z_./ -"
+
+-- the bytes that are given, or these
+abbrev pub facts_by : Bool → Option (List ℕ) → Option (List ℕ)
+facts_by is_wide (Some bytes) = Some bytes
+facts_by true None = Some usual_facts
+facts_by false None = None
+
+abbrev pub facts_in : List Row → Option (List ℕ)
+facts_in words = facts_by (is_set (codes "asterisk") words) (first_of (codes "VALUES") words)
+
 -- what a picture shows of a file, given the other words of `graph`
 abbrev pub drawing_at : List Row → List ℕ → DrawingOf
-drawing_at words file = record { file = file; queues = first_of (codes "QUEUES") words; from = first_of (codes "CONTEXT") words }
+drawing_at words file =
+    record { file = file; queues = first_of (codes "QUEUES") words; from = first_of (codes "CONTEXT") words; facts = facts_in words }
 
 -- the request of `graph`, given whether it reads the files that the dialplan and its queues include
 abbrev pub graph_of : Bool → DrawingOf → RequestOf
@@ -361,13 +377,19 @@ reach_at words file context = record {
     starts = first_of (codes "CONTEXTS") words;
     exten = first_of (codes "BYTES") words;
     caller = first_of (codes "NUMBERS") words;
+    facts = facts_in words;
   };
 }
+
+-- the request of `reach`, given whether it reads the files that the dialplan and its queues include
+abbrev pub reach_of : Bool → QuestionOf → RequestOf
+reach_of false question = reaching question
+reach_of true question = reaching_files question
 
 -- the request of `reach`
 abbrev pub reach_asked : List Row → Option RequestOf
 reach_asked words =
-    option_and_then (λ file. option_map (λ context. reaching (reach_at words file context)) (first_of (codes "CONTEXT") words))
+    option_and_then (λ file. option_map (λ context. reach_of (is_set (codes "asterisk") words) (reach_at words file context)) (first_of (codes "CONTEXT") words))
     (first_of (codes "FILE") words)
 
 -- the request of the command with a name, given its words

@@ -11,7 +11,7 @@ ghost use Rattle.clap.specs.Walk.{all_of, first_of, rows_of};
 ghost use Rattle.clap.specs.declared.error.kind.ErrorKind.TheVariants.{ArgumentConflict, MissingRequiredArgument, OutOfMemory, ValueValidation};
 ghost use Rattle.dp_commands.specs.Script.{number_within};
 ghost use Rattle.dp_program.specs.Entries.{fault_numbered};
-ghost use Rattle.dp_program.specs.Requests.{drawing_of, options_of, request_asked};
+ghost use Rattle.dp_program.specs.Requests.{drawing_of, options_of, question_of, request_asked};
 ghost use Rattle.dp_program.specs.Texts.{paths_of};
 ghost use Rattle.dp_cli.specs.CommandLine as spec;
 ghost use Rattle.dp_cli.specs.Refusals as refusals;
@@ -440,6 +440,20 @@ fn graph_of<'a>(includes: bool, question: GraphQuestion<'a>) -> Request<'a>
     }
 }
 
+/// The bytes of what names are set to from outside with `--asterisk`, as ranges, if no others are given.
+const USUAL_FACTS: &str = "0-9A-Za-z_./ -";
+
+/// The bytes of what names are set to from outside, as ranges, if something is set.
+fn facts_of<'a>(given: &ArgMatches<'a>) -> Option<&'a str>
+    ensures { option_map (λ bytes. bytes.now) result ≡ spec.facts_in (rows_of (found_of given.now)) }
+{
+    match word_of(given, "VALUES") {
+        Some(bytes) => Some(bytes),
+        None if is_set(given, "asterisk") => Some(USUAL_FACTS),
+        None => None,
+    }
+}
+
 /// The request of `graph`.
 fn graph_request<'a>(given: &ArgMatches<'a>) -> Option<Request<'a>>
     ensures { option_map request_asked result ≡ spec.graph_asked (rows_of (found_of given.now)) }
@@ -449,8 +463,20 @@ fn graph_request<'a>(given: &ArgMatches<'a>) -> Option<Request<'a>>
         file,
         queues: word_of(given, "QUEUES"),
         from: word_of(given, "CONTEXT"),
+        facts: facts_of(given),
     };
     Some(graph_of(is_set(given, "asterisk"), question))
+}
+
+/// The request of `reach`, given whether it reads the files that the dialplan and its queues include.
+fn reach_of<'a>(includes: bool, question: ReachQuestion<'a>) -> Request<'a>
+    ensures { request_asked result ≡ spec.reach_of includes (question_of question.entry) }
+{
+    if includes {
+        Request::ReachIncluding { question }
+    } else {
+        Request::Reach { question }
+    }
 }
 
 /// The request of `reach`.
@@ -465,8 +491,9 @@ fn reach_request<'a>(given: &ArgMatches<'a>) -> Option<Request<'a>>
         starts: word_of(given, "CONTEXTS"),
         exten: word_of(given, "BYTES"),
         caller: word_of(given, "NUMBERS"),
+        facts: facts_of(given),
     };
-    Some(Request::Reach { question })
+    Some(reach_of(is_set(given, "asterisk"), question))
 }
 
 /// The request of a command, or None if a required word is missing.

@@ -350,7 +350,7 @@ pub(crate) fn graph_command<'a>(alloc: Global) -> Result<Command<'a>, NoMemory>
     let graph = with_asterisk(
         alloc,
         graph,
-        "Read included files, templates and block comments",
+        "Know the applications and functions that people use, and read included files, templates and block comments",
     );
     let graph = with_queues(
         alloc,
@@ -560,7 +560,14 @@ fn with_outside<'a>(
         "caller",
         "The bytes of a caller's number; by default 0-9+",
     );
-    with_word(with, caller)
+    let with = with_word(with, caller);
+    let facts = named_word(
+        alloc,
+        "VALUES",
+        "facts",
+        "The bytes of what variables are set to from outside; by default 0-9A-Za-z_./ - with --asterisk, else none is set",
+    );
+    with_word(with, facts)
 }
 
 /// The command `reach`.
@@ -572,6 +579,11 @@ fn reach_command<'a>(alloc: Global) -> Result<Command<'a>, NoMemory>
         "reach",
         "Prove which entries a call from a context can never run",
         REACH_NOTES,
+    );
+    let reach = with_asterisk(
+        alloc,
+        reach,
+        "Know the applications and functions that people use, and read included files, templates and block comments",
     );
     let reach = with_queues(
         alloc,

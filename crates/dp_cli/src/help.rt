@@ -139,8 +139,7 @@ Prints a picture in the DOT language, which `dot` of Graphviz makes into an imag
 in which a look-up tries them, and what each does first. Arrows are dashed for includes, solid for jumps, double for subroutines, and
 dotted for the ways out of queues, which --queues names. A target that only the call decides is a diamond; one that does not exist is red.
 
-With --from CONTEXT the entries that a call from CONTEXT may run are filled, as `pbx reach` finds them, and all others are grey. This cannot
-be used with --asterisk yet.
+With --from CONTEXT the entries that a call from CONTEXT may run are filled, as `pbx reach` finds them, and all others are grey.
 
 With --asterisk included files, templates and block comments are read too. If lines have faults, each fault is printed on standard
 error with its file and line, and the status is 1.
@@ -156,6 +155,10 @@ an entry that is printed may never run.
 
 With --to, prints `unreachable: TARGET` with status 0, or `may reach: ENTRY` with the way there and each jump that lets a call in,
 with status 1.
+
+With --asterisk the applications and functions are those that people use, and included files, templates and block comments are read too.
+Scripts and other programs may then set variables to any text of the bytes after --facts. If lines have faults, or have what this
+program cannot follow, each is printed on standard error with its file and line, and the status is 1.
 
 Example:
   $ pbx reach extensions.conf from-carrier --to international

@@ -7,6 +7,7 @@ mod HintsLemmas
 mod NearestLemmas
 mod OnFilesLemmas
 mod PathsLemmas
+mod PlanQuestionLemmas
 mod QueueLemmas
 mod ReachesLemmas
 mod ReadsLemmas

@@ -4,6 +4,7 @@ use Rattle.std.specs.Io.KnownBytes.{Appends}
 use Rattle.std.proofs.KnownBytes.{Appends-nil}
 use Rattle.dp_conf.specs.Answers.{Refuses}
 use Rattle.dp_conf.specs.Fronts.{AppendsFront}
+use Rattle.dp_app.specs.Rows.{Meanings}
 use Rattle.dp_commands.specs.Faults.{reason_of}
 use Rattle.dp_commands.specs.Run.{Files}
 use Rattle.dp_commands.specs.declared.fault.Code.TheVariants.{WriteFailed}
@@ -16,19 +17,19 @@ use Rattle.dp_program.proofs.ReadsLemmas.{by_reason}
 use Rattle.dp_program.proofs.ServesLemmas.{reaches_lacks}
 
 -- if a file has a fault
-pub reaches_fault : (question : QuestionOf) (explains : Bool) (old : Option (List ℕ)) (fault : PbxFault) (given : Result Files PbxFault)
-    → Refuses (reason_of fault) given → Reaches question explains given old old (Err fault)
-reaches_fault question explains old =
-    by_reason (λ fault given. Reaches question explains given old old (Err fault)) (λ code line. (Appends-nil old, refl)) (reaches_lacks question explains old)
+pub reaches_fault : (meanings : Meanings) (question : QuestionOf) (explains : Bool) (old : Option (List ℕ)) (fault : PbxFault) (given : Result Files PbxFault)
+    → Refuses (reason_of fault) given → Reaches meanings question explains given old old (Err fault)
+reaches_fault meanings question explains old =
+    by_reason (λ fault given. Reaches meanings question explains given old old (Err fault)) (λ code line. (Appends-nil old, refl)) (reaches_lacks meanings question explains old)
 
 -- if a report is written, and if it is not
-pub reaches_written : (question : QuestionOf) (explains : Bool) (old new : Option (List ℕ)) (given : Result Files PbxFault) (files : Files) (text : List ℕ) (served : Served)
-    → given ≡ Ok files → IsAnswered question explains files text served.status served.hint.items → Appends old new text → Reaches question explains given old new (Ok served)
-reaches_written question explains old new given files text served is answered written =
-    subst (λ (given : Result Files PbxFault). Reaches question explains given old new (Ok served)) (sym is) (record { text = text; answered = answered; written = written })
+pub reaches_written : (meanings : Meanings) (question : QuestionOf) (explains : Bool) (old new : Option (List ℕ)) (given : Result Files PbxFault) (files : Files) (text : List ℕ) (served : Served)
+    → given ≡ Ok files → IsAnswered meanings question explains files text served.status served.hint.items → Appends old new text → Reaches meanings question explains given old new (Ok served)
+reaches_written meanings question explains old new given files text served is answered written =
+    subst (λ (given : Result Files PbxFault). Reaches meanings question explains given old new (Ok served)) (sym is) (record { text = text; answered = answered; written = written })
 
-pub reaches_failed : (question : QuestionOf) (explains : Bool) (old new : Option (List ℕ)) (given : Result Files PbxFault) (files : Files) (text : List ℕ) (status : ℕ) (hint : List ℕ)
-    → given ≡ Ok files → IsAnswered question explains files text status hint → AppendsFront old new text → Reaches question explains given old new (Err (Coded WriteFailed None))
-reaches_failed question explains old new given files text status hint is answered written =
-    subst (λ (given : Result Files PbxFault). Reaches question explains given old new (Err (Coded WriteFailed None))) (sym is)
+pub reaches_failed : (meanings : Meanings) (question : QuestionOf) (explains : Bool) (old new : Option (List ℕ)) (given : Result Files PbxFault) (files : Files) (text : List ℕ) (status : ℕ) (hint : List ℕ)
+    → given ≡ Ok files → IsAnswered meanings question explains files text status hint → AppendsFront old new text → Reaches meanings question explains given old new (Err (Coded WriteFailed None))
+reaches_failed meanings question explains old new given files text status hint is answered written =
+    subst (λ (given : Result Files PbxFault). Reaches meanings question explains given old new (Err (Coded WriteFailed None))) (sym is)
     (record { text = text; status = status; hint = hint; answered = answered; written = written }, refl, refl)

@@ -3,6 +3,7 @@ use Rattle.std.proofs.Common.{◌≡◌, ℕ, Bool, true, false, List, [], max, 
 use Rattle.std.specs.Option.{option_map}
 use Rattle.std.proofs.KnownBytes.{Appends-nil}
 use Rattle.dp_conf.specs.Answers.{Refuses, ◌>>=◌}
+use Rattle.dp_app.specs.Rows.{Meanings}
 use Rattle.dp_commands.specs.Audit.{Audited, WritesAudit, audit_of}
 use Rattle.dp_commands.specs.Debug.{DebugRun, WritesDebug}
 use Rattle.dp_commands.specs.Faults.{reason_of}
@@ -22,11 +23,12 @@ use Rattle.dp_program.specs.Checks.{both_report}
 use Rattle.dp_program.specs.Dialplans.{PlanTextOf, moment_in, with_text}
 use Rattle.dp_program.specs.Faulted.{StandsIn, in_none, nowhere, place_by, place_in_file, place_in_files, place_in_two, place_of, place_of_report, place_of_run, place_of_two, place_unread, without_place, unread_fault, unread_path, unread_place}
 use Rattle.dp_program.specs.Files.{Source, Reads}
-use Rattle.dp_program.specs.Graphs.{Draws, GraphsFiles, GraphsPlan, GraphsText, GraphsWide, GraphsWithQueues}
+use Rattle.dp_program.specs.Graphs.{Draws, GraphsFiles}
 use Rattle.dp_program.specs.Hints.{Tells, audit_hint_of, match_hint_of, status_in}
 use Rattle.dp_program.specs.PlanAndQueues.{contents_in, place_of_files}
-use Rattle.dp_program.specs.Reaches.{Reaches}
-use Rattle.dp_program.specs.Requests.{DrawingOf, OptionsOf, RequestOf, LookupOf, QuestionOf, joined, check, check_files, check_queue_files, check_both_files, check_queues, check_both, listing, listing_files, auditing, auditing_by, matching, matching_files, explaining, run, run_wide, debug, debug_wide, testing, comparing, comparing_files, drawing, drawing_files, reaching}
+use Rattle.dp_program.specs.Meanings.{standard_meanings, wide_meanings}
+use Rattle.dp_program.specs.Reaches.{Reaches, ReachesFiles}
+use Rattle.dp_program.specs.Requests.{DrawingOf, OptionsOf, RequestOf, LookupOf, QuestionOf, joined, check, check_files, check_queue_files, check_both_files, check_queues, check_both, listing, listing_files, auditing, auditing_by, matching, matching_files, explaining, run, run_wide, debug, debug_wide, testing, comparing, comparing_files, drawing, drawing_files, reaching, reaching_files}
 use Rattle.dp_program.specs.Entries.{explanation_of}
 use Rattle.dp_program.specs.Serves.{AuditsAsked, AuditsFile, AuditsFileBy, AuditsText, ChecksBoth, DebugsAsked, DebugsFiles, DebugsFilesVerbosely, DebugsVerbosely, ListsText, LooksUp, LooksUpText, PlacesOf, ReportsOn, Runs, RunsBeside, RunsPlan, RunsPlans, RunsSecond, RunsAsked, RunsFiles, RunsFilesVerbosely, RunsFilesWide, RunsVerbosely, RunsWide, Serves, SharesSome, debug_of_texts, files_read, in_force_at, in_force_at_first, look_up, places_read, run_of_texts, wide_run_of_texts, RunsFilesWideVerbosely, RunsTextsWideVerbosely, RunsWideAsked, RunsWideBy, RunsWideVerbosely, RunManner, RunsQueues, RunsWithQueues, DebugsFilesWide, DebugsFilesWideVerbosely, DebugsTextsWideVerbosely, DebugsWide, DebugsWideVerbosely, DiffsAfter, DiffsTexts, debugging, running, wide_debug_of_texts}
 use Rattle.dp_program.specs.TestSuites.{manner_of}
@@ -42,6 +44,7 @@ use Rattle.dp_wide_runs.specs.Runs.{WideRun}
 use Rattle.dp_wide_runs.specs.WideAudits.{WritesChoice, plan_of}
 use Rattle.dp_program.proofs.DialplanLemmas.{dialplan_lacks}
 use Rattle.dp_program.proofs.DiffLemmas.{diffs_lack}
+use Rattle.dp_program.proofs.PlanQuestionLemmas.{over_included_lacks}
 use Rattle.dp_program.proofs.QueueLemmas.{queues_lack}
 use Rattle.dp_program.proofs.TestLemmas.{tests_lack}
 use Rattle.dp_program.proofs.ReadsLemmas.{IsUnread, by_reason, Reads-any, Reads-weaker, ReadsSome-any, ReadsTexts-any, ReadsTexts-weaker}
@@ -119,9 +122,10 @@ runs_lacks : (threads : Option ℕ) (old : Option (List ℕ)) (given : Result Ru
 runs_lacks None old given = writes_lacks old given
 runs_lacks (Some threads) old given = shares_lacks (max 1 threads) old given
 
-pub reaches_lacks : (question : QuestionOf) (explains : Bool) (old : Option (List ℕ)) (given : Result Files PbxFault) → Reaches question explains given old old (Err NoMemory)
-reaches_lacks question explains old (Ok files) = Appends-nil old
-reaches_lacks question explains old (Err fault) = Appends-nil old
+pub reaches_lacks : (meanings : Meanings) (question : QuestionOf) (explains : Bool) (old : Option (List ℕ)) (given : Result Files PbxFault)
+    → Reaches meanings question explains given old old (Err NoMemory)
+reaches_lacks meanings question explains old (Ok files) = Appends-nil old
+reaches_lacks meanings question explains old (Err fault) = Appends-nil old
 
 -- if a text is refused
 pub reports_refused : (old : Option (List ℕ)) (report : List ℕ → Result (List ℕ) PbxFault) (fault : PbxFault) (text : Result (List ℕ) PbxFault)
@@ -674,36 +678,26 @@ diff_after_lacks clock files before_path after_path old before =
     dialplan_lacks (DiffsTexts files before_path after_path old old before) after_path old (diff_texts_lack files before_path after_path old before) Report clock files
 
 -- memory may run out before a picture is written
-pub draws_lack : (question : DrawingOf) (explains : Bool) (old : Option (List ℕ)) (given : Result Files PbxFault) → Draws question explains given old old (Err NoMemory)
-draws_lack question explains old (Ok files) = inl (Appends-nil old)
-draws_lack question explains old (Err fault) = Appends-nil old
+pub draws_lack : (meanings : Meanings) (question : DrawingOf) (explains : Bool) (old : Option (List ℕ)) (given : Result Files PbxFault)
+    → Draws meanings question explains given old old (Err NoMemory)
+draws_lack meanings question explains old (Ok files) = inl (Appends-nil old)
+draws_lack meanings question explains old (Err fault) = Appends-nil old
 
-graphs_lack : (files : List ℕ → Source) (question : DrawingOf) (explains : Bool) (old : Option (List ℕ)) → GraphsFiles files question explains old old (Err (nowhere NoMemory))
-graphs_lack files question explains old =
+pub graphs_lack : (meanings : Meanings) (files : List ℕ → Source) (question : DrawingOf) (explains : Bool) (old : Option (List ℕ))
+    → GraphsFiles meanings files question explains old old (Err (nowhere NoMemory))
+graphs_lack meanings files question explains old =
     Reads-any (files question.file) _ (λ plan. ReadsSome-any (option_map files question.queues) _ (λ queues. (
-      draws_lack question explains old (contents_in plan queues),
+      draws_lack meanings question explains old (contents_in plan queues),
       lacks_files_place question.file question.queues plan queues,
     )))
 
-pub graph_text_lacks : (files : List ℕ → Source) (question : DrawingOf) (explains : Bool) (old : Option (List ℕ)) (plan : PlanTextOf)
-    → GraphsText files question explains old old plan (Err (nowhere NoMemory))
-graph_text_lacks files question explains old plan = graphs_lack (with_text files question.file plan.text) question explains old
-
-graph_queues_lack : (files : List ℕ → Source) (question : DrawingOf) (explains : Bool) (old : Option (List ℕ)) (plan : PlanTextOf) (queues : Option (List ℕ))
-    → GraphsWithQueues files question explains old old plan queues (Err (nowhere NoMemory))
-graph_queues_lack files question explains old plan None = graph_text_lacks files question explains old plan
-graph_queues_lack files question explains old plan (Some queues) =
-    queues_lack files queues (λ files. GraphsText files question explains old old plan) old (λ files. graph_text_lacks files question explains old plan)
-
-pub graph_plan_lacks : (files : List ℕ → Source) (question : DrawingOf) (explains : Bool) (old : Option (List ℕ)) (plan : PlanTextOf)
-    → GraphsPlan files question explains old old plan (Err (nowhere NoMemory))
-graph_plan_lacks files question explains old plan = graph_queues_lack files question explains old plan question.queues
-
-graph_wide_lacks : (from clock : Option (List ℕ)) (files : List ℕ → Source) (question : DrawingOf) (explains : Bool) (old : Option (List ℕ))
-    → GraphsWide from clock files question explains old old (Err (nowhere NoMemory))
-graph_wide_lacks None clock files question explains old =
-    dialplan_lacks (GraphsPlan files question explains old old) question.file old (graph_plan_lacks files question explains old) Report clock files
-graph_wide_lacks (Some context) clock files question explains old = (Appends-nil old, refl)
+pub reaches_files_lack : (meanings : Meanings) (files : List ℕ → Source) (question : QuestionOf) (explains : Bool) (old : Option (List ℕ))
+    → ReachesFiles meanings files question explains old old (Err (nowhere NoMemory))
+reaches_files_lack meanings files question explains old =
+    Reads-any (files question.file) _ (λ plan. ReadsSome-any (option_map files question.queues) _ (λ queues. (
+      reaches_lacks meanings question explains old (contents_in plan queues),
+      lacks_files_place question.file question.queues plan queues,
+    )))
 
 -- memory may run out before a request does anything
 pub Serves-lacks : (files : List ℕ → Source) (input : Source) (want : RequestOf) (options : OptionsOf) (old : Option (List ℕ)) → Serves files input want options old old (Err (nowhere NoMemory))
@@ -751,11 +745,11 @@ Serves-lacks files input (testing paths is_traced is_covered) options old = test
 Serves-lacks files input (comparing before after) options old = (diffs_lack files before after old, tt)
 Serves-lacks files input (comparing_files before after) options old =
     dialplan_lacks (DiffsAfter options.clock files before after old old) before old (diff_after_lacks options.clock files before after old) Report options.clock files
-Serves-lacks files input (drawing question) options old = graphs_lack files question options.explains old
+Serves-lacks files input (drawing question) options old = graphs_lack standard_meanings files question options.explains old
 Serves-lacks files input (drawing_files question) options old =
-    graph_wide_lacks question.from options.clock files question options.explains old
-Serves-lacks files input (reaching question) options old =
-    Reads-any (files question.file) _ (λ plan. ReadsSome-any (option_map files question.queues) _ (λ queues. (
-      reaches_lacks question options.explains old (plan >>= λ plan. some_text queues >>= λ queues. files_of plan queues),
-      lacks_files_place question.file question.queues plan queues,
-    )))
+    over_included_lacks (λ files. GraphsFiles wide_meanings files question options.explains) old (λ files. graphs_lack wide_meanings files question options.explains old)
+    Report options.clock files question.file question.queues
+Serves-lacks files input (reaching question) options old = reaches_files_lack standard_meanings files question options.explains old
+Serves-lacks files input (reaching_files question) options old =
+    over_included_lacks (λ files. ReachesFiles wide_meanings files question options.explains) old (λ files. reaches_files_lack wide_meanings files question options.explains old)
+    LookUp options.clock files question.file question.queues

@@ -7,8 +7,10 @@ pub mod Files
 pub mod Graphs
 pub mod Hints
 pub mod Including
+pub mod Meanings
 pub mod Nearest
 pub mod PlanAndQueues
+pub mod PlanQuestions
 pub mod QueueTexts
 pub mod Reaches
 pub mod Requests

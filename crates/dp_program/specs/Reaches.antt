@@ -5,6 +5,7 @@ use Rattle.std.specs.List.{flat_map}
 use Rattle.std.specs.Option.{option_map_or}
 use Rattle.dp_answer.specs.Asks.{AskOf, target_names}
 use Rattle.dp_answer.specs.Reports.{IsReport}
+use Rattle.dp_app.specs.Rows.{Meanings}
 use Rattle.dp_conf.specs.Fronts.{AppendsFront}
 use Rattle.dp_conf.specs.Levels.{arguments_of}
 use Rattle.dp_plan.specs.Lookup.{number_of}
@@ -15,8 +16,11 @@ use Rattle.dp_commands.specs.declared.fault.PbxFault.{PbxFault}
 use Rattle.dp_commands.specs.declared.fault.PbxFault.TheVariants.{Coded, NoMemory}
 use Rattle.dp_program.specs.Files.{Source}
 use Rattle.dp_program.specs.Hints.{bare_line, is_bare, lacking, name_told}
+use Rattle.dp_program.specs.Meanings.{wide_meanings}
 use Rattle.dp_program.specs.PlanAndQueues.{OnFiles}
+use Rattle.dp_program.specs.PlanQuestions.{OverIncluded}
 use Rattle.dp_program.specs.Requests.{QuestionOf}
+use Rattle.dp_program.specs.declared.dialplans.PlanUse.TheVariants.{LookUp}
 use Rattle.dp_program.specs.declared.faulted.Faulted.{Faulted}
 use Rattle.dp_program.specs.declared.hints.Served.{Served}
 
@@ -33,35 +37,40 @@ hint_of file ask explains plan =
     ++ flat_map (told_of_name file explains plan) (option_map_or arguments_of ask.starts [])
 
 -- the report on these files is correct, with these hints
-pub record IsAnswered (question : QuestionOf) (explains : Bool) (files : Files) (text : List ℕ) (status : ℕ) (hint : List ℕ) : Type 0 where
-  pub report : IsReport files.plan (map (λ queue. queue.settings) files.queues.queues) question.ask (record { text = text; status = status })
+pub record IsAnswered (meanings : Meanings) (question : QuestionOf) (explains : Bool) (files : Files) (text : List ℕ) (status : ℕ) (hint : List ℕ) : Type 0 where
+  pub report : IsReport meanings files.plan (map (λ queue. queue.settings) files.queues.queues) question.ask (record { text = text; status = status })
   pub told : hint ≡ hint_of question.file question.ask explains files.plan
 
 -- the whole of a correct report was written
-pub record WritesReport (question : QuestionOf) (explains : Bool) (files : Files) (old new : Option (List ℕ)) (served : Served) : Type 0 where
+pub record WritesReport (meanings : Meanings) (question : QuestionOf) (explains : Bool) (files : Files) (old new : Option (List ℕ)) (served : Served) : Type 0 where
   pub text : List ℕ
-  pub answered : IsAnswered question explains files text served.status served.hint.items
+  pub answered : IsAnswered meanings question explains files text served.status served.hint.items
   pub written : Appends old new text
 
 -- a write of a correct report failed
-pub record WritesFront (question : QuestionOf) (explains : Bool) (files : Files) (old new : Option (List ℕ)) : Type 0 where
+pub record WritesFront (meanings : Meanings) (question : QuestionOf) (explains : Bool) (files : Files) (old new : Option (List ℕ)) : Type 0 where
   pub text : List ℕ
   pub status : ℕ
   pub hint : List ℕ
-  pub answered : IsAnswered question explains files text status hint
+  pub answered : IsAnswered meanings question explains files text status hint
   pub written : AppendsFront old new text
 
 -- the output and result of a question, given its files or the first fault of their texts
-abbrev pub Reaches : QuestionOf → Bool → Result Files PbxFault → Option (List ℕ) → Option (List ℕ) → Result Served PbxFault → Type 0
-Reaches question explains (Ok files) old new (Ok served) = WritesReport question explains files old new served
-Reaches question explains (Ok files) old new (Err (Coded code line)) =
-    WritesFront question explains files old new × (code ≡ WriteFailed) × (line ≡ None)
-Reaches question explains (Ok files) old new (Err NoMemory) = Appends old new []
-Reaches question explains (Err fault) old new (Ok served) = ⊥
-Reaches question explains (Err fault) old new (Err (Coded code line)) = Appends old new [] × (fault ≡ Coded code line)
-Reaches question explains (Err fault) old new (Err NoMemory) = Appends old new []
+abbrev pub Reaches : Meanings → QuestionOf → Bool → Result Files PbxFault → Option (List ℕ) → Option (List ℕ) → Result Served PbxFault → Type 0
+Reaches meanings question explains (Ok files) old new (Ok served) = WritesReport meanings question explains files old new served
+Reaches meanings question explains (Ok files) old new (Err (Coded code line)) =
+    WritesFront meanings question explains files old new × (code ≡ WriteFailed) × (line ≡ None)
+Reaches meanings question explains (Ok files) old new (Err NoMemory) = Appends old new []
+Reaches meanings question explains (Err fault) old new (Ok served) = ⊥
+Reaches meanings question explains (Err fault) old new (Err (Coded code line)) = Appends old new [] × (fault ≡ Coded code line)
+Reaches meanings question explains (Err fault) old new (Err NoMemory) = Appends old new []
 
 -- the output and result of a question on the files at its paths, and the place of its fault
-abbrev pub ReachesFiles : (List ℕ → Source) → QuestionOf → Bool → Option (List ℕ) → Option (List ℕ) → Result Served Faulted → Type 0
-ReachesFiles files question explains old new answered =
-    OnFiles (λ given. Reaches question explains given old new) files question.file question.queues answered
+abbrev pub ReachesFiles : Meanings → (List ℕ → Source) → QuestionOf → Bool → Option (List ℕ) → Option (List ℕ) → Result Served Faulted → Type 0
+ReachesFiles meanings files question explains old new answered =
+    OnFiles (λ given. Reaches meanings question explains given old new) files question.file question.queues answered
+
+-- the same for the dialplan and the queues at these paths and the files that they include, over the wide table
+abbrev pub ReachesIncluding : Option (List ℕ) → (List ℕ → Source) → QuestionOf → Bool → Option (List ℕ) → Option (List ℕ) → Result Served Faulted → Type 0
+ReachesIncluding clock files question explains old new answered =
+    OverIncluded (λ files. ReachesFiles wide_meanings files question explains) LookUp clock files question.file question.queues old new answered

@@ -9,7 +9,7 @@ use Rattle.dp_program.specs.declared.request.GraphQuestion.{GraphQuestion}
 use Rattle.dp_program.specs.declared.request.Lookup.{Lookup}
 use Rattle.dp_program.specs.declared.request.ReachQuestion.{ReachQuestion}
 use Rattle.dp_program.specs.declared.request.Request.{Request}
-use Rattle.dp_program.specs.declared.request.Request.TheVariants.{Joined, Check, CheckIncluding, CheckQueuesIncluding, CheckBothIncluding, CheckQueues, CheckBoth, Listing, ListIncluding, Audit, AuditBy, Match, MatchIncluding, Explain, Run, RunWide, Debug, DebugWide, Test, Diff, DiffIncluding, Graph, GraphIncluding, Reach}
+use Rattle.dp_program.specs.declared.request.Request.TheVariants.{Joined, Check, CheckIncluding, CheckQueuesIncluding, CheckBothIncluding, CheckQueues, CheckBoth, Listing, ListIncluding, Audit, AuditBy, Match, MatchIncluding, Explain, Run, RunWide, Debug, DebugWide, Test, Diff, DiffIncluding, Graph, GraphIncluding, Reach, ReachIncluding}
 
 -- what is looked up in the dialplan of a file, with its texts
 pub record LookupOf : Type 0 where
@@ -34,6 +34,7 @@ asked_in question = record {
   starts = option_map (λ word. word.now) question.starts;
   exten = option_map (λ word. word.now) question.exten;
   caller = option_map (λ word. word.now) question.caller;
+  facts = option_map (λ word. word.now) question.facts;
 }
 
 abbrev pub question_of : ReachQuestion → QuestionOf
@@ -48,12 +49,14 @@ pub record DrawingOf : Type 0 where
   pub file : List ℕ
   pub queues : Option (List ℕ)
   pub from : Option (List ℕ)
+  pub facts : Option (List ℕ)
 
 abbrev pub drawing_of : GraphQuestion → DrawingOf
 drawing_of question = record {
   file = question.file.now;
   queues = option_map (λ path. path.now) question.queues;
   from = option_map (λ context. context.now) question.from;
+  facts = option_map (λ word. word.now) question.facts;
 }
 
 -- the options of a request, with their texts
@@ -90,6 +93,7 @@ pub data RequestOf : Type 0 where
   drawing : DrawingOf → RequestOf
   drawing_files : DrawingOf → RequestOf
   reaching : QuestionOf → RequestOf
+  reaching_files : QuestionOf → RequestOf
 
 -- what a request asks for
 abbrev pub request_asked : Request → RequestOf
@@ -117,3 +121,4 @@ request_asked (DiffIncluding files) = comparing_files files.before.now files.aft
 request_asked (Graph question) = drawing (drawing_of question)
 request_asked (GraphIncluding question) = drawing_files (drawing_of question)
 request_asked (Reach question) = reaching (question_of question)
+request_asked (ReachIncluding question) = reaching_files (question_of question)

@@ -19,12 +19,13 @@ use Rattle.dp_program.specs.Diffs.{DiffsFiles}
 use Rattle.dp_program.specs.Entries.{entry_of, explanation_of}
 use Rattle.dp_program.specs.Faulted.{StandsIn, in_none, place_of_report, place_of_run, place_of_two, without_place}
 use Rattle.dp_program.specs.Files.{Source, Reads, has_read_failed}
-use Rattle.dp_program.specs.Graphs.{GraphsFiles, GraphsWide}
+use Rattle.dp_program.specs.Graphs.{GraphsFiles, GraphsIncluding}
 use Rattle.dp_program.specs.Hints.{Tells, TellsNothing, audit_hint_of, match_hint_of, status_in}
 use Rattle.dp_program.specs.Including.{ChecksBothIncluding, ChecksIncluding, ChecksQueuesIncluding}
 use Rattle.dp_program.specs.QueueTexts.{ReadsQueues}
-use Rattle.dp_program.specs.Reaches.{ReachesFiles}
-use Rattle.dp_program.specs.Requests.{OptionsOf, RequestOf, LookupOf, joined, check, check_files, check_queue_files, check_both_files, check_queues, check_both, listing, listing_files, auditing, auditing_by, matching, matching_files, explaining, run, run_wide, debug, debug_wide, testing, comparing, comparing_files, drawing, drawing_files, reaching}
+use Rattle.dp_program.specs.Meanings.{standard_meanings}
+use Rattle.dp_program.specs.Reaches.{ReachesFiles, ReachesIncluding}
+use Rattle.dp_program.specs.Requests.{OptionsOf, RequestOf, LookupOf, joined, check, check_files, check_queue_files, check_both_files, check_queues, check_both, listing, listing_files, auditing, auditing_by, matching, matching_files, explaining, run, run_wide, debug, debug_wide, testing, comparing, comparing_files, drawing, drawing_files, reaching, reaching_files}
 use Rattle.dp_program.specs.TestSuites.{TestsFiles, manner_of}
 use Rattle.dp_program.specs.Texts.{OfRun, ReadsTexts, all_texts, sources_of}
 use Rattle.dp_program.specs.declared.dialplans.PlanUse.TheVariants.{Report, LookUp, Run as to_run}
@@ -367,10 +368,12 @@ Serves files input (testing paths is_traced is_covered) options old new answered
     TestsFiles (manner_of is_traced is_covered) files paths old new answered
 Serves files input (comparing before after) options old new answered = Quietly (DiffsFiles files before after old new) answered
 Serves files input (comparing_files before after) options old new answered = DiffsIncluding options.clock files before after old new answered
-Serves files input (drawing question) options old new answered = GraphsFiles files question options.explains old new answered
+Serves files input (drawing question) options old new answered = GraphsFiles standard_meanings files question options.explains old new answered
 Serves files input (drawing_files question) options old new answered =
-    GraphsWide question.from options.clock files question options.explains old new answered
-Serves files input (reaching question) options old new answered = ReachesFiles files question options.explains old new answered
+    GraphsIncluding options.clock files question options.explains old new answered
+Serves files input (reaching question) options old new answered = ReachesFiles standard_meanings files question options.explains old new answered
+Serves files input (reaching_files question) options old new answered =
+    ReachesIncluding options.clock files question options.explains old new answered
 
 -- whether a read of the input failed, given the result: only a request without a command reads the input
 abbrev pub fails_on_input : {X : Type 0} → RequestOf → Result X PbxFault → Bool
@@ -398,3 +401,4 @@ fails_on_input (comparing_files before after) result = false
 fails_on_input (drawing question) result = false
 fails_on_input (drawing_files question) result = false
 fails_on_input (reaching question) result = false
+fails_on_input (reaching_files question) result = false

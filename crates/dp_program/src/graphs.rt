@@ -1,32 +1,37 @@
 //! The requests that write a dialplan as a picture.
-ghost use Rattle.std.specs.Prelude.{◌≡◌, ◌++◌, ◌||◌, List, ℕ, Option, IfOk, OnOk, Ok, false};
+ghost use Rattle.std.specs.Prelude.{◌≡◌, ◌++◌, ◌||◌, IfOk, OnOk, Ok};
 ghost use Rattle.std.specs.Option.{option_map};
 ghost use Rattle.indexmap.specs.IndexSet.{insert_all};
 ghost use Rattle.dp_answer.specs.Asks.{ask_of as ask_texts};
+ghost use Rattle.dp_app.specs.Rows.{with_functions};
 ghost use Rattle.dp_audit.specs.Candidates.{same_id};
 ghost use Rattle.dp_commands.specs.Faults.{is_write_failed};
 ghost use Rattle.dp_commands.specs.Run.{files_of};
-ghost use Rattle.dp_program.specs.Dialplans.{TellsFaults, text_now};
 ghost use Rattle.dp_program.specs.Faulted.{without_place};
 ghost use Rattle.dp_program.specs.Graphs as spec;
+ghost use Rattle.dp_program.specs.Meanings.{standard_meanings, wide_meanings};
 ghost use Rattle.dp_program.specs.Requests.{drawing_of, options_of};
+ghost use Rattle.dp_program.proofs.ServesLemmas.{graphs_lack};
 
-use crate::dialplans::{PlanText, PlanUse, ReadDialplan, faulty, read_dialplan};
+use crate::dialplans::PlanUse;
 use crate::faulted::Faulted;
 use crate::files::ReadFiles;
 use crate::hints::{HintedPlan, Served, push_told};
-use crate::made_files::MadeFiles;
 use crate::options::Options;
 use crate::plan_and_queues::{PlanAndQueues, PlanPaths, files_in, placed_over};
-use crate::queue_texts::{ReadQueues, read_queue_text};
+use crate::plan_questions::{Asking, PlanQuestion, answer_including};
+use crate::reaches::bytes_of;
 use crate::request::GraphQuestion;
 use crate::texts::{read_named, read_text};
 use dp_answer::{Ask, reached_entries};
+use dp_closed::DutyTable;
 use dp_commands::{Code, Files, PbxFault};
 use dp_conf::WriteTold;
 use dp_graph::{GraphFault, QueueExit, write_graph};
 use dp_plan::{Dialplan, EntryId, NoMemory, Text};
 use dp_queue::Queue;
+use dp_table::StandardApps;
+use dp_wide::WideApps;
 use indexmap::IndexSet;
 use std::alloc::Global;
 
@@ -90,9 +95,9 @@ fn add_entries(filled: &mut IndexSet<EntryId>, entries: &[EntryId]) -> Result<()
     Ok(())
 }
 
-/// The question about calls that come in at a context, whatever is dialled and wherever other calls come in.
-fn ask_from(context: &str) -> Ask<'_>
-    ensures { ask_texts result ≡ spec.ask_from context.now }
+/// The question about calls that come in at a context, whatever is dialled and wherever other calls come in, given the bytes of facts.
+fn ask_from<'a>(context: &'a str, facts: Option<&'a str>) -> Ask<'a>
+    ensures { ask_texts result ≡ spec.ask_from (option_map (λ facts. facts.now) facts.entry) context.now }
 {
     Ask {
         context: context.as_bytes(),
@@ -100,32 +105,38 @@ fn ask_from(context: &str) -> Ask<'_>
         starts: None,
         exten: None,
         caller: None,
+        facts: bytes_of(facts),
     }
 }
 
-/// The entries that a call which comes in at a context may run.
-fn filled_from(alloc: Global, files: &Files, context: &str) -> Result<IndexSet<EntryId>, NoMemory>
-    ensures { IfOk result (λ filled. spec.Fills (record { plan = files.now.plan; queues = files.now.queues }) context.now filled.keys) }
+/// The entries that a call with this question may run.
+fn filled_by<T: DutyTable>(
+    alloc: Global,
+    files: &Files,
+    ask: &Ask<'_>,
+) -> Result<IndexSet<EntryId>, NoMemory>
+    ensures { IfOk result (λ filled. spec.Fills (with_functions T.rows T.Functions.table) (record { plan = files.now.plan; queues = files.now.queues })
+        (ask_texts ask.now) filled.keys) }
 {
-    let entries = reached_entries(alloc, &files.plan, &files.queues, &ask_from(context))?;
+    let entries = reached_entries::<T>(alloc, &files.plan, &files.queues, ask)?;
     let mut filled = IndexSet::new(alloc);
     add_entries(&mut filled, &entries)?;
     Ok(filled)
 }
 
 /// The entries that are filled, if a context is named.
-fn filled_of(
+fn filled_of<T: DutyTable>(
     alloc: Global,
     files: &Files,
-    from: Option<&str>,
+    question: &GraphQuestion<'_>,
 ) -> Result<Option<IndexSet<EntryId>>, NoMemory>
-    ensures { IfOk result (λ filled. spec.IsFilled (record { plan = files.now.plan; queues = files.now.queues })
-        (option_map (λ context. context.now) from.entry) (option_map (λ set. set.keys) filled)) }
+    ensures { IfOk result (λ filled. spec.IsFilled (with_functions T.rows T.Functions.table) (record { plan = files.now.plan; queues = files.now.queues })
+        (drawing_of question.now).facts (drawing_of question.now).from (option_map (λ set. set.keys) filled)) }
 {
-    let Some(context) = from else {
+    let Some(context) = question.from else {
         return Ok(None);
     };
-    let filled = filled_from(alloc, files, context)?;
+    let filled = filled_by::<T>(alloc, files, &ask_from(context, question.facts))?;
     Ok(Some(filled))
 }
 
@@ -152,19 +163,19 @@ fn hint_of(
 
 /// Writes the picture of a dialplan and its queues. The status is 1 if there is a hint.
 #[tactic(auto, using(crate::proofs::GraphLemmas::draws_front, crate::proofs::GraphLemmas::draws_nothing))]
-fn draw_files<W: WriteTold>(
+fn draw_files<T: DutyTable, W: WriteTold>(
     alloc: Global,
     question: &GraphQuestion<'_>,
     explains: bool,
     files: &Files,
     output: &mut W,
 ) -> Result<Served, PbxFault>
-    ensures draws { spec.Draws (drawing_of question.now) explains (Ok (record { plan = files.now.plan; queues = files.now.queues }))
+    ensures draws { spec.Draws (with_functions T.rows T.Functions.table) (drawing_of question.now) explains (Ok (record { plan = files.now.plan; queues = files.now.queues }))
         (W.contents output.old) (W.contents output.new) result }
     ensures told { W.has_failed output.new ≡ (W.has_failed output.old || is_write_failed result) }
 {
     let hint = hint_of(alloc, question, explains, &files.plan)?;
-    let filled = filled_of(alloc, files, question.from)?;
+    let filled = filled_of::<T>(alloc, files, question)?;
     let status = if hint.is_empty() { 0 } else { 1 };
     write_picture(alloc, files, filled.as_ref(), output)?;
     Ok(Served { status, hint })
@@ -172,19 +183,43 @@ fn draw_files<W: WriteTold>(
 
 /// Writes the picture of the dialplan and of the queues that texts hold.
 #[tactic(auto, using(crate::proofs::GraphLemmas::graph_fault, crate::proofs::GraphLemmas::graph_drawn))]
-fn draw_texts<W: WriteTold>(
+fn draw_texts<T: DutyTable, W: WriteTold>(
     alloc: Global,
     question: &GraphQuestion<'_>,
     explains: bool,
     texts: &PlanAndQueues,
     output: &mut W,
 ) -> Result<Served, PbxFault>
-    ensures draws { spec.Draws (drawing_of question.now) explains
+    ensures draws { spec.Draws (with_functions T.rows T.Functions.table) (drawing_of question.now) explains
         (files_of texts.now.plan.items (option_map (λ text. text.items) texts.now.queues)) (W.contents output.old) (W.contents output.new) result }
     ensures told { W.has_failed output.new ≡ (W.has_failed output.old || is_write_failed result) }
 {
     let files = files_in(alloc, texts)?;
-    draw_files(alloc, question, explains, &files, output)
+    draw_files::<T, W>(alloc, question, explains, &files, output)
+}
+
+/// Writes the picture of the dialplan of a file, with the ways out of the queues of another file, if it is named, given the table by which
+/// calls run.
+fn serve_graph_over<'a, T: DutyTable, F: ReadFiles, W: WriteTold>(
+    files: &F,
+    alloc: Global,
+    question: &GraphQuestion<'a>,
+    explains: bool,
+    output: &mut W,
+) -> Result<Served, Faulted<'a>>
+    ensures serves { spec.GraphsFiles (with_functions T.rows T.Functions.table) (F.source_at files.now) (drawing_of question.now) explains
+        (W.contents output.old) (W.contents output.new) result }
+    ensures told { W.has_failed output.new ≡ (W.has_failed output.old || is_write_failed (without_place result)) }
+{
+    let plan = read_text(files, alloc, question.file)?;
+    let queues = read_named(files, alloc, question.queues)?;
+    let texts = PlanAndQueues { plan, queues };
+    let answered = draw_texts::<T, W>(alloc, question, explains, &texts, output);
+    let paths = PlanPaths {
+        plan: question.file,
+        queues: question.queues,
+    };
+    placed_over(paths, texts, answered)
 }
 
 /// Writes the picture of the dialplan of a file, with the ways out of the queues of another file, if it is named.
@@ -195,102 +230,38 @@ pub(crate) fn serve_graph<'a, F: ReadFiles, W: WriteTold>(
     explains: bool,
     output: &mut W,
 ) -> Result<Served, Faulted<'a>>
-    ensures serves { spec.GraphsFiles (F.source_at files.now) (drawing_of question.now) explains (W.contents output.old)
+    ensures serves { spec.GraphsFiles standard_meanings (F.source_at files.now) (drawing_of question.now) explains (W.contents output.old)
         (W.contents output.new) result }
     ensures told { W.has_failed output.new ≡ (W.has_failed output.old || is_write_failed (without_place result)) }
 {
-    let plan = read_text(files, alloc, question.file)?;
-    let queues = read_named(files, alloc, question.queues)?;
-    let texts = PlanAndQueues { plan, queues };
-    let answered = draw_texts(alloc, question, explains, &texts, output);
-    let paths = PlanPaths {
-        plan: question.file,
-        queues: question.queues,
-    };
-    placed_over(paths, texts, answered)
+    serve_graph_over::<StandardApps, F, W>(files, alloc, question, explains, output)
 }
 
-/// What a picture shows, and whether names that are similar to a missing one are suggested.
+/// What a picture shows over the applications of `--asterisk`, and whether names that are similar to a missing one are suggested.
 #[derive(Clone, Copy)]
-struct GraphAsked<'r, 'a> {
+struct WideDrawing<'r, 'a> {
     question: &'r GraphQuestion<'a>,
     explains: bool,
 }
 
-/// Writes the picture of the dialplan of a file, given its text.
-fn draw_plan<'a, F: ReadFiles, W: WriteTold>(
-    files: &F,
-    alloc: Global,
-    asked: GraphAsked<'_, 'a>,
-    plan: &PlanText,
-    output: &mut W,
-) -> Result<Served, Faulted<'a>>
-    ensures serves { spec.GraphsText (F.source_at files.now) (drawing_of asked.entry.question.now) asked.entry.explains
-        (W.contents output.old) (W.contents output.new) (text_now plan.now) result }
-    ensures told { W.has_failed output.new ≡ (W.has_failed output.old || is_write_failed (without_place result)) }
-{
-    let made = plan.made_files(files, asked.question.file);
-    serve_graph(&made, alloc, asked.question, asked.explains, output)
-}
+impl<'a> PlanQuestion<'a> for WideDrawing<'_, 'a> {
+    ghost serves = { λ asked files. spec.GraphsFiles wide_meanings files (drawing_of asked.question.now) asked.explains };
 
-/// The text of a dialplan, and the path of its queues.
-#[derive(Clone, Copy)]
-struct QueuedPlan<'r, 'a> {
-    plan: &'r PlanText,
-    queues: &'a str,
-}
+    ghost lacks = { λ asked files old. graphs_lack wide_meanings files (drawing_of asked.question.now) asked.explains old };
 
-/// Reads the queues of a dialplan with the files that they include, and writes the picture, given the text of the dialplan.
-fn draw_after_queues<'a, F: ReadFiles, W: WriteTold>(
-    files: &F,
-    alloc: Global,
-    asked: GraphAsked<'_, 'a>,
-    queued: QueuedPlan<'_, 'a>,
-    output: &mut W,
-) -> Result<Served, Faulted<'a>>
-    ensures serves { spec.GraphsAfterQueues (F.source_at files.now) (drawing_of asked.entry.question.now) asked.entry.explains
-        (W.contents output.old) (W.contents output.new) (text_now queued.entry.plan.now) queued.entry.queues.now result }
-    ensures told { W.has_failed output.new ≡ (W.has_failed output.old || is_write_failed (without_place result)) }
-{
-    match read_queue_text(files, alloc, queued.queues) {
-        Ok(ReadQueues::Given(Some(text))) => {
-            let made = MadeFiles {
-                files,
-                path: queued.queues,
-                text: &text,
-            };
-            draw_plan(&made, alloc, asked, queued.plan, output)
-        }
-        Ok(ReadQueues::Given(None)) => draw_plan(files, alloc, asked, queued.plan, output),
-        Ok(ReadQueues::Unread(told)) => Ok(faulty(told)),
-        Err(unread) => Err(Faulted::from(unread)),
-    }
-}
-
-/// Writes the picture of a dialplan, given its text: its queues are read, if it has some.
-fn draw_with_queues<'a, F: ReadFiles, W: WriteTold>(
-    files: &F,
-    alloc: Global,
-    asked: GraphAsked<'_, 'a>,
-    plan: &PlanText,
-    output: &mut W,
-) -> Result<Served, Faulted<'a>>
-    ensures serves { spec.GraphsPlan (F.source_at files.now) (drawing_of asked.entry.question.now) asked.entry.explains
-        (W.contents output.old) (W.contents output.new) (text_now plan.now) result }
-    ensures told { W.has_failed output.new ≡ (W.has_failed output.old || is_write_failed (without_place result)) }
-{
-    match asked.question.queues {
-        None => draw_plan(files, alloc, asked, plan, output),
-        Some(queues) => {
-            let queued = QueuedPlan { plan, queues };
-            draw_after_queues(files, alloc, asked, queued, output)
-        }
+    fn answer<F: ReadFiles, W: WriteTold>(
+        &self,
+        files: &F,
+        alloc: Global,
+        output: &mut W,
+    ) -> Result<Served, Faulted<'a>> {
+        serve_graph_over::<WideApps, F, W>(files, alloc, self.question, self.explains, output)
     }
 }
 
 /// Writes the picture of the dialplan of a file and of those that it includes, with the ways out of the queues of another file and of those
-/// that it includes, if it is named.
-fn draw_including<'a, F: ReadFiles, W: WriteTold>(
+/// that it includes, if it is named. The applications are those of `--asterisk`.
+pub(crate) fn serve_graph_including<'a, F: ReadFiles, W: WriteTold>(
     files: &F,
     alloc: Global,
     question: &GraphQuestion<'a>,
@@ -301,59 +272,18 @@ fn draw_including<'a, F: ReadFiles, W: WriteTold>(
         (options_of options.entry).explains (W.contents output.old) (W.contents output.new) result }
     ensures told { W.has_failed output.new ≡ (W.has_failed output.old || is_write_failed (without_place result)) }
 {
-    let asked = GraphAsked {
+    let drawing = WideDrawing {
         question,
         explains: options.explains,
     };
-    match read_dialplan(files, alloc, question.file, PlanUse::Report, options.clock) {
-        Ok(ReadDialplan::Loads(plan)) => draw_with_queues(files, alloc, asked, &plan, output),
-        Ok(ReadDialplan::Faulty(told)) => Ok(faulty(told)),
-        Err(unread) => Err(Faulted::from(unread)),
-    }
-}
-
-/// The line for `--from` beside `--asterisk`.
-#[tactic(auto, unfolding(crate::specs::Graphs::from_refused))]
-fn from_refused() -> &'static [u8]
-    ensures { result.now ≡ spec.from_refused }
-{
-    b"pbx: --from cannot be used with --asterisk yet: what a call reaches by the applications of this option is not known\n"
-}
-
-/// The same, as a hint.
-fn refusal_of_from(alloc: Global) -> Result<Vec<u8>, NoMemory>
-    ensures { IfOk result (λ told. told.items ≡ spec.from_refused) }
-{
-    let told = Vec::from_slice(alloc, from_refused())?;
-    Ok(told)
-}
-
-/// The result of a request that names a context where it is not known what a call reaches.
-fn refuse_from<'a>(alloc: Global) -> Result<Served, Faulted<'a>>
-    ensures tells { (old : Option (List ℕ)) → TellsFaults spec.from_refused old old result }
-    ensures told { is_write_failed (without_place result) ≡ false }
-{
-    match refusal_of_from(alloc) {
-        Ok(told) => Ok(faulty(told)),
-        Err(refused) => Err(Faulted::from(PbxFault::from(refused))),
-    }
-}
-
-/// Writes the picture of the dialplan of a file and of those that it includes, unless a context is named: which entries a call reaches is
-/// known only over the applications of this program.
-pub(crate) fn serve_graph_including<'a, F: ReadFiles, W: WriteTold>(
-    files: &F,
-    alloc: Global,
-    question: &GraphQuestion<'a>,
-    options: Options<'_>,
-    output: &mut W,
-) -> Result<Served, Faulted<'a>>
-    ensures serves { spec.GraphsWide (drawing_of question.now).from (options_of options.entry).clock (F.source_at files.now) (drawing_of question.now)
-        (options_of options.entry).explains (W.contents output.old) (W.contents output.new) result }
-    ensures told { W.has_failed output.new ≡ (W.has_failed output.old || is_write_failed (without_place result)) }
-{
-    match question.from {
-        Some(_) => refuse_from(alloc),
-        None => draw_including(files, alloc, question, options, output),
-    }
+    let asking = Asking {
+        question: &drawing,
+        paths: PlanPaths {
+            plan: question.file,
+            queues: question.queues,
+        },
+        purpose: PlanUse::Report,
+        clock: options.clock,
+    };
+    answer_including(files, alloc, &asking, output)
 }

@@ -17,6 +17,7 @@ mod nearest;
 mod options;
 mod plan_and_queues;
 mod plan_coverage;
+mod plan_questions;
 mod program;
 mod queue_texts;
 mod reaches;

@@ -20,7 +20,7 @@ use crate::including_reports::{
     WideAudit, serve_audit_including, serve_list_including, serve_match_including,
 };
 use crate::options::Options;
-use crate::reaches::serve_reach;
+use crate::reaches::{serve_reach, serve_reach_including};
 use crate::reports::{Manner, serve_audit, serve_explain, serve_list, serve_match};
 use crate::request::Request;
 use crate::runs::{PlainRun, serve_debug, serve_joined, serve_run};
@@ -211,5 +211,8 @@ pub fn serve<'a, F: ReadFiles, I: ReadTold, W: WriteTold, R: Threads + Wait + Sy
             options.explains,
             output,
         ),
+        Request::ReachIncluding { question } => {
+            serve_reach_including(files, alloc, question, options, output)
+        }
     }
 }

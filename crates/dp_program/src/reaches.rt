@@ -3,28 +3,37 @@ ghost use Rattle.std.specs.Prelude.{◌≡◌, ◌++◌, ◌||◌, [], IfOk, OnO
 ghost use Rattle.std.specs.List.{flat_map};
 ghost use Rattle.std.specs.Option.{option_map, option_map_or};
 ghost use Rattle.dp_answer.specs.Asks.{ask_of as ask_texts, target_names};
+ghost use Rattle.dp_app.specs.Rows.{with_functions};
 ghost use Rattle.dp_commands.specs.Faults.{is_write_failed};
 ghost use Rattle.dp_commands.specs.Run.{files_of};
 ghost use Rattle.dp_conf.specs.Levels.{arguments_of};
 ghost use Rattle.dp_program.specs.Faulted.{without_place};
 ghost use Rattle.dp_program.specs.Reaches as spec;
 ghost use Rattle.dp_program.specs.Reaches.{ReachesFiles};
-ghost use Rattle.dp_program.specs.Requests.{question_of};
+ghost use Rattle.dp_program.specs.Meanings.{standard_meanings, wide_meanings};
+ghost use Rattle.dp_program.specs.Requests.{options_of, question_of};
+ghost use Rattle.dp_program.proofs.ServesLemmas.{reaches_files_lack};
 
+use crate::dialplans::PlanUse;
 use crate::faulted::Faulted;
 use crate::files::ReadFiles;
 use crate::hints::{HintedPlan, Served, is_bare, lacking, push_bare_line, push_told};
+use crate::options::Options;
 use crate::plan_and_queues::{PlanAndQueues, PlanPaths, files_in, placed_over};
+use crate::plan_questions::{Asking, PlanQuestion, answer_including};
 use crate::request::ReachQuestion;
 use crate::texts::{read_named, read_text};
 use dp_answer::{Ask, Report, report_on};
+use dp_closed::DutyTable;
 use dp_commands::{Files, PbxFault};
 use dp_conf::{WriteTold, split_args};
 use dp_plan::NoMemory;
+use dp_table::StandardApps;
+use dp_wide::WideApps;
 use std::alloc::Global;
 
 /// The bytes of an optional word.
-fn bytes_of(word: Option<&str>) -> Option<&[u8]>
+pub(crate) fn bytes_of(word: Option<&str>) -> Option<&[u8]>
     ensures { option_map (λ bytes. bytes.now) result ≡ option_map (λ word. word.now) word.entry }
 {
     match word {
@@ -43,6 +52,7 @@ fn ask_of<'a>(question: &ReachQuestion<'a>) -> Ask<'a>
         starts: bytes_of(question.starts),
         exten: bytes_of(question.exten),
         caller: bytes_of(question.caller),
+        facts: bytes_of(question.facts),
     }
 }
 
@@ -123,17 +133,17 @@ struct HintedReport {
 }
 
 /// The report on a dialplan and queues, and the hints beside it.
-fn hinted_report(
+fn hinted_report<T: DutyTable>(
     alloc: Global,
     question: &ReachQuestion<'_>,
     explains: bool,
     files: &Files,
 ) -> Result<HintedReport, NoMemory>
-    ensures { IfOk result (λ answered. spec.IsAnswered (question_of question.now) explains (record { plan = files.now.plan; queues = files.now.queues })
+    ensures { IfOk result (λ answered. spec.IsAnswered (with_functions T.rows T.Functions.table) (question_of question.now) explains (record { plan = files.now.plan; queues = files.now.queues })
         answered.report.text.items answered.report.status answered.hint.items) }
 {
     let ask = ask_of(question);
-    let report = report_on(alloc, &files.plan, &files.queues, &ask)?;
+    let report = report_on::<T>(alloc, &files.plan, &files.queues, &ask)?;
     let told = HintedPlan {
         file: question.file,
         plan: &files.plan,
@@ -145,25 +155,55 @@ fn hinted_report(
 
 /// Writes the report on the texts of a dialplan and of its queues.
 #[tactic(auto, using(crate::proofs::ReachesLemmas::reaches_fault, crate::proofs::ReachesLemmas::reaches_failed, crate::proofs::ReachesLemmas::reaches_written, crate::proofs::ServesLemmas::reaches_lacks))]
-fn reach_told<W: WriteTold>(
+fn reach_told<T: DutyTable, W: WriteTold>(
     alloc: Global,
     question: &ReachQuestion<'_>,
     explains: bool,
     texts: &PlanAndQueues,
     output: &mut W,
 ) -> Result<Served, PbxFault>
-    ensures reaches { spec.Reaches (question_of question.now) explains
+    ensures reaches { spec.Reaches (with_functions T.rows T.Functions.table) (question_of question.now) explains
         (files_of texts.now.plan.items (option_map (λ text. text.items) texts.now.queues)) (W.contents output.old) (W.contents output.new) result }
     ensures told { W.has_failed output.new ≡ (W.has_failed output.old || is_write_failed result) }
 {
     let files = files_in(alloc, texts)?;
-    let answered = hinted_report(alloc, question, explains, &files)?;
+    let answered = hinted_report::<T>(alloc, question, explains, &files)?;
     output.write_told(&answered.report.text)?;
     let HintedReport { report, hint } = answered;
     Ok(Served {
         status: report.status,
         hint,
     })
+}
+
+/// Reports what a phone call that comes in at a context may run, given the files of a question and the table by which calls run.
+fn serve_reach_over<'a, T: DutyTable, F: ReadFiles, W: WriteTold>(
+    files: &F,
+    alloc: Global,
+    question: &ReachQuestion<'a>,
+    explains: bool,
+    output: &mut W,
+) -> Result<Served, Faulted<'a>>
+    ensures serves { ReachesFiles (with_functions T.rows T.Functions.table) (F.source_at files.now) (question_of question.now) explains
+        (W.contents output.old) (W.contents output.new) result }
+    ensures told { W.has_failed output.new ≡ (W.has_failed output.old || is_write_failed (without_place result)) }
+{
+    let plan = read_text(files, alloc, question.file)?;
+    let queues = read_named(files, alloc, question.queues)?;
+    let texts = PlanAndQueues { plan, queues };
+    let answered = reach_told::<T, W>(alloc, question, explains, &texts, output);
+    placed_over(paths_of(question), texts, answered)
+}
+
+/// The paths of the files of a question.
+fn paths_of<'a>(question: &ReachQuestion<'a>) -> PlanPaths<'a>
+    ensures { result.plan.now ≡ question.now.file.now }
+    ensures queues { option_map (λ path. path.now) result.queues ≡ option_map (λ path. path.now) question.now.queues }
+{
+    PlanPaths {
+        plan: question.file,
+        queues: question.queues,
+    }
 }
 
 /// Reports what a phone call that comes in at a context may run, given the files of a question.
@@ -174,17 +214,57 @@ pub(crate) fn serve_reach<'a, F: ReadFiles, W: WriteTold>(
     explains: bool,
     output: &mut W,
 ) -> Result<Served, Faulted<'a>>
-    ensures serves { ReachesFiles (F.source_at files.now) (question_of question.now) explains (W.contents output.old)
+    ensures serves { ReachesFiles standard_meanings (F.source_at files.now) (question_of question.now) explains (W.contents output.old)
         (W.contents output.new) result }
     ensures told { W.has_failed output.new ≡ (W.has_failed output.old || is_write_failed (without_place result)) }
 {
-    let plan = read_text(files, alloc, question.file)?;
-    let queues = read_named(files, alloc, question.queues)?;
-    let texts = PlanAndQueues { plan, queues };
-    let answered = reach_told(alloc, question, explains, &texts, output);
-    let paths = PlanPaths {
-        plan: question.file,
-        queues: question.queues,
+    serve_reach_over::<StandardApps, F, W>(files, alloc, question, explains, output)
+}
+
+/// A question about calls over the applications of `--asterisk`, and whether names that are similar to a missing one are suggested.
+#[derive(Clone, Copy)]
+struct WideReach<'r, 'a> {
+    question: &'r ReachQuestion<'a>,
+    explains: bool,
+}
+
+impl<'a> PlanQuestion<'a> for WideReach<'_, 'a> {
+    ghost serves = { λ asked files. ReachesFiles wide_meanings files (question_of asked.question.now) asked.explains };
+
+    ghost lacks = { λ asked files old. reaches_files_lack wide_meanings files (question_of asked.question.now) asked.explains old };
+
+    fn answer<F: ReadFiles, W: WriteTold>(
+        &self,
+        files: &F,
+        alloc: Global,
+        output: &mut W,
+    ) -> Result<Served, Faulted<'a>> {
+        serve_reach_over::<WideApps, F, W>(files, alloc, self.question, self.explains, output)
+    }
+}
+
+/// Reports what a phone call that comes in at a context may run, after reading the files of a question with those that they include. The
+/// applications are those of `--asterisk`.
+pub(crate) fn serve_reach_including<'a, F: ReadFiles, W: WriteTold>(
+    files: &F,
+    alloc: Global,
+    question: &ReachQuestion<'a>,
+    options: Options<'_>,
+    output: &mut W,
+) -> Result<Served, Faulted<'a>>
+    ensures serves { spec.ReachesIncluding (options_of options.entry).clock (F.source_at files.now) (question_of question.now)
+        (options_of options.entry).explains (W.contents output.old) (W.contents output.new) result }
+    ensures told { W.has_failed output.new ≡ (W.has_failed output.old || is_write_failed (without_place result)) }
+{
+    let asked = WideReach {
+        question,
+        explains: options.explains,
     };
-    placed_over(paths, texts, answered)
+    let asking = Asking {
+        question: &asked,
+        paths: paths_of(question),
+        purpose: PlanUse::LookUp,
+        clock: options.clock,
+    };
+    answer_including(files, alloc, &asking, output)
 }

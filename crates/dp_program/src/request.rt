@@ -35,6 +35,8 @@ pub struct GraphQuestion<'a> {
     pub queues: Option<&'a str>,
     /// The name of a context: what a call that comes in there may reach is filled, and the rest is grey. Without it nothing is.
     pub from: Option<&'a str>,
+    /// The bytes of what names may be set to from outside, as ranges; without them nothing is set.
+    pub facts: Option<&'a str>,
 }
 
 /// The files of two dialplans that are compared, by their paths.
@@ -63,6 +65,8 @@ pub struct ReachQuestion<'a> {
     pub exten: Option<&'a str>,
     /// The bytes of a caller's number, as ranges.
     pub caller: Option<&'a str>,
+    /// The bytes of what names may be set to from outside, as ranges; without them nothing is set.
+    pub facts: Option<&'a str>,
 }
 
 /// The files of a run, by their paths.
@@ -207,15 +211,21 @@ pub enum Request<'a> {
     Graph {
         question: GraphQuestion<'a>,
     },
-    /// `graph --asterisk [--queues QUEUES] FILE`: does the same for a dialplan and queues that are read from a file each and from those that
-    /// it includes. If the dialplan has a fault, or the queues have anything that this program cannot follow, nothing is written. A context
-    /// is refused, since it is not known what a call reaches by the applications of the wide table.
+    /// `graph --asterisk [--queues QUEUES] [--from CONTEXT] FILE`: does the same for a dialplan and queues that are read from a file each and
+    /// from those that it includes, over the wide table. If the dialplan has a fault, or the queues have anything that this program cannot
+    /// follow, nothing is written.
     GraphIncluding {
         question: GraphQuestion<'a>,
     },
     /// `reach [--queues QUEUES] [--start CONTEXTS] [--exten BYTES] [--caller NUMBERS] [--to TARGET] FILE CONTEXT`: reports what a call that
     /// comes in at a context may run, or whether it may reach another context.
     Reach {
+        question: ReachQuestion<'a>,
+    },
+    /// `reach --asterisk [--facts BYTES] ..`: does the same for a dialplan and queues that are read from a file each and from those that it
+    /// includes, over the wide table. If the dialplan has a fault, or it or the queues have anything that this program cannot follow, nothing
+    /// is written.
+    ReachIncluding {
         question: ReachQuestion<'a>,
     },
 }

@@ -133,11 +133,11 @@ compared : asked_of (codes "pbx" ∷ codes "diff" ∷ codes "--asterisk" ∷ cod
 unfolding clap_on_literals asked_of
 compared = refl
 
-drawn : asked_of (codes "pbx" ∷ codes "graph" ∷ codes "a.conf" ∷ []) ≡ Some (drawing (record { file = codes "a.conf"; queues = None; from = None }))
+drawn : asked_of (codes "pbx" ∷ codes "graph" ∷ codes "a.conf" ∷ []) ≡ Some (drawing (record { file = codes "a.conf"; queues = None; from = None; facts = None }))
 unfolding clap_on_literals asked_of
 drawn = refl
 
-drawn_files : asked_of (codes "pbx" ∷ codes "graph" ∷ codes "--queues" ∷ codes "q.conf" ∷ codes "--asterisk" ∷ codes "--from" ∷ codes "main" ∷ codes "a.conf" ∷ []) ≡ Some (drawing_files (record { file = codes "a.conf"; queues = Some (codes "q.conf"); from = Some (codes "main") }))
+drawn_files : asked_of (codes "pbx" ∷ codes "graph" ∷ codes "--queues" ∷ codes "q.conf" ∷ codes "--asterisk" ∷ codes "--from" ∷ codes "main" ∷ codes "a.conf" ∷ []) ≡ Some (drawing_files (record { file = codes "a.conf"; queues = Some (codes "q.conf"); from = Some (codes "main"); facts = Some usual_facts }))
 unfolding clap_on_literals asked_of
 drawn_files = refl
 

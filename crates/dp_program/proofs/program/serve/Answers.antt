@@ -27,3 +27,7 @@ returns-in-Graph-clause-serves g c = rw c.in-Graph.is c.serve_graph.ensures.serv
 
 pub returns-in-GraphIncluding-clause-serves : goal.returns-in-GraphIncluding-clause-serves
 returns-in-GraphIncluding-clause-serves g c = rw c.in-GraphIncluding.is c.serve_graph_including.ensures.serves
+
+-- it is asked what a call may run
+pub returns-in-ReachIncluding-clause-serves : goal.returns-in-ReachIncluding-clause-serves
+returns-in-ReachIncluding-clause-serves g c = rw c.in-ReachIncluding.is c.serve_reach_including.ensures.serves
