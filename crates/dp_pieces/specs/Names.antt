@@ -1,5 +1,6 @@
 -- What is known of the values of names, and the pieces of what a text in braces names.
 use Rattle.std.specs.Prelude.{ℕ, List, [], Option, Some, None, codes, if◌then◌else◌}
+use Rattle.std.specs.Option.{unwrap_or}
 use Rattle.dp_conf.specs.Cut.{before_last, cut_once}
 use Rattle.dp_conf.specs.Words.{same_text}
 use Rattle.dp_vars.specs.Parts.{asked_of}
@@ -41,6 +42,7 @@ pub record IsWhole (names : Names) : Type 0 where
 -- what is seen agrees with what is known
 pub record IsWithin (names : Names) (sight : Sight) : Type 0 where
   pub variable : (name : List ℕ) → Fits (variable_pieces names name) (sight.variable name)
+  pub held : (name : List ℕ) → Within (names.bytes name) (unwrap_or (sight.held name) [])
   pub global : (name : List ℕ) → Within (names.bytes name) (sight.global name)
   pub local : (name : List ℕ) → Within (names.bytes name) (sight.local name)
   pub caller : Within names.caller sight.caller

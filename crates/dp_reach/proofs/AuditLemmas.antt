@@ -83,6 +83,7 @@ nothing-part set byte is = absurd cc
 seen-globals : (names : Names) → IsWhole names → (counts : QueueCounts) (globals : Named) → AreHeld names globals → IsWithin (names_outside names) (sight_of_globals counts globals)
 seen-globals names whole counts globals held = record {
   variable = nothing-fits names globals held;
+  held = λ name. within-first names (globals ∷ []) name (held, tt);
   global = λ name. within-first names (globals ∷ []) name (held, tt);
   local = λ name. tt;
   caller = tt;

@@ -109,6 +109,8 @@ module _ (claim : Claim) (named : AreNamed claim) (shared : SharedState) (number
   pub seen-channel : IsWithin (names_at claim.names area) (sight_in shared number c)
   seen-channel = record {
     variable = variable-fits;
+    held = λ name. within-first claim.names (searched_maps c.store ++ shared.globals ∷ []) name
+        (each-append (AreHeld claim.names) (searched_maps c.store) (shared.globals ∷ []) stored-held (globals, tt));
     global = λ name. within-first claim.names (shared.globals ∷ []) name (globals, tt);
     local = local-within;
     caller = caller;
