@@ -74,18 +74,22 @@ with_lookup app =
 abbrev pub with_asterisk : App → App
 with_asterisk app = with_rule (with_rule app (flag (codes "asterisk") (codes "asterisk"))) (named_word (codes "MOMENT") (codes "clock"))
 
--- `check [--asterisk [--clock MOMENT]] [--queues QUEUES] [--explain] [FILE]`
+-- a command with the flag `--json`, for output to other tools
+abbrev pub with_json : App → App
+with_json app = with_rule app (flag (codes "json") (codes "json"))
+
+-- `check [--asterisk [--clock MOMENT]] [--queues QUEUES] [--json] [--explain] [FILE]`
 abbrev pub check_app : App
-check_app = with_explain (with_rule (with_queues (with_asterisk (new_app (codes "check")))) (free_word (codes "FILE")))
+check_app = with_explain (with_rule (with_json (with_queues (with_asterisk (new_app (codes "check"))))) (free_word (codes "FILE")))
 
 -- `list [--asterisk [--clock MOMENT]] [--explain] FILE`
 abbrev pub list_app : App
 list_app = with_explain (with_rule (with_asterisk (new_app (codes "list"))) file_word)
 
--- `match [--asterisk [--clock MOMENT]] [--all] [--explain] FILE CONTEXT TEXT [PRIORITY]`
+-- `match [--asterisk [--clock MOMENT]] [--all] [--json] [--explain] FILE CONTEXT TEXT [PRIORITY]`
 abbrev pub match_app : App
 match_app =
-    with_explain (with_lookup (with_rule (with_rule (with_asterisk (new_app (codes "match"))) (flag (codes "all") (codes "all"))) file_word))
+    with_explain (with_lookup (with_rule (with_json (with_rule (with_asterisk (new_app (codes "match"))) (flag (codes "all") (codes "all")))) file_word))
 
 -- `explain [--explain] CODE`
 abbrev pub explain_app : App
@@ -100,9 +104,9 @@ abbrev pub with_kinds : App → App
 with_kinds app =
     with_rule (with_rule app (named_word (codes "KINDS") (codes "only"))) (named_word (codes "UNWANTED") (codes "ignore"))
 
--- `audit [--asterisk [--clock MOMENT]] [--only KINDS] [--ignore UNWANTED] [--explain] FILE`
+-- `audit [--asterisk [--clock MOMENT]] [--only KINDS] [--ignore UNWANTED] [--json] [--explain] FILE`
 abbrev pub audit_app : App
-audit_app = with_explain (with_rule (with_kinds (with_asterisk (new_app (codes "audit")))) file_word)
+audit_app = with_explain (with_rule (with_json (with_kinds (with_asterisk (new_app (codes "audit"))))) file_word)
 
 -- `diff [--asterisk [--clock MOMENT]] [--explain] OLD NEW`
 abbrev pub diff_app : App
@@ -445,9 +449,14 @@ abbrev pub explains_by : Option (List ℕ × List Row) → Bool
 explains_by None = false
 explains_by (Some command) = is_set (codes "explain") command.1
 
+-- whether the output is JSON, given the words of a command; without a command it is not
+abbrev pub json_by : Option (List ℕ × List Row) → Bool
+json_by None = false
+json_by (Some command) = is_set (codes "json") command.1
+
 -- the options of a command
 abbrev pub options_by : Option (List ℕ × List Row) → OptionsOf
-options_by command = record { explains = explains_by command; clock = clock_by command }
+options_by command = record { explains = explains_by command; clock = clock_by command; is_json = json_by command }
 
 -- the same, given all words of a command line
 unfoldable pub options_of : List (List ℕ) → OptionsOf

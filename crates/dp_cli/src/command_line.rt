@@ -36,7 +36,7 @@ use std::alloc::Global;
 pub struct Invocation<'a> {
     /// What the program does.
     pub request: Request<'a>,
-    /// The options that many commands have: `--explain` and `--clock`.
+    /// The options that many commands have: `--explain`, `--clock` and `--json`.
     pub options: Options<'a>,
 }
 
@@ -532,6 +532,16 @@ fn explains(matches: &ArgMatches<'_>) -> bool
     }
 }
 
+/// Whether the words of a command have the flag `--json`.
+fn is_json(matches: &ArgMatches<'_>) -> bool
+    ensures { result ≡ spec.json_by (subcommand_rows_of matches.now) }
+{
+    match matches.subcommand() {
+        Some((_, given)) => is_set(given, "json"),
+        None => false,
+    }
+}
+
 /// The options of the program's commands.
 fn options_in<'a>(matches: &ArgMatches<'a>) -> Options<'a>
     ensures { options_of result ≡ spec.options_by (subcommand_rows_of matches.now) }
@@ -540,6 +550,7 @@ fn options_in<'a>(matches: &ArgMatches<'a>) -> Options<'a>
     Options {
         explains: explains(matches),
         clock,
+        is_json: is_json(matches),
     }
 }
 

@@ -144,6 +144,22 @@ fn with_verbose<'a>(
     with_word(command, verbose)
 }
 
+/// The command with the flag `--json`.
+fn with_json<'a>(
+    alloc: Global,
+    command: Result<Command<'a>, NoMemory>,
+) -> Result<Command<'a>, NoMemory>
+    ensures { (app : App) → Makes app command.entry → Makes (spec.with_json app) result }
+{
+    let json = flag(
+        alloc,
+        "json",
+        "json",
+        "Print a JSON object in place of each line, for other tools",
+    );
+    with_word(command, json)
+}
+
 /// The command with the flag `--asterisk`, and with the moment by which it reads includes with times.
 fn with_asterisk<'a>(
     alloc: Global,
@@ -247,6 +263,7 @@ pub(crate) fn check_command<'a>(alloc: Global) -> Result<Command<'a>, NoMemory>
         "Read included files, templates and block comments, and print every fault",
     );
     let check = with_queues(alloc, check, "The queues, such as queues.conf");
+    let check = with_json(alloc, check);
     let file = free_word(alloc, "FILE", "The dialplan, such as extensions.conf");
     let check = with_word(check, file);
     with_explain(alloc, check)
@@ -311,6 +328,7 @@ pub(crate) fn audit_command<'a>(alloc: Global) -> Result<Command<'a>, NoMemory>
         "Know the applications and functions that people use, and look for endless runs and calls that go on elsewhere",
     );
     let audit = with_kinds(alloc, audit);
+    let audit = with_json(alloc, audit);
     let audit = with_dialplan(alloc, audit);
     with_explain(alloc, audit)
 }
@@ -429,6 +447,7 @@ pub(crate) fn match_command<'a>(alloc: Global) -> Result<Command<'a>, NoMemory>
         "Also print what becomes of each extension that matches",
     );
     let matching = with_word(matching, all);
+    let matching = with_json(alloc, matching);
     let matching = with_dialplan(alloc, matching);
     let matching = with_lookup(alloc, matching);
     with_explain(alloc, matching)

@@ -35,6 +35,8 @@ With --asterisk the files are read as Asterisk reads them: with the files that t
 priorities such as `n+1`. All notes and all faults are printed, each with its file and line, those of the dialplan before those of
 the queues. Then come the counts, or `N faults` with status 1.
 
+With --json each of these lines is a JSON object: of type `note`, `fault` or `count`.
+
 Example:
   $ pbx check extensions.conf
   note 13 UnknownContext
@@ -67,6 +69,8 @@ With --all a line follows for each extension that matches, in the order in which
 
 With --asterisk the files that the dialplan includes are read. If a line has a fault, or something that this program cannot follow
 (`switch`, an extension for one caller, `autofallthrough=no`, `#exec`), each such line is printed on standard error, with status 1.
+
+With --json each line on standard output is a JSON object: of type `match`, `none` or `candidate`.
 
 Example:
   $ pbx match extensions.conf main 555-1234 3
@@ -112,6 +116,8 @@ printed only for a variable that nothing else mentions, and these kinds come las
 
 With --only KINDS only findings of these kinds are printed, and with --ignore KINDS all others. A kind is one of the words above, in
 any case.
+
+With --json each line is a JSON object: of type `finding` or `count`.
 
 Example:
   $ pbx audit extensions.conf

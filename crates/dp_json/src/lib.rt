@@ -1,5 +1,5 @@
-//! What the commands find, as JSON for other tools: an object on a line of its own for each line that a command prints. No command uses it
-//! yet.
+//! What `check`, `match` and `audit` find, as JSON for other tools: an object on a line of its own for each line that the command prints
+//! otherwise.
 //!
 //! ```text
 //! LINE  = '{' FIELD (',' FIELD)* '}' LINE-FEED

@@ -15,6 +15,7 @@ use Rattle.dp_commands.specs.declared.fault.Code.TheVariants.{WriteFailed}
 use Rattle.dp_commands.specs.declared.fault.PbxFault.{PbxFault}
 use Rattle.dp_commands.specs.declared.fault.PbxFault.TheVariants.{Coded, NoMemory}
 use Rattle.dp_program.specs.Checks.{after_plan, both_report, check_by, queues_report, with_line}
+use Rattle.dp_program.specs.JsonChecks.{check_json_of}
 use Rattle.dp_program.proofs.ReadsLemmas.{Refuses-next, by_reason}
 use Rattle.dp_program.proofs.ServesLemmas.{reports_lacks}
 
@@ -67,20 +68,23 @@ both_by (Err load) said queues (Coded code line) refused =
     ap (λ (fault : PbxFault). Err fault) same
 both_by (Err load) said queues NoMemory refused = tt
 
-both_refused_by : (explains : Bool) (path plan queues : List ℕ) (fault : PbxFault) → Refuses (reason_of fault) (after_plan plan (queues_report queues))
-    → Refuses (reason_of fault) (both_report explains path plan queues)
-unfolding check_of check_explained_of
-both_refused_by true path plan queues fault refused = both_by (plan_and_notes plan) _ (queues_report queues) fault refused
-both_refused_by false path plan queues fault refused = both_by (plan_and_notes plan) _ (queues_report queues) fault refused
+both_refused_by : (is_json explains : Bool) (path plan queues : List ℕ) (fault : PbxFault)
+    → Refuses (reason_of fault) (after_plan plan (queues_report is_json queues)) → Refuses (reason_of fault) (both_report is_json explains path plan queues)
+unfolding check_of check_explained_of check_json_of
+both_refused_by true explains path plan queues fault refused = both_by (plan_and_notes plan) _ (queues_report true queues) fault refused
+both_refused_by false true path plan queues fault refused = both_by (plan_and_notes plan) _ (queues_report false queues) fault refused
+both_refused_by false false path plan queues fault refused = both_by (plan_and_notes plan) _ (queues_report false queues) fault refused
 
-pub both_refused : (old : Option (List ℕ)) (explains : Bool) (path plan queues : List ℕ) (fault : PbxFault) → Refuses (reason_of fault) (after_plan plan (queues_report queues))
-    → Reports old old (both_report explains path plan queues) (Err fault)
-both_refused old explains path plan queues fault refused =
-    by_reason (λ fault given. Reports old old given (Err fault)) (λ code line. (Appends-nil old, refl)) (reports_lacks old) fault (both_report explains path plan queues)
-    (both_refused_by explains path plan queues fault refused)
+pub both_refused : (old : Option (List ℕ)) (is_json explains : Bool) (path plan queues : List ℕ) (fault : PbxFault)
+    → Refuses (reason_of fault) (after_plan plan (queues_report is_json queues)) → Reports old old (both_report is_json explains path plan queues) (Err fault)
+both_refused old is_json explains path plan queues fault refused =
+    by_reason (λ fault given. Reports old old given (Err fault)) (λ code line. (Appends-nil old, refl)) (reports_lacks old) fault
+    (both_report is_json explains path plan queues) (both_refused_by is_json explains path plan queues fault refused)
 
 -- if the queues have no fault
-pub both_written : (old new : Option (List ℕ)) (explains : Bool) (path plan queues line : List ℕ) (result : Result ℕ PbxFault) → queues_report queues ≡ Ok line
-    → Reports old new (with_line line (check_by explains path plan)) result → Reports old new (both_report explains path plan queues) result
-both_written old new explains path plan queues line result is reports =
-    subst (λ (given : Result (List ℕ) PbxFault). Reports old new (check_by explains path plan >>= λ said. given >>= λ line. Ok (said ++ line)) result) (sym is) reports
+pub both_written : (old new : Option (List ℕ)) (is_json explains : Bool) (path plan queues line : List ℕ) (result : Result ℕ PbxFault)
+    → queues_report is_json queues ≡ Ok line → Reports old new (with_line line (check_by is_json explains path plan)) result
+    → Reports old new (both_report is_json explains path plan queues) result
+both_written old new is_json explains path plan queues line result is reports =
+    subst (λ (given : Result (List ℕ) PbxFault). Reports old new (check_by is_json explains path plan >>= λ said. given >>= λ line. Ok (said ++ line)) result)
+    (sym is) reports

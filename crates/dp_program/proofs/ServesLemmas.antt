@@ -4,12 +4,13 @@ use Rattle.std.specs.Option.{option_map}
 use Rattle.std.proofs.KnownBytes.{Appends-nil}
 use Rattle.dp_conf.specs.Answers.{Refuses, ◌>>=◌}
 use Rattle.dp_app.specs.Rows.{Meanings}
-use Rattle.dp_commands.specs.Audit.{Audited, WritesAudit, audit_of}
+use Rattle.dp_commands.specs.Audit.{Audited, WritesAudit}
 use Rattle.dp_commands.specs.Debug.{DebugRun, WritesDebug}
 use Rattle.dp_commands.specs.Faults.{reason_of}
 use Rattle.dp_commands.specs.Report.{Reports}
 use Rattle.dp_commands.specs.Run.{Files, Run, Writes, files_of}
 use Rattle.dp_commands.specs.Verbose.{InForce, WritesVerbose, WritesVerboseDebug}
+use Rattle.dp_commands.specs.declared.fault.Code.{Code}
 use Rattle.dp_commands.specs.declared.fault.PbxFault.{PbxFault}
 use Rattle.dp_commands.specs.declared.fault.PbxFault.TheVariants.{Coded, NoMemory}
 use Rattle.dp_files.specs.FolderFiles.{nothing_known}
@@ -30,7 +31,7 @@ use Rattle.dp_program.specs.Meanings.{standard_meanings, wide_meanings}
 use Rattle.dp_program.specs.Reaches.{Reaches, ReachesFiles}
 use Rattle.dp_program.specs.Requests.{DrawingOf, OptionsOf, RequestOf, LookupOf, QuestionOf, joined, check, check_files, check_queue_files, check_both_files, check_queues, check_both, listing, listing_files, auditing, auditing_by, matching, matching_files, explaining, run, run_wide, debug, debug_wide, testing, comparing, comparing_files, drawing, drawing_files, reaching, reaching_files}
 use Rattle.dp_program.specs.Entries.{explanation_of}
-use Rattle.dp_program.specs.Serves.{AuditsAsked, AuditsFile, AuditsFileBy, AuditsText, ChecksBoth, DebugsAsked, DebugsFiles, DebugsFilesVerbosely, DebugsVerbosely, ListsText, LooksUp, LooksUpText, PlacesOf, ReportsOn, Runs, RunsBeside, RunsPlan, RunsPlans, RunsSecond, RunsAsked, RunsFiles, RunsFilesVerbosely, RunsFilesWide, RunsVerbosely, RunsWide, Serves, SharesSome, debug_of_texts, files_read, in_force_at, in_force_at_first, look_up, places_read, run_of_texts, wide_run_of_texts, RunsFilesWideVerbosely, RunsTextsWideVerbosely, RunsWideAsked, RunsWideBy, RunsWideVerbosely, RunManner, RunsQueues, RunsWithQueues, DebugsFilesWide, DebugsFilesWideVerbosely, DebugsTextsWideVerbosely, DebugsWide, DebugsWideVerbosely, DiffsAfter, DiffsTexts, debugging, running, wide_debug_of_texts}
+use Rattle.dp_program.specs.Serves.{AuditsAsked, AuditsFile, AuditsFileBy, AuditsText, ChecksBoth, DebugsAsked, DebugsFiles, DebugsFilesVerbosely, DebugsVerbosely, ListsText, LooksUp, LooksUpText, PlacesOf, ReportsOn, Runs, RunsBeside, RunsPlan, RunsPlans, RunsSecond, RunsAsked, RunsFiles, RunsFilesVerbosely, RunsFilesWide, RunsVerbosely, RunsWide, Serves, SharesSome, WritesChoiceBy, audit_by, debug_of_texts, files_read, in_force_at, in_force_at_first, look_up, places_read, run_of_texts, wide_run_of_texts, RunsFilesWideVerbosely, RunsTextsWideVerbosely, RunsWideAsked, RunsWideBy, RunsWideVerbosely, RunManner, RunsQueues, RunsWithQueues, DebugsFilesWide, DebugsFilesWideVerbosely, DebugsTextsWideVerbosely, DebugsWide, DebugsWideVerbosely, DiffsAfter, DiffsTexts, debugging, running, wide_debug_of_texts}
 use Rattle.dp_program.specs.TestSuites.{manner_of}
 use Rattle.dp_program.specs.Texts.{OfRun, ReadsTexts, all_texts, some_text, sources_of}
 use Rattle.dp_program.specs.declared.dialplans.PlanUse.TheVariants.{Report, LookUp, Run as to_run}
@@ -41,7 +42,7 @@ use Rattle.dp_plan.specs.Plan.{PlanOf}
 use Rattle.dp_wide_runs.specs.Debugging.{WideDebug, WritesWideDebug}
 use Rattle.dp_wide_runs.specs.Kinds.{ChoiceOf}
 use Rattle.dp_wide_runs.specs.Runs.{WideRun}
-use Rattle.dp_wide_runs.specs.WideAudits.{WritesChoice, plan_of}
+use Rattle.dp_wide_runs.specs.WideAudits.{plan_of}
 use Rattle.dp_program.proofs.DialplanLemmas.{dialplan_lacks}
 use Rattle.dp_program.proofs.DiffLemmas.{diffs_lack}
 use Rattle.dp_program.proofs.PlanQuestionLemmas.{over_included_lacks}
@@ -58,9 +59,19 @@ pub audits_lacks : (old : Option (List ℕ)) (given : Result Audited PbxFault) �
 audits_lacks old (Ok report) = Appends-nil old
 audits_lacks old (Err fault) = Appends-nil old
 
-pub choices_lacks : (choice : ChoiceOf) (old : Option (List ℕ)) (given : Result PlanOf PbxFault) → WritesChoice choice old old given (Err NoMemory)
-choices_lacks choice old (Ok plan) = Appends-nil old
-choices_lacks choice old (Err fault) = Appends-nil old
+pub choices_lacks : (is_json : Bool) (choice : ChoiceOf) (old : Option (List ℕ)) (given : Result PlanOf PbxFault) → WritesChoiceBy is_json choice old old given (Err NoMemory)
+choices_lacks true choice old (Ok plan) = Appends-nil old
+choices_lacks true choice old (Err fault) = Appends-nil old
+choices_lacks false choice old (Ok plan) = Appends-nil old
+choices_lacks false choice old (Err fault) = Appends-nil old
+
+-- if the dialplan of an audit has a fault
+pub choices_fault : (is_json : Bool) (choice : ChoiceOf) (old : Option (List ℕ)) (code : Code) (line : Option ℕ)
+    → WritesChoiceBy is_json choice old old (Err (Coded code line)) (Err (Coded code line))
+choices_fault true choice old code line = (Appends-nil old, refl)
+choices_fault false choice old code line = (Appends-nil old, refl)
+
+-- if memory runs out before anything was written
 
 writes_lacks : (old : Option (List ℕ)) (given : Result Run PbxFault) → Writes old old given (Err NoMemory)
 writes_lacks old (Ok ran) = record { count = 0; within = omega arith; written = Appends-nil old }
@@ -133,15 +144,17 @@ pub reports_refused : (old : Option (List ℕ)) (report : List ℕ → Result (L
 reports_refused old report =
     by_reason (λ fault text. Reports old old (text >>= report) (Err fault)) (λ code line. (Appends-nil old, refl)) (λ text. reports_lacks old (text >>= report))
 
-audits_refused : (old : Option (List ℕ)) (fault : PbxFault) (text : Result (List ℕ) PbxFault)
-    → Refuses (reason_of fault) text → WritesAudit old old (text >>= audit_of) (Err fault)
-audits_refused old =
-    by_reason (λ fault text. WritesAudit old old (text >>= audit_of) (Err fault)) (λ code line. (Appends-nil old, refl)) (λ text. audits_lacks old (text >>= audit_of))
+audits_refused : (is_json : Bool) (old : Option (List ℕ)) (fault : PbxFault) (text : Result (List ℕ) PbxFault)
+    → Refuses (reason_of fault) text → WritesAudit old old (text >>= audit_by is_json) (Err fault)
+audits_refused is_json old =
+    by_reason (λ fault text. WritesAudit old old (text >>= audit_by is_json) (Err fault)) (λ code line. (Appends-nil old, refl))
+    (λ text. audits_lacks old (text >>= audit_by is_json))
 
-choices_refused : (choice : ChoiceOf) (old : Option (List ℕ)) (fault : PbxFault) (text : Result (List ℕ) PbxFault)
-    → Refuses (reason_of fault) text → WritesChoice choice old old (text >>= plan_of) (Err fault)
-choices_refused choice old =
-    by_reason (λ fault text. WritesChoice choice old old (text >>= plan_of) (Err fault)) (λ code line. (Appends-nil old, refl)) (λ text. choices_lacks choice old (text >>= plan_of))
+choices_refused : (is_json : Bool) (choice : ChoiceOf) (old : Option (List ℕ)) (fault : PbxFault) (text : Result (List ℕ) PbxFault)
+    → Refuses (reason_of fault) text → WritesChoiceBy is_json choice old old (text >>= plan_of) (Err fault)
+choices_refused is_json choice old =
+    by_reason (λ fault text. WritesChoiceBy is_json choice old old (text >>= plan_of) (Err fault)) (choices_fault is_json choice old)
+    (λ text. choices_lacks is_json choice old (text >>= plan_of))
 
 pub writes_refused : {X : Type 0} (old : Option (List ℕ)) (next : X → Result Run PbxFault) (fault : PbxFault) (text : Result X PbxFault)
     → Refuses (reason_of fault) text → Writes old old (text >>= next) (Err fault)
@@ -249,35 +262,35 @@ report_refused path file report old unread at reads =
       unread_stands unread unread.fault ∙ (ap (λ path. unread_place path unread.fault) at ∙ refused_report_place path unread.fault text refused),
     )) reads
 
-pub audit_refused : (path : List ℕ) (file : Source) (old : Option (List ℕ)) (unread : Unread) → unread.path.now ≡ path
-    → Reads file (λ text. Refuses (reason_of unread.fault) text) → AuditsFile path file old old (Err (unread_fault unread))
-audit_refused path file old unread at reads =
+pub audit_refused : (is_json : Bool) (path : List ℕ) (file : Source) (old : Option (List ℕ)) (unread : Unread) → unread.path.now ≡ path
+    → Reads file (λ text. Refuses (reason_of unread.fault) text) → AuditsFile is_json path file old old (Err (unread_fault unread))
+audit_refused is_json path file old unread at reads =
     Reads-weaker (λ text. Refuses (reason_of unread.fault) text)
-    (λ text. WritesAudit old old (text >>= audit_of) (Err unread.fault) × (place_of (place_unread unread unread.fault) ≡ place_of_report path text unread.fault) × Unit {0})
+    (λ text. WritesAudit old old (text >>= audit_by is_json) (Err unread.fault) × (place_of (place_unread unread unread.fault) ≡ place_of_report path text unread.fault) × Unit {0})
     (λ text refused. (
-      audits_refused old unread.fault text refused,
+      audits_refused is_json old unread.fault text refused,
       unread_stands unread unread.fault ∙ (ap (λ path. unread_place path unread.fault) at ∙ refused_report_place path unread.fault text refused),
       tt,
     )) reads
 
-pub choice_refused : (choice : ChoiceOf) (path : List ℕ) (file : Source) (old : Option (List ℕ)) (unread : Unread) → unread.path.now ≡ path
-    → Reads file (λ text. Refuses (reason_of unread.fault) text) → AuditsFileBy choice path file old old (Err (unread_fault unread))
-choice_refused choice path file old unread at reads =
+pub choice_refused : (is_json : Bool) (choice : ChoiceOf) (path : List ℕ) (file : Source) (old : Option (List ℕ)) (unread : Unread) → unread.path.now ≡ path
+    → Reads file (λ text. Refuses (reason_of unread.fault) text) → AuditsFileBy is_json choice path file old old (Err (unread_fault unread))
+choice_refused is_json choice path file old unread at reads =
     Reads-weaker (λ text. Refuses (reason_of unread.fault) text)
-    (λ text. WritesChoice choice old old (text >>= plan_of) (Err unread.fault) × (place_of (place_unread unread unread.fault) ≡ place_of_report path text unread.fault) × Unit {0})
+    (λ text. WritesChoiceBy is_json choice old old (text >>= plan_of) (Err unread.fault) × (place_of (place_unread unread unread.fault) ≡ place_of_report path text unread.fault) × Unit {0})
     (λ text refused. (
-      choices_refused choice old unread.fault text refused,
+      choices_refused is_json choice old unread.fault text refused,
       unread_stands unread unread.fault ∙ (ap (λ path. unread_place path unread.fault) at ∙ refused_report_place path unread.fault text refused),
       tt,
     )) reads
 
-pub look_up_refused : (lookup : LookupOf) (file : Source) (all explains : Bool) (old : Option (List ℕ)) (unread : Unread) → unread.path.now ≡ lookup.file
-    → Reads file (λ text. Refuses (reason_of unread.fault) text) → LooksUp lookup file all explains old old (Err (unread_fault unread))
-look_up_refused lookup file all explains old unread at reads =
+pub look_up_refused : (lookup : LookupOf) (file : Source) (all : Bool) (options : OptionsOf) (old : Option (List ℕ)) (unread : Unread) → unread.path.now ≡ lookup.file
+    → Reads file (λ text. Refuses (reason_of unread.fault) text) → LooksUp lookup file all options old old (Err (unread_fault unread))
+look_up_refused lookup file all options old unread at reads =
     Reads-weaker (λ text. Refuses (reason_of unread.fault) text)
-    (λ text. Reports old old (text >>= look_up lookup all) (Err unread.fault) × (place_of (place_unread unread unread.fault) ≡ place_of_report lookup.file text unread.fault) × Unit {0})
+    (λ text. Reports old old (text >>= look_up options.is_json lookup all) (Err unread.fault) × (place_of (place_unread unread unread.fault) ≡ place_of_report lookup.file text unread.fault) × Unit {0})
     (λ text refused. (
-      reports_refused old (look_up lookup all) unread.fault text refused,
+      reports_refused old (look_up options.is_json lookup all) unread.fault text refused,
       unread_stands unread unread.fault ∙ (ap (λ path. unread_place path unread.fault) at ∙ refused_report_place lookup.file unread.fault text refused),
       tt,
     )) reads
@@ -299,84 +312,84 @@ tells_same : (hint : Result (List ℕ) PbxFault) (given : Result Served PbxFault
 tells_same hint given (Ok served) same tells = subst (λ given. Tells hint given) (sym same) tells
 tells_same hint given (Err faulted) same tells = tt
 
-pub audit_read : (path : List ℕ) (file : Source) (old new : Option (List ℕ)) (read given asked : List ℕ)
+pub audit_read : (is_json : Bool) (path : List ℕ) (file : Source) (old new : Option (List ℕ)) (read given asked : List ℕ)
     → given ≡ read → asked ≡ read → (result : Result Served PbxFault) (answered : Result Served Faulted) → Reads file (λ text. text ≡ Ok read)
-    → without_place answered ≡ result → WritesAudit old new (audit_of given) (status_in result) → StandsIn (place_in_file path asked) answered
-    → Tells (audit_hint_of path given) result → AuditsFile path file old new answered
-audit_read path file old new read given asked given-is asked-is result answered reads same audits stands tells =
+    → without_place answered ≡ result → WritesAudit old new (audit_by is_json given) (status_in result) → StandsIn (place_in_file path asked) answered
+    → Tells (audit_hint_of path given) result → AuditsFile is_json path file old new answered
+audit_read is_json path file old new read given asked given-is asked-is result answered reads same audits stands tells =
     Reads-weaker (λ text. text ≡ Ok read)
-    (λ text. WritesAudit old new (text >>= audit_of) (status_in (without_place answered)) × StandsIn (place_of_report path text) answered × Tells (text >>= audit_hint_of path) answered)
-    (λ text is. subst (λ (text : Result (List ℕ) PbxFault). WritesAudit old new (text >>= audit_of) (status_in (without_place answered)) × StandsIn (place_of_report path text) answered × Tells (text >>= audit_hint_of path) answered) (sym is) (
-      subst (λ result. WritesAudit old new (audit_of read) (status_in result)) (sym same) (subst (λ (text : List ℕ). WritesAudit old new (audit_of text) (status_in result)) given-is audits),
+    (λ text. WritesAudit old new (text >>= audit_by is_json) (status_in (without_place answered)) × StandsIn (place_of_report path text) answered × Tells (text >>= audit_hint_of path) answered)
+    (λ text is. subst (λ (text : Result (List ℕ) PbxFault). WritesAudit old new (text >>= audit_by is_json) (status_in (without_place answered)) × StandsIn (place_of_report path text) answered × Tells (text >>= audit_hint_of path) answered) (sym is) (
+      subst (λ result. WritesAudit old new (audit_by is_json read) (status_in result)) (sym same) (subst (λ (text : List ℕ). WritesAudit old new (audit_by is_json text) (status_in result)) given-is audits),
       subst (λ (text : List ℕ). StandsIn (place_in_file path text) answered) asked-is stands,
       tells_same (audit_hint_of path read) result answered same (subst (λ (text : List ℕ). Tells (audit_hint_of path text) result) given-is tells),
     )) reads
 
-pub choice_read : (choice : ChoiceOf) (path : List ℕ) (file : Source) (old new : Option (List ℕ)) (read given asked : List ℕ)
+pub choice_read : (is_json : Bool) (choice : ChoiceOf) (path : List ℕ) (file : Source) (old new : Option (List ℕ)) (read given asked : List ℕ)
     → given ≡ read → asked ≡ read → (result : Result Served PbxFault) (answered : Result Served Faulted) → Reads file (λ text. text ≡ Ok read)
-    → without_place answered ≡ result → WritesChoice choice old new (plan_of given) (status_in result) → StandsIn (place_in_file path asked) answered
-    → Tells (audit_hint_of path given) result → AuditsFileBy choice path file old new answered
-choice_read choice path file old new read given asked given-is asked-is result answered reads same audits stands tells =
+    → without_place answered ≡ result → WritesChoiceBy is_json choice old new (plan_of given) (status_in result) → StandsIn (place_in_file path asked) answered
+    → Tells (audit_hint_of path given) result → AuditsFileBy is_json choice path file old new answered
+choice_read is_json choice path file old new read given asked given-is asked-is result answered reads same audits stands tells =
     Reads-weaker (λ text. text ≡ Ok read)
-    (λ text. WritesChoice choice old new (text >>= plan_of) (status_in (without_place answered)) × StandsIn (place_of_report path text) answered × Tells (text >>= audit_hint_of path) answered)
-    (λ text is. subst (λ (text : Result (List ℕ) PbxFault). WritesChoice choice old new (text >>= plan_of) (status_in (without_place answered)) × StandsIn (place_of_report path text) answered × Tells (text >>= audit_hint_of path) answered) (sym is) (
-      subst (λ result. WritesChoice choice old new (plan_of read) (status_in result)) (sym same) (subst (λ (text : List ℕ). WritesChoice choice old new (plan_of text) (status_in result)) given-is audits),
+    (λ text. WritesChoiceBy is_json choice old new (text >>= plan_of) (status_in (without_place answered)) × StandsIn (place_of_report path text) answered × Tells (text >>= audit_hint_of path) answered)
+    (λ text is. subst (λ (text : Result (List ℕ) PbxFault). WritesChoiceBy is_json choice old new (text >>= plan_of) (status_in (without_place answered)) × StandsIn (place_of_report path text) answered × Tells (text >>= audit_hint_of path) answered) (sym is) (
+      subst (λ result. WritesChoiceBy is_json choice old new (plan_of read) (status_in result)) (sym same) (subst (λ (text : List ℕ). WritesChoiceBy is_json choice old new (plan_of text) (status_in result)) given-is audits),
       subst (λ (text : List ℕ). StandsIn (place_in_file path text) answered) asked-is stands,
       tells_same (audit_hint_of path read) result answered same (subst (λ (text : List ℕ). Tells (audit_hint_of path text) result) given-is tells),
     )) reads
 
-pub look_up_read : (lookup : LookupOf) (file : Source) (all explains : Bool) (old new : Option (List ℕ)) (read given asked : List ℕ)
+pub look_up_read : (lookup : LookupOf) (file : Source) (all : Bool) (options : OptionsOf) (old new : Option (List ℕ)) (read given asked : List ℕ)
     → given ≡ read → asked ≡ read → (result : Result Served PbxFault) (answered : Result Served Faulted) → Reads file (λ text. text ≡ Ok read)
-    → without_place answered ≡ result → Reports old new (look_up lookup all given) (status_in result) → StandsIn (place_in_file lookup.file asked) answered
-    → Tells (match_hint_of lookup explains given) result → LooksUp lookup file all explains old new answered
-look_up_read lookup file all explains old new read given asked given-is asked-is result answered reads same reports stands tells =
+    → without_place answered ≡ result → Reports old new (look_up options.is_json lookup all given) (status_in result) → StandsIn (place_in_file lookup.file asked) answered
+    → Tells (match_hint_of lookup options.explains given) result → LooksUp lookup file all options old new answered
+look_up_read lookup file all options old new read given asked given-is asked-is result answered reads same reports stands tells =
     Reads-weaker (λ text. text ≡ Ok read)
-    (λ text. Reports old new (text >>= look_up lookup all) (status_in (without_place answered)) × StandsIn (place_of_report lookup.file text) answered × Tells (text >>= match_hint_of lookup explains) answered)
-    (λ text is. subst (λ (text : Result (List ℕ) PbxFault). Reports old new (text >>= look_up lookup all) (status_in (without_place answered)) × StandsIn (place_of_report lookup.file text) answered × Tells (text >>= match_hint_of lookup explains) answered) (sym is) (
-      subst (λ result. Reports old new (look_up lookup all read) (status_in result)) (sym same) (subst (λ (text : List ℕ). Reports old new (look_up lookup all text) (status_in result)) given-is reports),
+    (λ text. Reports old new (text >>= look_up options.is_json lookup all) (status_in (without_place answered)) × StandsIn (place_of_report lookup.file text) answered × Tells (text >>= match_hint_of lookup options.explains) answered)
+    (λ text is. subst (λ (text : Result (List ℕ) PbxFault). Reports old new (text >>= look_up options.is_json lookup all) (status_in (without_place answered)) × StandsIn (place_of_report lookup.file text) answered × Tells (text >>= match_hint_of lookup options.explains) answered) (sym is) (
+      subst (λ result. Reports old new (look_up options.is_json lookup all read) (status_in result)) (sym same) (subst (λ (text : List ℕ). Reports old new (look_up options.is_json lookup all text) (status_in result)) given-is reports),
       subst (λ (text : List ℕ). StandsIn (place_in_file lookup.file text) answered) asked-is stands,
-      tells_same (match_hint_of lookup explains read) result answered same (subst (λ (text : List ℕ). Tells (match_hint_of lookup explains text) result) given-is tells),
+      tells_same (match_hint_of lookup options.explains read) result answered same (subst (λ (text : List ℕ). Tells (match_hint_of lookup options.explains text) result) given-is tells),
     )) reads
 
 -- the output and result of a check of two files, given the results of reading them
-abbrev Checked : List ℕ → List ℕ → Bool → Option (List ℕ) → Option (List ℕ) → Result ℕ Faulted → Result (List ℕ) PbxFault → Result (List ℕ) PbxFault → Type 0
-Checked path queues_path explains old new answered plan queues =
-    Reports old new (plan >>= λ plan. queues >>= λ queues. both_report explains path plan queues) (without_place answered)
+abbrev Checked : List ℕ → List ℕ → Bool → Bool → Option (List ℕ) → Option (List ℕ) → Result ℕ Faulted → Result (List ℕ) PbxFault → Result (List ℕ) PbxFault → Type 0
+Checked path queues_path is_json explains old new answered plan queues =
+    Reports old new (plan >>= λ plan. queues >>= λ queues. both_report is_json explains path plan queues) (without_place answered)
     × StandsIn (place_of_two path queues_path plan queues) answered
 
 -- if the dialplan of a check of both is refused
-pub both_refused_plan : (files : List ℕ → Source) (path queues_path : List ℕ) (explains : Bool) (old : Option (List ℕ)) (unread : Unread) → unread.path.now ≡ path
-    → Reads (files path) (λ text. Refuses (reason_of unread.fault) text) → ChecksBoth files path queues_path explains old old (Err (unread_fault unread))
-both_refused_plan files path queues_path explains old unread at reads =
-    Reads-weaker (λ text. Refuses (reason_of unread.fault) text) (λ plan. Reads (files queues_path) (Checked path queues_path explains old old (Err (unread_fault unread)) plan))
+pub both_refused_plan : (files : List ℕ → Source) (path queues_path : List ℕ) (is_json explains : Bool) (old : Option (List ℕ)) (unread : Unread) → unread.path.now ≡ path
+    → Reads (files path) (λ text. Refuses (reason_of unread.fault) text) → ChecksBoth files path queues_path is_json explains old old (Err (unread_fault unread))
+both_refused_plan files path queues_path is_json explains old unread at reads =
+    Reads-weaker (λ text. Refuses (reason_of unread.fault) text) (λ plan. Reads (files queues_path) (Checked path queues_path is_json explains old old (Err (unread_fault unread)) plan))
     (λ plan refused. Reads-any (files queues_path) _ (λ queues. (
-      reports_refused old (λ plan. queues >>= λ queues. both_report explains path plan queues) unread.fault plan refused,
+      reports_refused old (λ plan. queues >>= λ queues. both_report is_json explains path plan queues) unread.fault plan refused,
       unread_stands unread unread.fault ∙ (ap (λ path. unread_place path unread.fault) at ∙ refused_first_place path queues_path queues unread.fault plan refused),
     ))) reads
 
 -- if its queues are refused after the dialplan was read
-pub both_refused_queues : (files : List ℕ → Source) (path queues_path : List ℕ) (explains : Bool) (old : Option (List ℕ)) (read : List ℕ) (unread : Unread) → unread.path.now ≡ queues_path
+pub both_refused_queues : (files : List ℕ → Source) (path queues_path : List ℕ) (is_json explains : Bool) (old : Option (List ℕ)) (read : List ℕ) (unread : Unread) → unread.path.now ≡ queues_path
     → Reads (files path) (λ text. text ≡ Ok read) → Reads (files queues_path) (λ text. Refuses (reason_of unread.fault) text)
-    → ChecksBoth files path queues_path explains old old (Err (unread_fault unread))
-both_refused_queues files path queues_path explains old read unread at is reads =
-    Reads-weaker (λ text. text ≡ Ok read) (λ plan. Reads (files queues_path) (Checked path queues_path explains old old (Err (unread_fault unread)) plan))
-    (λ plan plan_is. Reads-weaker (λ text. Refuses (reason_of unread.fault) text) (Checked path queues_path explains old old (Err (unread_fault unread)) plan)
-    (λ queues refused. subst (λ plan. Checked path queues_path explains old old (Err (unread_fault unread)) plan queues) (sym plan_is) (
-      reports_refused old (both_report explains path read) unread.fault queues refused,
+    → ChecksBoth files path queues_path is_json explains old old (Err (unread_fault unread))
+both_refused_queues files path queues_path is_json explains old read unread at is reads =
+    Reads-weaker (λ text. text ≡ Ok read) (λ plan. Reads (files queues_path) (Checked path queues_path is_json explains old old (Err (unread_fault unread)) plan))
+    (λ plan plan_is. Reads-weaker (λ text. Refuses (reason_of unread.fault) text) (Checked path queues_path is_json explains old old (Err (unread_fault unread)) plan)
+    (λ queues refused. subst (λ plan. Checked path queues_path is_json explains old old (Err (unread_fault unread)) plan queues) (sym plan_is) (
+      reports_refused old (both_report is_json explains path read) unread.fault queues refused,
       unread_stands unread unread.fault ∙ (ap (λ path. unread_place path unread.fault) at ∙ refused_second_place path queues_path read unread.fault queues refused),
     )) reads) is
 
 -- if both files are read
-pub both_read : (files : List ℕ → Source) (path queues_path : List ℕ) (explains : Bool) (old new : Option (List ℕ)) (read held : List ℕ)
+pub both_read : (files : List ℕ → Source) (path queues_path : List ℕ) (is_json explains : Bool) (old new : Option (List ℕ)) (read held : List ℕ)
     (result : Result ℕ PbxFault) (answered : Result ℕ Faulted) → Reads (files path) (λ text. text ≡ Ok read) → Reads (files queues_path) (λ text. text ≡ Ok held)
-    → without_place answered ≡ result → Reports old new (both_report explains path read held) result → StandsIn (place_in_two (path, read) (queues_path, held)) answered
-    → ChecksBoth files path queues_path explains old new answered
-both_read files path queues_path explains old new read held result answered is are same reports stands =
-    Reads-weaker (λ text. text ≡ Ok read) (λ plan. Reads (files queues_path) (Checked path queues_path explains old new answered plan))
-    (λ plan plan_is. Reads-weaker (λ text. text ≡ Ok held) (Checked path queues_path explains old new answered plan)
-    (λ queues queues_is. subst (λ plan. Checked path queues_path explains old new answered plan queues) (sym plan_is)
-    (subst (λ queues. Checked path queues_path explains old new answered (Ok read) queues) (sym queues_is)
-    (subst (λ result. Reports old new (both_report explains path read held) result) (sym same) reports, stands))) are) is
+    → without_place answered ≡ result → Reports old new (both_report is_json explains path read held) result → StandsIn (place_in_two (path, read) (queues_path, held)) answered
+    → ChecksBoth files path queues_path is_json explains old new answered
+both_read files path queues_path is_json explains old new read held result answered is are same reports stands =
+    Reads-weaker (λ text. text ≡ Ok read) (λ plan. Reads (files queues_path) (Checked path queues_path is_json explains old new answered plan))
+    (λ plan plan_is. Reads-weaker (λ text. text ≡ Ok held) (Checked path queues_path is_json explains old new answered plan)
+    (λ queues queues_is. subst (λ plan. Checked path queues_path is_json explains old new answered plan queues) (sym plan_is)
+    (subst (λ queues. Checked path queues_path is_json explains old new answered (Ok read) queues) (sym queues_is)
+    (subst (λ result. Reports old new (both_report is_json explains path read held) result) (sym same) reports, stands))) are) is
 
 -- if a file of a run is refused
 pub run_refused : (paths : OfRun (List ℕ)) (sources : OfRun Source) (threads : Option ℕ) (old : Option (List ℕ)) (unread : Unread)
@@ -604,23 +617,25 @@ pub listing_lacks : (path : List ℕ) (files : List ℕ → Source) (old : Optio
 listing_lacks path files old plan =
     (Reads-any (with_text files path plan.text path) _ (λ text. (reports_lacks old _, lacks_report_place path text)), tt)
 
-pub matching_lacks : (lookup : LookupOf) (files : List ℕ → Source) (all explains : Bool) (old : Option (List ℕ)) (plan : PlanTextOf)
-    → LooksUpText lookup files all explains old old plan (Err (nowhere NoMemory))
-matching_lacks lookup files all explains old plan =
+pub matching_lacks : (lookup : LookupOf) (files : List ℕ → Source) (all : Bool) (options : OptionsOf) (old : Option (List ℕ)) (plan : PlanTextOf)
+    → LooksUpText lookup files all options old old plan (Err (nowhere NoMemory))
+matching_lacks lookup files all options old plan =
     Reads-any (with_text files lookup.file plan.text lookup.file) _ (λ text. (reports_lacks old _, lacks_report_place lookup.file text, tt))
 
-audit_lacks : (choice : ChoiceOf) (path : List ℕ) (file : Source) (old : Option (List ℕ)) → AuditsFileBy choice path file old old (Err (nowhere NoMemory))
-audit_lacks choice path file old = Reads-any file _ (λ text. (choices_lacks choice old _, lacks_report_place path text, tt))
+audit_lacks : (is_json : Bool) (choice : ChoiceOf) (path : List ℕ) (file : Source) (old : Option (List ℕ))
+    → AuditsFileBy is_json choice path file old old (Err (nowhere NoMemory))
+audit_lacks is_json choice path file old = Reads-any file _ (λ text. (choices_lacks is_json choice old _, lacks_report_place path text, tt))
 
-pub auditing_lacks : (choice : ChoiceOf) (path : List ℕ) (files : List ℕ → Source) (old : Option (List ℕ)) (plan : PlanTextOf)
-    → AuditsText choice path files old old plan (Err (nowhere NoMemory))
-auditing_lacks choice path files old plan = audit_lacks choice path (with_text files path plan.text path) old
+pub auditing_lacks : (is_json : Bool) (choice : ChoiceOf) (path : List ℕ) (files : List ℕ → Source) (old : Option (List ℕ)) (plan : PlanTextOf)
+    → AuditsText is_json choice path files old old plan (Err (nowhere NoMemory))
+auditing_lacks is_json choice path files old plan = audit_lacks is_json choice path (with_text files path plan.text path) old
 
-audit_asked_lacks : (is_wide : Bool) (clock : Option (List ℕ)) (choice : ChoiceOf) (path : List ℕ) (files : List ℕ → Source) (old : Option (List ℕ))
-    → AuditsAsked is_wide clock choice path files old old (Err (nowhere NoMemory))
-audit_asked_lacks true clock choice path files old =
-    dialplan_lacks (AuditsText choice path files old old) path old (auditing_lacks choice path files old) Report clock files
-audit_asked_lacks false clock choice path files old = audit_lacks choice path (files path) old
+audit_asked_lacks : (is_wide : Bool) (options : OptionsOf) (choice : ChoiceOf) (path : List ℕ) (files : List ℕ → Source) (old : Option (List ℕ))
+    → AuditsAsked is_wide options choice path files old old (Err (nowhere NoMemory))
+audit_asked_lacks true options choice path files old =
+    dialplan_lacks (AuditsText options.is_json choice path files old old) path old (auditing_lacks options.is_json choice path files old) Report options.clock
+    files
+audit_asked_lacks false options choice path files old = audit_lacks options.is_json choice path (files path) old
 
 run_asked_lacks : (paths : OfRun (List ℕ)) (sources : OfRun Source) (threads : Option ℕ) (is_verbose : Bool) (old : Option (List ℕ))
     → RunsAsked paths sources threads is_verbose old old (Err (nowhere NoMemory))
@@ -639,33 +654,33 @@ debug_asked_lacks paths sources held false old =
     ReadsTexts-any sources (λ read. WritesDebug old old (all_texts read >>= debug_of_texts held) (Err NoMemory) × (in_none ≡ place_of_run paths read NoMemory))
     (λ read. (debug_lacks old (all_texts read >>= debug_of_texts held), lacks_place_by paths (unread_path paths read) (all_texts read)))
 
-check_lacks : (path : List ℕ) (old : Option (List ℕ)) (plan : Result PlanFilesOf ReadingFault)
-    → WritesCheck old old (checked plan) (Err NoMemory) × (in_none ≡ place_of_plan path plan NoMemory)
-check_lacks path old (Ok plan) = (Appends-nil old, refl)
-check_lacks path old (Err fault) = (Appends-nil old, refl)
+check_lacks : (is_json : Bool) (path : List ℕ) (old : Option (List ℕ)) (plan : Result PlanFilesOf ReadingFault)
+    → WritesCheck old old (checked is_json plan) (Err NoMemory) × (in_none ≡ place_of_plan path plan NoMemory)
+check_lacks is_json path old (Ok plan) = (Appends-nil old, refl)
+check_lacks is_json path old (Err fault) = (Appends-nil old, refl)
 
-queue_check_lacks : (path : List ℕ) (old : Option (List ℕ)) (queues : Result QueueFilesOf ReadingFault)
-    → WritesCheck old old (queues_checked queues) (Err NoMemory) × (in_none ≡ place_of_queues path queues NoMemory)
-queue_check_lacks path old (Ok queues) = (Appends-nil old, refl)
-queue_check_lacks path old (Err fault) = (Appends-nil old, refl)
+queue_check_lacks : (is_json : Bool) (path : List ℕ) (old : Option (List ℕ)) (queues : Result QueueFilesOf ReadingFault)
+    → WritesCheck old old (queues_checked is_json queues) (Err NoMemory) × (in_none ≡ place_of_queues path queues NoMemory)
+queue_check_lacks is_json path old (Ok queues) = (Appends-nil old, refl)
+queue_check_lacks is_json path old (Err fault) = (Appends-nil old, refl)
 
-pub both_check_lacks : (path queues_path : List ℕ) (old : Option (List ℕ)) (plan : Result PlanFilesOf ReadingFault) (queues : Result QueueFilesOf ReadingFault)
-    → WritesCheck old old (both_checked plan queues) (Err NoMemory) × (in_none ≡ place_of_both path queues_path plan queues NoMemory)
-both_check_lacks path queues_path old (Ok plan) (Ok queues) = (Appends-nil old, refl)
-both_check_lacks path queues_path old (Ok plan) (Err fault) = (Appends-nil old, refl)
-both_check_lacks path queues_path old (Err fault) queues = (Appends-nil old, refl)
+pub both_check_lacks : (is_json : Bool) (path queues_path : List ℕ) (old : Option (List ℕ)) (plan : Result PlanFilesOf ReadingFault) (queues : Result QueueFilesOf ReadingFault)
+    → WritesCheck old old (both_checked is_json plan queues) (Err NoMemory) × (in_none ≡ place_of_both path queues_path plan queues NoMemory)
+both_check_lacks is_json path queues_path old (Ok plan) (Ok queues) = (Appends-nil old, refl)
+both_check_lacks is_json path queues_path old (Ok plan) (Err fault) = (Appends-nil old, refl)
+both_check_lacks is_json path queues_path old (Err fault) queues = (Appends-nil old, refl)
 
 -- if the dialplan of a check of both was not read
-pub both_check_refused : (path queues_path : List ℕ) (old : Option (List ℕ)) (queues : Result QueueFilesOf ReadingFault) (fault : ReadingFault) (plan : Result PlanFilesOf ReadingFault)
+pub both_check_refused : (is_json : Bool) (path queues_path : List ℕ) (old : Option (List ℕ)) (queues : Result QueueFilesOf ReadingFault) (fault : ReadingFault) (plan : Result PlanFilesOf ReadingFault)
     → Refuses (first_fault fault) plan
-    → WritesCheck old old (both_checked plan queues) (Err (reading_fault fault)) × (unread_place path (reading_fault fault) ≡ place_of_both path queues_path plan queues (reading_fault fault))
-both_check_refused path queues_path old queues NotFound plan is =
-    subst (λ (plan : Result PlanFilesOf ReadingFault). WritesCheck old old (both_checked plan queues) (Err (reading_fault NotFound)) × (unread_place path (reading_fault NotFound) ≡ place_of_both path queues_path plan queues (reading_fault NotFound))) (sym is)
+    → WritesCheck old old (both_checked is_json plan queues) (Err (reading_fault fault)) × (unread_place path (reading_fault fault) ≡ place_of_both path queues_path plan queues (reading_fault fault))
+both_check_refused is_json path queues_path old queues NotFound plan is =
+    subst (λ (plan : Result PlanFilesOf ReadingFault). WritesCheck old old (both_checked is_json plan queues) (Err (reading_fault NotFound)) × (unread_place path (reading_fault NotFound) ≡ place_of_both path queues_path plan queues (reading_fault NotFound))) (sym is)
     ((Appends-nil old, refl), refl)
-both_check_refused path queues_path old queues too_long plan is =
-    subst (λ (plan : Result PlanFilesOf ReadingFault). WritesCheck old old (both_checked plan queues) (Err (reading_fault too_long)) × (unread_place path (reading_fault too_long) ≡ place_of_both path queues_path plan queues (reading_fault too_long))) (sym is)
+both_check_refused is_json path queues_path old queues too_long plan is =
+    subst (λ (plan : Result PlanFilesOf ReadingFault). WritesCheck old old (both_checked is_json plan queues) (Err (reading_fault too_long)) × (unread_place path (reading_fault too_long) ≡ place_of_both path queues_path plan queues (reading_fault too_long))) (sym is)
     ((Appends-nil old, refl), refl)
-both_check_refused path queues_path old queues no_memory plan is = both_check_lacks path queues_path old plan queues
+both_check_refused is_json path queues_path old queues no_memory plan is = both_check_lacks is_json path queues_path old plan queues
 
 pub diff_texts_lack : (files : List ℕ → Source) (before_path after_path : List ℕ) (old : Option (List ℕ)) (before after : PlanTextOf)
     → DiffsTexts files before_path after_path old old before after (Err (nowhere NoMemory))
@@ -704,9 +719,9 @@ pub Serves-lacks : (files : List ℕ → Source) (input : Source) (want : Reques
 Serves-lacks files input joined options old = ((Reads-any input _ (λ text. writes_lacks old _), refl), tt)
 Serves-lacks files input (check file) options old = (Reads-any (files file) _ (λ text. (reports_lacks old _, lacks_report_place file text)), tt)
 Serves-lacks files input (check_files file) options old =
-    ((nothing_known, record { texts = λ name. tt; names = λ pattern. tt }, λ has agrees. check_lacks file old (read_plan_of (moment_in options.clock) has file)), tt)
+    ((nothing_known, record { texts = λ name. tt; names = λ pattern. tt }, λ has agrees. check_lacks options.is_json file old (read_plan_of (moment_in options.clock) has file)), tt)
 Serves-lacks files input (check_queue_files queues) options old =
-    ((nothing_known, record { texts = λ name. tt; names = λ pattern. tt }, λ has agrees. queue_check_lacks queues old (queues_of has queues)), tt)
+    ((nothing_known, record { texts = λ name. tt; names = λ pattern. tt }, λ has agrees. queue_check_lacks options.is_json queues old (queues_of has queues)), tt)
 Serves-lacks files input (check_both_files file queues) options old = (
   (
     nothing_known,
@@ -715,7 +730,7 @@ Serves-lacks files input (check_both_files file queues) options old = (
       nothing_known,
       record { texts = λ name. tt; names = λ pattern. tt },
       λ held agreed.
-          both_check_lacks file queues old (read_plan_of (moment_in options.clock) has file) (queues_of held queues),
+          both_check_lacks options.is_json file queues old (read_plan_of (moment_in options.clock) has file) (queues_of held queues),
     ),
   ),
   tt,
@@ -727,11 +742,10 @@ Serves-lacks files input (listing file) options old = (Reads-any (files file) _ 
 Serves-lacks files input (listing_files file) options old =
     dialplan_lacks (ListsText file files old old) file old (listing_lacks file files old) Report options.clock files
 Serves-lacks files input (auditing file) options old = Reads-any (files file) _ (λ text. (audits_lacks old _, lacks_report_place file text, tt))
-Serves-lacks files input (auditing_by file choice) options old = audit_asked_lacks choice.is_wide options.clock choice file files old
+Serves-lacks files input (auditing_by file choice) options old = audit_asked_lacks choice.is_wide options choice file files old
 Serves-lacks files input (matching lookup all) options old = Reads-any (files lookup.file) _ (λ text. (reports_lacks old _, lacks_report_place lookup.file text, tt))
 Serves-lacks files input (matching_files lookup all) options old =
-    dialplan_lacks (LooksUpText lookup files all options.explains old old) lookup.file old (matching_lacks lookup files all options.explains old) LookUp
-    options.clock files
+    dialplan_lacks (LooksUpText lookup files all options old old) lookup.file old (matching_lacks lookup files all options old) LookUp options.clock files
 Serves-lacks files input (explaining fault) options old = ((Appends-nil old, refl), tt)
 Serves-lacks files input (run paths threads is_verbose) options old = (run_asked_lacks paths (sources_of files paths) threads is_verbose old, tt)
 Serves-lacks files input (run_wide paths is_verbose) options old =

@@ -1,5 +1,5 @@
 -- The output and result of a check of a dialplan, of queues or of both, with the files that they include.
-use Rattle.std.specs.Prelude.{◌≡◌, ℕ, Bool, true, ◌==◌, List, [], Option, Some, None, Result, Ok, Err, if◌then◌else◌}
+use Rattle.std.specs.Prelude.{◌≡◌, ℕ, Bool, true, false, ◌==◌, List, [], Option, Some, None, Result, Ok, Err, if◌then◌else◌}
 use Rattle.std.specs.Io.KnownBytes.{Appends}
 use Rattle.dp_conf.specs.Fronts.{AppendsFront}
 use Rattle.dp_files.specs.FolderFiles.{MayTell, ReadsFolder}
@@ -14,6 +14,7 @@ use Rattle.dp_notices.specs.PlanFiles.{PlanFilesOf, plan_of}
 use Rattle.dp_notices.specs.QueueFiles.{QueueFilesOf, queues_of}
 use Rattle.dp_program.specs.Faulted.{PlaceOf, StandsIn, in_none, unread_place, without_place}
 use Rattle.dp_program.specs.Files.{Source}
+use Rattle.dp_program.specs.JsonChecks.{both_lines, plan_lines, queues_lines}
 use Rattle.dp_program.specs.declared.faulted.Faulted.{Faulted}
 use Rattle.dp_wide.specs.declared.times.Moment.{Moment}
 
@@ -46,14 +47,19 @@ pub record CheckOf : Type 0 where
 abbrev pub check_status : ℕ → ℕ
 check_status faults = if faults == 0 then 0 else 1
 
--- the report on a dialplan that was read
-abbrev pub check_of : PlanFilesOf → CheckOf
-check_of plan = record { text = check_text plan; status = check_status (faults_of plan) }
+-- the text of the report on a dialplan that was read, given whether it is JSON
+abbrev pub plan_text : Bool → PlanFilesOf → List ℕ
+plan_text true plan = plan_lines plan
+plan_text false plan = check_text plan
+
+-- the report on it
+abbrev pub check_of : Bool → PlanFilesOf → CheckOf
+check_of is_json plan = record { text = plan_text is_json plan; status = check_status (faults_of plan) }
 
 -- the same, or why nothing was read
-abbrev pub checked : Result PlanFilesOf ReadingFault → Result CheckOf PbxFault
-checked (Ok plan) = Ok (check_of plan)
-checked (Err fault) = Err (reading_fault fault)
+abbrev pub checked : Bool → Result PlanFilesOf ReadingFault → Result CheckOf PbxFault
+checked is_json (Ok plan) = Ok (check_of is_json plan)
+checked is_json (Err fault) = Err (reading_fault fault)
 
 -- the output and result of a check, given its report or the fault in its place: the whole report or, if a write fails, a prefix of it
 abbrev pub WritesCheck : Option (List ℕ) → Option (List ℕ) → Result CheckOf PbxFault → Result ℕ PbxFault → Type 0
@@ -69,44 +75,55 @@ abbrev pub place_of_plan : List ℕ → Result PlanFilesOf ReadingFault → PbxF
 place_of_plan path (Ok plan) fault = in_none
 place_of_plan path (Err unread) fault = unread_place path fault
 
--- the output and result of a check of the dialplan of a file and of those that it includes, and the place of its fault, given the moment by
--- which includes with times are read, if there is one: for all files that are as they were read
-abbrev pub ChecksIncluding : Option Moment → List ℕ → (List ℕ → Source) → Option (List ℕ) → Option (List ℕ) → Result ℕ Faulted → Type 0
-ChecksIncluding moment path sources old new answered =
+-- the output and result of a check of the dialplan of a file and of those that it includes, and the place of its fault, given whether it is
+-- JSON, and the moment by which includes with times are read, if there is one: for all files that are as they were read
+abbrev pub ChecksIncluding : Bool → Option Moment → List ℕ → (List ℕ → Source) → Option (List ℕ) → Option (List ℕ) → Result ℕ Faulted → Type 0
+ChecksIncluding is_json moment path sources old new answered =
     ReadsFolder (MayTellOf sources path) (λ has.
-    WritesCheck old new (checked (plan_of moment has path)) (without_place answered)
+    WritesCheck old new (checked is_json (plan_of moment has path)) (without_place answered)
     × StandsIn (place_of_plan path (plan_of moment has path)) answered)
 
--- the report on queues that were read
-abbrev pub queues_check_of : QueueFilesOf → CheckOf
-queues_check_of queues = record { text = queues_check_text queues; status = check_status (faults_of_queues queues) }
+-- the text of the report on queues that were read, given whether it is JSON
+abbrev pub queues_text : Bool → QueueFilesOf → List ℕ
+queues_text true queues = queues_lines queues
+queues_text false queues = queues_check_text queues
+
+-- the report on them
+abbrev pub queues_check_of : Bool → QueueFilesOf → CheckOf
+queues_check_of is_json queues = record { text = queues_text is_json queues; status = check_status (faults_of_queues queues) }
 
 -- the same, or why nothing was read
-abbrev pub queues_checked : Result QueueFilesOf ReadingFault → Result CheckOf PbxFault
-queues_checked (Ok queues) = Ok (queues_check_of queues)
-queues_checked (Err fault) = Err (reading_fault fault)
+abbrev pub queues_checked : Bool → Result QueueFilesOf ReadingFault → Result CheckOf PbxFault
+queues_checked is_json (Ok queues) = Ok (queues_check_of is_json queues)
+queues_checked is_json (Err fault) = Err (reading_fault fault)
 
 -- the place of the fault of a check of queues: the first file, if that was not read
 abbrev pub place_of_queues : List ℕ → Result QueueFilesOf ReadingFault → PbxFault → PlaceOf
 place_of_queues path (Ok queues) fault = in_none
 place_of_queues path (Err unread) fault = unread_place path fault
 
--- the output and result of a check of the queues of a file and of those that it includes, and the place of its fault: for all files that are
--- as they were read
-abbrev pub ChecksQueuesIncluding : List ℕ → (List ℕ → Source) → Option (List ℕ) → Option (List ℕ) → Result ℕ Faulted → Type 0
-ChecksQueuesIncluding path sources old new answered =
+-- the output and result of a check of the queues of a file and of those that it includes, and the place of its fault, given whether it is
+-- JSON: for all files that are as they were read
+abbrev pub ChecksQueuesIncluding : Bool → List ℕ → (List ℕ → Source) → Option (List ℕ) → Option (List ℕ) → Result ℕ Faulted → Type 0
+ChecksQueuesIncluding is_json path sources old new answered =
     ReadsFolder (MayTellOf sources path) (λ has.
-    WritesCheck old new (queues_checked (queues_of has path)) (without_place answered) × StandsIn (place_of_queues path (queues_of has path)) answered)
+    WritesCheck old new (queues_checked is_json (queues_of has path)) (without_place answered)
+    × StandsIn (place_of_queues path (queues_of has path)) answered)
 
--- the report on a dialplan and queues that were read
-abbrev pub both_check_of : PlanFilesOf → QueueFilesOf → CheckOf
-both_check_of plan queues = record { text = both_check_text plan queues; status = check_status (faults_of_both plan queues) }
+-- the text of the report on a dialplan and queues that were read, given whether it is JSON
+abbrev pub both_text : Bool → PlanFilesOf → QueueFilesOf → List ℕ
+both_text true plan queues = both_lines plan queues
+both_text false plan queues = both_check_text plan queues
+
+-- the report on them
+abbrev pub both_check_of : Bool → PlanFilesOf → QueueFilesOf → CheckOf
+both_check_of is_json plan queues = record { text = both_text is_json plan queues; status = check_status (faults_of_both plan queues) }
 
 -- the same, or why one of them was not read: the dialplan comes first
-abbrev pub both_checked : Result PlanFilesOf ReadingFault → Result QueueFilesOf ReadingFault → Result CheckOf PbxFault
-both_checked (Ok plan) (Ok queues) = Ok (both_check_of plan queues)
-both_checked (Ok plan) (Err fault) = Err (reading_fault fault)
-both_checked (Err fault) queues = Err (reading_fault fault)
+abbrev pub both_checked : Bool → Result PlanFilesOf ReadingFault → Result QueueFilesOf ReadingFault → Result CheckOf PbxFault
+both_checked is_json (Ok plan) (Ok queues) = Ok (both_check_of is_json plan queues)
+both_checked is_json (Ok plan) (Err fault) = Err (reading_fault fault)
+both_checked is_json (Err fault) queues = Err (reading_fault fault)
 
 -- the place of the fault of a check of both: the first file of the dialplan or of the queues, if that was not read
 abbrev pub place_of_both : List ℕ → List ℕ → Result PlanFilesOf ReadingFault → Result QueueFilesOf ReadingFault → PbxFault → PlaceOf
@@ -114,10 +131,10 @@ place_of_both path queues_path (Ok plan) (Ok queues) fault = in_none
 place_of_both path queues_path (Ok plan) (Err unread) fault = unread_place queues_path fault
 place_of_both path queues_path (Err unread) queues fault = unread_place path fault
 
--- the output and result of a check of the dialplan of a file and the queues of another, and of the files that they include: for all files
--- that are as they were read
-abbrev pub ChecksBothIncluding : Option Moment → List ℕ → List ℕ → (List ℕ → Source) → Option (List ℕ) → Option (List ℕ) → Result ℕ Faulted → Type 0
-ChecksBothIncluding moment path queues_path sources old new answered =
+-- the output and result of a check of the dialplan of a file and the queues of another, and of the files that they include, given whether it
+-- is JSON: for all files that are as they were read
+abbrev pub ChecksBothIncluding : Bool → Option Moment → List ℕ → List ℕ → (List ℕ → Source) → Option (List ℕ) → Option (List ℕ) → Result ℕ Faulted → Type 0
+ChecksBothIncluding is_json moment path queues_path sources old new answered =
     ReadsFolder (MayTellOf sources path) (λ has. ReadsFolder (MayTellOf sources queues_path) (λ held.
-    WritesCheck old new (both_checked (plan_of moment has path) (queues_of held queues_path)) (without_place answered)
+    WritesCheck old new (both_checked is_json (plan_of moment has path) (queues_of held queues_path)) (without_place answered)
     × StandsIn (place_of_both path queues_path (plan_of moment has path) (queues_of held queues_path)) answered))

@@ -7,6 +7,9 @@ pub mod Files
 pub mod Graphs
 pub mod Hints
 pub mod Including
+pub mod JsonAudits
+pub mod JsonChecks
+pub mod JsonMatches
 pub mod Meanings
 pub mod Nearest
 pub mod PlanAndQueues

@@ -63,9 +63,14 @@ drawing_of question = record {
 pub record OptionsOf : Type 0 where
   pub explains : Bool
   pub clock : Option (List ℕ)
+  pub is_json : Bool
 
 abbrev pub options_of : Options → OptionsOf
-options_of options = record { explains = options.explains; clock = option_map (λ word. word.now) options.clock }
+options_of options = record {
+  explains = options.explains;
+  clock = option_map (λ word. word.now) options.clock;
+  is_json = options.is_json;
+}
 
 -- what the program is asked for, with its texts
 pub data RequestOf : Type 0 where

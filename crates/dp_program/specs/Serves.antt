@@ -3,7 +3,7 @@ use Rattle.std.specs.Prelude.{ℕ, Bool, true, false, List, max, Option, Some, N
 use Rattle.std.specs.Option.{option_map}
 use Rattle.dp_board.specs.Log.{Log}
 use Rattle.dp_conf.specs.Answers.{◌>>=◌}
-use Rattle.dp_commands.specs.Audit.{WritesAudit, audit_of}
+use Rattle.dp_commands.specs.Audit.{Audited, WritesAudit, audit_of}
 use Rattle.dp_commands.specs.Candidates.{match_all_of}
 use Rattle.dp_commands.specs.Debug.{DebugRun, WritesDebug, debug_of}
 use Rattle.dp_commands.specs.Joined.{joined_run}
@@ -22,6 +22,8 @@ use Rattle.dp_program.specs.Files.{Source, Reads, has_read_failed}
 use Rattle.dp_program.specs.Graphs.{GraphsFiles, GraphsIncluding}
 use Rattle.dp_program.specs.Hints.{Tells, TellsNothing, audit_hint_of, match_hint_of, status_in}
 use Rattle.dp_program.specs.Including.{ChecksBothIncluding, ChecksIncluding, ChecksQueuesIncluding}
+use Rattle.dp_program.specs.JsonAudits.{WritesJsonChoice, audit_json_of}
+use Rattle.dp_program.specs.JsonMatches.{match_json_of}
 use Rattle.dp_program.specs.QueueTexts.{ReadsQueues}
 use Rattle.dp_program.specs.Meanings.{standard_meanings}
 use Rattle.dp_program.specs.Reaches.{ReachesFiles, ReachesIncluding}
@@ -31,6 +33,7 @@ use Rattle.dp_program.specs.Texts.{OfRun, ReadsTexts, all_texts, sources_of}
 use Rattle.dp_program.specs.declared.dialplans.PlanUse.TheVariants.{Report, LookUp, Run as to_run}
 use Rattle.dp_program.specs.declared.faulted.Faulted.{Faulted}
 use Rattle.dp_program.specs.declared.hints.Served.{Served}
+use Rattle.dp_plan.specs.Plan.{PlanOf}
 use Rattle.dp_wide_runs.specs.Debugging.{HasSameStatus, WideDebug, WritesWideDebug, WritesWideVerboseDebug, wide_debug_of}
 use Rattle.dp_wide_runs.specs.Kinds.{ChoiceOf}
 use Rattle.dp_wide_runs.specs.Runs.{IsPlain, WideRun, WritesWide, run_of as wide_run_of}
@@ -42,17 +45,28 @@ abbrev pub ReportsOn : List ℕ → Source → (List ℕ → Result (List ℕ) P
 ReportsOn path file report old new answered =
     Reads file (λ text. Reports old new (text >>= report) (without_place answered) × StandsIn (place_of_report path text) answered)
 
--- the same for an audit of the dialplan in a file, with the hint beside its result
-abbrev pub AuditsFile : List ℕ → Source → Option (List ℕ) → Option (List ℕ) → Result Served Faulted → Type 0
-AuditsFile path file old new answered =
-    Reads file (λ text. WritesAudit old new (text >>= audit_of) (status_in (without_place answered)) × StandsIn (place_of_report path text) answered
+-- the report of an audit of a dialplan's text, given whether it is JSON
+abbrev pub audit_by : Bool → List ℕ → Result Audited PbxFault
+audit_by true plan = audit_json_of plan
+audit_by false plan = audit_of plan
+
+-- the output and result of an audit of the dialplan in a file, the place of its fault, and the hint beside its result
+abbrev pub AuditsFile : Bool → List ℕ → Source → Option (List ℕ) → Option (List ℕ) → Result Served Faulted → Type 0
+AuditsFile is_json path file old new answered =
+    Reads file (λ text. WritesAudit old new (text >>= audit_by is_json) (status_in (without_place answered)) × StandsIn (place_of_report path text) answered
     × Tells (text >>= audit_hint_of path) answered)
 
--- the same for an audit of some kinds of findings, or over the wide table
-abbrev pub AuditsFileBy : ChoiceOf → List ℕ → Source → Option (List ℕ) → Option (List ℕ) → Result Served Faulted → Type 0
-AuditsFileBy choice path file old new answered =
-    Reads file (λ text. WritesChoice choice old new (text >>= plan_of) (status_in (without_place answered)) × StandsIn (place_of_report path text) answered
-    × Tells (text >>= audit_hint_of path) answered)
+-- the output and result of an audit of some kinds of findings, or over the wide table, given whether it is JSON, and the dialplan or the
+-- fault of its text
+abbrev pub WritesChoiceBy : Bool → ChoiceOf → Option (List ℕ) → Option (List ℕ) → Result PlanOf PbxFault → Result ℕ PbxFault → Type 0
+WritesChoiceBy true choice old new given result = WritesJsonChoice choice old new given result
+WritesChoiceBy false choice old new given result = WritesChoice choice old new given result
+
+-- the same for the dialplan in a file, with the place of its fault and the hint beside its result
+abbrev pub AuditsFileBy : Bool → ChoiceOf → List ℕ → Source → Option (List ℕ) → Option (List ℕ) → Result Served Faulted → Type 0
+AuditsFileBy is_json choice path file old new answered =
+    Reads file (λ text. WritesChoiceBy is_json choice old new (text >>= plan_of) (status_in (without_place answered))
+    × StandsIn (place_of_report path text) answered × Tells (text >>= audit_hint_of path) answered)
 
 -- the output and result of a run of a joined text, without the place of its fault
 abbrev pub RunsInput : Source → Option (List ℕ) → Option (List ℕ) → Result ℕ PbxFault → Type 0
@@ -63,10 +77,10 @@ abbrev pub RunsJoined : Source → Option (List ℕ) → Option (List ℕ) → R
 RunsJoined input old new answered = RunsInput input old new (without_place answered) × StandsIn (λ _. in_none) answered
 
 -- the output and result of a check of the dialplan at one path and of the queues at another, and the place of its fault
-abbrev pub ChecksBoth : (List ℕ → Source) → List ℕ → List ℕ → Bool → Option (List ℕ) → Option (List ℕ) → Result ℕ Faulted → Type 0
-ChecksBoth files path queues_path explains old new answered =
+abbrev pub ChecksBoth : (List ℕ → Source) → List ℕ → List ℕ → Bool → Bool → Option (List ℕ) → Option (List ℕ) → Result ℕ Faulted → Type 0
+ChecksBoth files path queues_path is_json explains old new answered =
     Reads (files path) (λ plan. Reads (files queues_path) (λ queues.
-    Reports old new (plan >>= λ plan. queues >>= λ queues. both_report explains path plan queues) (without_place answered)
+    Reports old new (plan >>= λ plan. queues >>= λ queues. both_report is_json explains path plan queues) (without_place answered)
     × StandsIn (place_of_two path queues_path plan queues) answered))
 
 -- the status of a run in threads that has some history
@@ -84,16 +98,18 @@ abbrev pub Runs : Option ℕ → Option (List ℕ) → Option (List ℕ) → Res
 Runs None old new ran result = Writes old new ran result
 Runs (Some threads) old new ran result = SharesSome (max 1 threads) old new ran result
 
--- the report on a look-up in a dialplan's text: the entry that answers and, if all are asked for, what decides about each extension
-abbrev pub look_up : LookupOf → Bool → List ℕ → Result (List ℕ) PbxFault
-look_up lookup false plan = match_of plan lookup.context lookup.text lookup.priority
-look_up lookup true plan = match_all_of plan lookup.context lookup.text lookup.priority
+-- the report on a look-up in a dialplan's text, given whether it is JSON: the entry that answers and, if all are asked for, what decides
+-- about each extension
+abbrev pub look_up : Bool → LookupOf → Bool → List ℕ → Result (List ℕ) PbxFault
+look_up true lookup all plan = match_json_of lookup all plan
+look_up false lookup false plan = match_of plan lookup.context lookup.text lookup.priority
+look_up false lookup true plan = match_all_of plan lookup.context lookup.text lookup.priority
 
 -- the output and result of a look-up in the dialplan of its file, the place of its fault, and the hint beside its result
-abbrev pub LooksUp : LookupOf → Source → Bool → Bool → Option (List ℕ) → Option (List ℕ) → Result Served Faulted → Type 0
-LooksUp lookup file all explains old new answered =
-    Reads file (λ text. Reports old new (text >>= look_up lookup all) (status_in (without_place answered)) × StandsIn (place_of_report lookup.file text) answered
-    × Tells (text >>= match_hint_of lookup explains) answered)
+abbrev pub LooksUp : LookupOf → Source → Bool → OptionsOf → Option (List ℕ) → Option (List ℕ) → Result Served Faulted → Type 0
+LooksUp lookup file all options old new answered =
+    Reads file (λ text. Reports old new (text >>= look_up options.is_json lookup all) (status_in (without_place answered))
+    × StandsIn (place_of_report lookup.file text) answered × Tells (text >>= match_hint_of lookup options.explains) answered)
 
 -- the run of the texts of its files
 abbrev pub run_of_texts : OfRun (List ℕ) → Result Run PbxFault
@@ -257,28 +273,28 @@ abbrev pub ListsIncluding : Option (List ℕ) → List ℕ → (List ℕ → Sou
 ListsIncluding clock path files old new answered = ReadsDialplan Report clock files path (ListsText path files old new) old new answered
 
 -- the output and result of a look-up, given the text of the dialplan
-abbrev pub LooksUpText : LookupOf → (List ℕ → Source) → Bool → Bool → Option (List ℕ) → Option (List ℕ) → PlanTextOf → Result Served Faulted → Type 0
-LooksUpText lookup files all explains old new plan answered =
-    LooksUp lookup (with_text files lookup.file plan.text lookup.file) all explains old new answered
+abbrev pub LooksUpText : LookupOf → (List ℕ → Source) → Bool → OptionsOf → Option (List ℕ) → Option (List ℕ) → PlanTextOf → Result Served Faulted → Type 0
+LooksUpText lookup files all options old new plan answered =
+    LooksUp lookup (with_text files lookup.file plan.text lookup.file) all options old new answered
 
 -- the same in the dialplan at a path and the files that it includes
-abbrev pub LooksUpIncluding : Option (List ℕ) → LookupOf → (List ℕ → Source) → Bool → Bool → Option (List ℕ) → Option (List ℕ) → Result Served Faulted → Type 0
-LooksUpIncluding clock lookup files all explains old new answered =
-    ReadsDialplan LookUp clock files lookup.file (LooksUpText lookup files all explains old new) old new answered
+abbrev pub LooksUpIncluding : LookupOf → (List ℕ → Source) → Bool → OptionsOf → Option (List ℕ) → Option (List ℕ) → Result Served Faulted → Type 0
+LooksUpIncluding lookup files all options old new answered =
+    ReadsDialplan LookUp options.clock files lookup.file (LooksUpText lookup files all options old new) old new answered
 
 -- the output and result of an audit, given the text of the dialplan
-abbrev pub AuditsText : ChoiceOf → List ℕ → (List ℕ → Source) → Option (List ℕ) → Option (List ℕ) → PlanTextOf → Result Served Faulted → Type 0
-AuditsText choice path files old new plan answered = AuditsFileBy choice path (with_text files path plan.text path) old new answered
+abbrev pub AuditsText : Bool → ChoiceOf → List ℕ → (List ℕ → Source) → Option (List ℕ) → Option (List ℕ) → PlanTextOf → Result Served Faulted → Type 0
+AuditsText is_json choice path files old new plan answered = AuditsFileBy is_json choice path (with_text files path plan.text path) old new answered
 
 -- the same for the dialplan at a path and the files that it includes
-abbrev pub AuditsIncluding : Option (List ℕ) → ChoiceOf → List ℕ → (List ℕ → Source) → Option (List ℕ) → Option (List ℕ) → Result Served Faulted → Type 0
-AuditsIncluding clock choice path files old new answered =
-    ReadsDialplan Report clock files path (AuditsText choice path files old new) old new answered
+abbrev pub AuditsIncluding : OptionsOf → ChoiceOf → List ℕ → (List ℕ → Source) → Option (List ℕ) → Option (List ℕ) → Result Served Faulted → Type 0
+AuditsIncluding options choice path files old new answered =
+    ReadsDialplan Report options.clock files path (AuditsText options.is_json choice path files old new) old new answered
 
 -- only an audit over the wide table reads the files that its dialplan includes
-abbrev pub AuditsAsked : Bool → Option (List ℕ) → ChoiceOf → List ℕ → (List ℕ → Source) → Option (List ℕ) → Option (List ℕ) → Result Served Faulted → Type 0
-AuditsAsked true clock choice path files old new answered = AuditsIncluding clock choice path files old new answered
-AuditsAsked false clock choice path files old new answered = AuditsFileBy choice path (files path) old new answered
+abbrev pub AuditsAsked : Bool → OptionsOf → ChoiceOf → List ℕ → (List ℕ → Source) → Option (List ℕ) → Option (List ℕ) → Result Served Faulted → Type 0
+AuditsAsked true options choice path files old new answered = AuditsIncluding options choice path files old new answered
+AuditsAsked false options choice path files old new answered = AuditsFileBy options.is_json choice path (files path) old new answered
 
 -- where the lines of a run's dialplans come from
 abbrev pub places_read : PlanTextOf → Option (List ℕ × PlanTextOf) → PlacesOf
@@ -342,19 +358,24 @@ DiffsIncluding clock files before_path after_path old new answered =
 -- the output and result of a request, given the files, the input, and its options
 abbrev pub Serves : (List ℕ → Source) → Source → RequestOf → OptionsOf → Option (List ℕ) → Option (List ℕ) → Result Served Faulted → Type 0
 Serves files input joined options old new answered = Quietly (RunsJoined input old new) answered
-Serves files input (check file) options old new answered = Quietly (ReportsOn file (files file) (check_by options.explains file) old new) answered
-Serves files input (check_files file) options old new answered = Quietly (ChecksIncluding (moment_in options.clock) file files old new) answered
-Serves files input (check_queue_files queues) options old new answered = Quietly (ChecksQueuesIncluding queues files old new) answered
+Serves files input (check file) options old new answered =
+    Quietly (ReportsOn file (files file) (check_by options.is_json options.explains file) old new) answered
+Serves files input (check_files file) options old new answered =
+    Quietly (ChecksIncluding options.is_json (moment_in options.clock) file files old new) answered
+Serves files input (check_queue_files queues) options old new answered =
+    Quietly (ChecksQueuesIncluding options.is_json queues files old new) answered
 Serves files input (check_both_files file queues) options old new answered =
-    Quietly (ChecksBothIncluding (moment_in options.clock) file queues files old new) answered
-Serves files input (check_queues queues) options old new answered = Quietly (ReportsOn queues (files queues) queues_report old new) answered
-Serves files input (check_both file queues) options old new answered = Quietly (ChecksBoth files file queues options.explains old new) answered
+    Quietly (ChecksBothIncluding options.is_json (moment_in options.clock) file queues files old new) answered
+Serves files input (check_queues queues) options old new answered =
+    Quietly (ReportsOn queues (files queues) (queues_report options.is_json) old new) answered
+Serves files input (check_both file queues) options old new answered =
+    Quietly (ChecksBoth files file queues options.is_json options.explains old new) answered
 Serves files input (listing file) options old new answered = Quietly (ReportsOn file (files file) list_of old new) answered
 Serves files input (listing_files file) options old new answered = ListsIncluding options.clock file files old new answered
-Serves files input (auditing file) options old new answered = AuditsFile file (files file) old new answered
-Serves files input (auditing_by file choice) options old new answered = AuditsAsked choice.is_wide options.clock choice file files old new answered
-Serves files input (matching lookup all) options old new answered = LooksUp lookup (files lookup.file) all options.explains old new answered
-Serves files input (matching_files lookup all) options old new answered = LooksUpIncluding options.clock lookup files all options.explains old new answered
+Serves files input (auditing file) options old new answered = AuditsFile options.is_json file (files file) old new answered
+Serves files input (auditing_by file choice) options old new answered = AuditsAsked choice.is_wide options choice file files old new answered
+Serves files input (matching lookup all) options old new answered = LooksUp lookup (files lookup.file) all options old new answered
+Serves files input (matching_files lookup all) options old new answered = LooksUpIncluding lookup files all options old new answered
 Serves files input (explaining fault) options old new answered = Quietly (WritesEntry fault old new) answered
 Serves files input (run paths threads is_verbose) options old new answered =
     Quietly (RunsAsked paths (sources_of files paths) threads is_verbose old new) answered

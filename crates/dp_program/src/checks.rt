@@ -10,28 +10,34 @@ ghost use Rattle.dp_program.specs.Serves.{ChecksBoth, ReportsOn};
 
 use crate::faulted::{Faulted, placed_in_two, with_place};
 use crate::files::ReadFiles;
+use crate::json_checks::check_json;
+use crate::options::Options;
 use crate::request::CheckFiles;
 use crate::texts::{FileText, read_text};
 use dp_commands::{PbxFault, check, check_explained};
 use dp_conf::WriteTold;
+use dp_json::push_queue_count;
 use dp_plan::{Dialplan, NoMemory};
 use dp_queue::Queues;
 use itoa::Buffer;
 use std::alloc::Global;
 
-/// Reports on a dialplan, given the path and the text of its file, and explains its notes if that is asked for.
+/// Reports on a dialplan, given the path and the text of its file: as JSON, or with its notes explained, if that is asked for.
 fn check_by<W: WriteTold>(
     alloc: Global,
     path: &str,
     plan: &[u8],
-    explains: bool,
+    options: Options<'_>,
     output: &mut W,
 ) -> Result<u8, PbxFault>
     ensures reports { Reports (W.contents output.old) (W.contents output.new)
-        (spec.check_by explains path.now plan.now) result }
+        (spec.check_by options.entry.is_json options.entry.explains path.now plan.now) result }
     ensures told { W.has_failed output.new ≡ (W.has_failed output.old || is_write_failed result) }
 {
-    if explains {
+    if options.is_json {
+        return check_json(alloc, plan, output);
+    }
+    if options.explains {
         check_explained(alloc, path, plan, output)
     } else {
         check(alloc, plan, output)
@@ -43,22 +49,27 @@ pub(crate) fn serve_check<'a, F: ReadFiles, W: WriteTold>(
     files: &F,
     alloc: Global,
     file: &'a str,
-    explains: bool,
+    options: Options<'_>,
     output: &mut W,
 ) -> Result<u8, Faulted<'a>>
-    ensures serves { ReportsOn file.now (F.source_at files.now file.now) (spec.check_by explains file.now)
+    ensures serves { ReportsOn file.now (F.source_at files.now file.now)
+        (spec.check_by options.entry.is_json options.entry.explains file.now)
         (W.contents output.old) (W.contents output.new) result }
     ensures told { W.has_failed output.new ≡ (W.has_failed output.old || is_write_failed (without_place result)) }
 {
     let plan = read_text(files, alloc, file)?;
-    with_place(file, &plan, check_by(alloc, file, &plan, explains, output))
+    with_place(file, &plan, check_by(alloc, file, &plan, options, output))
 }
 
 /// The line for a number of queues that were loaded.
-fn queues_line(alloc: Global, count: usize) -> Result<Vec<u8>, NoMemory>
-    ensures { IfOk result (λ line. line.items ≡ spec.queues_line count) }
+fn queues_line(alloc: Global, is_json: bool, count: usize) -> Result<Vec<u8>, NoMemory>
+    ensures { IfOk result (λ line. line.items ≡ spec.queues_line is_json count) }
 {
     let mut line = Vec::new(alloc);
+    if is_json {
+        push_queue_count(&mut line, count)?;
+        return Ok(line);
+    }
     let mut buffer = Buffer::new();
     line.extend_from_slice(b"ok ")?;
     line.extend_from_slice(buffer.format(count).as_bytes())?;
@@ -68,21 +79,26 @@ fn queues_line(alloc: Global, count: usize) -> Result<Vec<u8>, NoMemory>
 
 /// The report on the text of a queue file, or the text's fault.
 #[tactic(auto, unfolding(crate::specs::Checks::queues_report))]
-fn queues_report(alloc: Global, text: &[u8]) -> Result<Vec<u8>, PbxFault>
-    ensures line { Answers (λ line. line.items) reason_of result (spec.queues_report text.now) }
+fn queues_report(alloc: Global, is_json: bool, text: &[u8]) -> Result<Vec<u8>, PbxFault>
+    ensures line { Answers (λ line. line.items) reason_of result (spec.queues_report is_json text.now) }
     ensures quiet { is_write_failed result ≡ false }
 {
     let queues = Queues::load(alloc, text)?;
-    let line = queues_line(alloc, queues.queues().len())?;
+    let line = queues_line(alloc, is_json, queues.queues().len())?;
     Ok(line)
 }
 
 /// Reports on the text of a queue file.
-fn check_queues<W: WriteTold>(alloc: Global, queues: &[u8], output: &mut W) -> Result<u8, PbxFault>
-    ensures reports { Reports (W.contents output.old) (W.contents output.new) (spec.queues_report queues.now) result }
+fn check_queues<W: WriteTold>(
+    alloc: Global,
+    queues: &[u8],
+    is_json: bool,
+    output: &mut W,
+) -> Result<u8, PbxFault>
+    ensures reports { Reports (W.contents output.old) (W.contents output.new) (spec.queues_report is_json queues.now) result }
     ensures told { W.has_failed output.new ≡ (W.has_failed output.old || is_write_failed result) }
 {
-    let line = queues_report(alloc, queues)?;
+    let line = queues_report(alloc, is_json, queues)?;
     output.write_told(&line)?;
     Ok(0)
 }
@@ -92,14 +108,15 @@ pub(crate) fn serve_check_queues<'a, F: ReadFiles, W: WriteTold>(
     files: &F,
     alloc: Global,
     file: &'a str,
+    is_json: bool,
     output: &mut W,
 ) -> Result<u8, Faulted<'a>>
-    ensures serves { ReportsOn file.now (F.source_at files.now file.now) spec.queues_report
+    ensures serves { ReportsOn file.now (F.source_at files.now file.now) (spec.queues_report is_json)
         (W.contents output.old) (W.contents output.new) result }
     ensures told { W.has_failed output.new ≡ (W.has_failed output.old || is_write_failed (without_place result)) }
 {
     let queues = read_text(files, alloc, file)?;
-    with_place(file, &queues, check_queues(alloc, &queues, output))
+    with_place(file, &queues, check_queues(alloc, &queues, is_json, output))
 }
 
 /// Reports on a dialplan, then writes a line.
@@ -107,15 +124,15 @@ pub(crate) fn serve_check_queues<'a, F: ReadFiles, W: WriteTold>(
 fn check_before<W: WriteTold>(
     alloc: Global,
     plan: &FileText<'_>,
-    explains: bool,
+    options: Options<'_>,
     line: &[u8],
     output: &mut W,
 ) -> Result<u8, PbxFault>
     ensures reports { Reports (W.contents output.old) (W.contents output.new)
-        (spec.with_line line.now (spec.check_by explains plan.now.path.now plan.now.text.items)) result }
+        (spec.with_line line.now (spec.check_by options.entry.is_json options.entry.explains plan.now.path.now plan.now.text.items)) result }
     ensures told { W.has_failed output.new ≡ (W.has_failed output.old || is_write_failed result) }
 {
-    check_by(alloc, plan.path, &plan.text, explains, output)?;
+    check_by(alloc, plan.path, &plan.text, options, output)?;
     output.write_told(line)?;
     Ok(0)
 }
@@ -138,15 +155,15 @@ fn check_both<W: WriteTold>(
     alloc: Global,
     plan: &FileText<'_>,
     queues: &FileText<'_>,
-    explains: bool,
+    options: Options<'_>,
     output: &mut W,
 ) -> Result<u8, PbxFault>
     ensures reports { Reports (W.contents output.old) (W.contents output.new)
-        (spec.both_report explains plan.now.path.now plan.now.text.items queues.now.text.items) result }
+        (spec.both_report options.entry.is_json options.entry.explains plan.now.path.now plan.now.text.items queues.now.text.items) result }
     ensures told { W.has_failed output.new ≡ (W.has_failed output.old || is_write_failed result) }
 {
-    match queues_report(alloc, &queues.text) {
-        Ok(line) => check_before(alloc, plan, explains, &line, output),
+    match queues_report(alloc, options.is_json, &queues.text) {
+        Ok(line) => check_before(alloc, plan, options, &line, output),
         Err(fault) => Err(first_fault(alloc, &plan.text, fault)),
     }
 }
@@ -156,10 +173,10 @@ pub(crate) fn serve_check_both<'a, F: ReadFiles, W: WriteTold>(
     files: &F,
     alloc: Global,
     paths: &CheckFiles<'a>,
-    explains: bool,
+    options: Options<'_>,
     output: &mut W,
 ) -> Result<u8, Faulted<'a>>
-    ensures serves { ChecksBoth (F.source_at files.now) paths.now.plan.now paths.now.queues.now explains
+    ensures serves { ChecksBoth (F.source_at files.now) paths.now.plan.now paths.now.queues.now options.entry.is_json options.entry.explains
         (W.contents output.old) (W.contents output.new) result }
     ensures told { W.has_failed output.new ≡ (W.has_failed output.old || is_write_failed (without_place result)) }
 {
@@ -173,6 +190,6 @@ pub(crate) fn serve_check_both<'a, F: ReadFiles, W: WriteTold>(
         path: paths.queues,
         text: queues,
     };
-    let answered = check_both(alloc, &plan, &queues, explains, output);
+    let answered = check_both(alloc, &plan, &queues, options, output);
     placed_in_two(&plan, &queues, answered)
 }

@@ -14,9 +14,8 @@ use crate::files::ReadFiles;
 use crate::hints::{Served, without_hint};
 use crate::reports::{Manner, serve_list, serve_match};
 use crate::request::Lookup;
-use crate::wide_audits::serve_audit_by;
+use crate::wide_audits::{ChosenAudit, serve_audit_by};
 use dp_conf::WriteTold;
-use dp_wide_runs::AuditChoice;
 use std::alloc::Global;
 
 /// Lists the dialplan of a file, given its text.
@@ -61,8 +60,8 @@ pub(crate) fn serve_match_including<'a, F: ReadFiles, W: WriteTold>(
     manner: Manner<'_>,
     output: &mut W,
 ) -> Result<Served, Faulted<'a>>
-    ensures serves { spec.LooksUpIncluding (options_of manner.entry.options).clock (lookup_of lookup.now) (F.source_at files.now)
-        manner.entry.all (options_of manner.entry.options).explains (W.contents output.old) (W.contents output.new) result }
+    ensures serves { spec.LooksUpIncluding (lookup_of lookup.now) (F.source_at files.now)
+        manner.entry.all (options_of manner.entry.options) (W.contents output.old) (W.contents output.new) result }
     ensures told { W.has_failed output.new ≡ (W.has_failed output.old || is_write_failed (without_place result)) }
 {
     match read_dialplan(
@@ -81,30 +80,27 @@ pub(crate) fn serve_match_including<'a, F: ReadFiles, W: WriteTold>(
     }
 }
 
-/// An audit over the wide table: its file, what it reports, and the word of `--clock`.
-#[derive(Clone, Copy)]
-pub(crate) struct WideAudit<'a, 'w> {
-    pub(crate) file: &'a str,
-    pub(crate) choice: AuditChoice<'w>,
-    pub(crate) clock: Option<&'w str>,
-}
-
 /// Audits the dialplan of a file and of those that it includes as requested.
 pub(crate) fn serve_audit_including<'a, F: ReadFiles, W: WriteTold>(
     files: &F,
     alloc: Global,
-    asked: WideAudit<'a, '_>,
+    asked: ChosenAudit<'a, '_>,
     output: &mut W,
 ) -> Result<Served, Faulted<'a>>
-    ensures serves { spec.AuditsIncluding (option_map (λ word. word.now) asked.entry.clock) (choice_of asked.entry.choice) asked.entry.file.now
+    ensures serves { spec.AuditsIncluding (options_of asked.entry.options) (choice_of asked.entry.choice) asked.entry.file.now
         (F.source_at files.now) (W.contents output.old) (W.contents output.new) result }
     ensures told { W.has_failed output.new ≡ (W.has_failed output.old || is_write_failed (without_place result)) }
 {
-    let file = asked.file;
-    match read_dialplan(files, alloc, file, PlanUse::Report, asked.clock) {
+    match read_dialplan(
+        files,
+        alloc,
+        asked.file,
+        PlanUse::Report,
+        asked.options.clock,
+    ) {
         Ok(ReadDialplan::Loads(plan)) => {
-            let made = plan.made_files(files, file);
-            serve_audit_by(&made, alloc, file, asked.choice, output)
+            let made = plan.made_files(files, asked.file);
+            serve_audit_by(&made, alloc, asked, output)
         }
         Ok(ReadDialplan::Faulty(told)) => Ok(faulty(told)),
         Err(unread) => Err(Faulted::from(unread)),

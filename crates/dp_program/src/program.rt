@@ -7,7 +7,6 @@ ghost use Rattle.dp_program.specs.Requests.{joined, options_of, request_asked};
 ghost use Rattle.dp_program.specs.Serves as spec;
 
 use crate::checks::{serve_check, serve_check_both, serve_check_queues};
-use crate::dialplans::moment_in;
 use crate::diffs::{serve_diff, serve_diff_including};
 use crate::faulted::Faulted;
 use crate::files::ReadFiles;
@@ -17,7 +16,7 @@ use crate::including::{
     serve_check_both_including, serve_check_including, serve_check_queues_including,
 };
 use crate::including_reports::{
-    WideAudit, serve_audit_including, serve_list_including, serve_match_including,
+    serve_audit_including, serve_list_including, serve_match_including,
 };
 use crate::options::Options;
 use crate::reaches::{serve_reach, serve_reach_including};
@@ -26,7 +25,7 @@ use crate::request::Request;
 use crate::runs::{PlainRun, serve_debug, serve_joined, serve_run};
 use crate::test_reports::{TestManner, serve_tests};
 use crate::verbose_runs::{serve_debug_verbose, serve_run_verbose};
-use crate::wide_audits::serve_audit_by;
+use crate::wide_audits::{ChosenAudit, serve_audit_by};
 use crate::wide_runs::{WideRun, serve_run_including};
 use dp_conf::{ReadTold, WriteTold};
 use std::alloc::Global;
@@ -35,7 +34,7 @@ use std::thread::Threads;
 
 /// Does what a request asks for, and gives the status and the hints beside it. The files are read first, and then their texts. A fault
 /// comes with its place: the line of a file, or the file that could not be read. If the options explain, each note of `check` has its
-/// explanation below it.
+/// explanation below it. If they ask for JSON, `check`, `match` and `audit` write an object in place of each line.
 ///
 /// `rt` is for the threads of a run that has them.
 pub fn serve<'a, F: ReadFiles, I: ReadTold, W: WriteTold, R: Threads + Wait + Sync>(
@@ -58,54 +57,61 @@ pub fn serve<'a, F: ReadFiles, I: ReadTold, W: WriteTold, R: Threads + Wait + Sy
     match request {
         Request::Joined => without_hint(alloc, serve_joined(alloc, input, output)),
         Request::Check { file } => {
-            without_hint(
-                alloc,
-                serve_check(files, alloc, file, options.explains, output),
-            )
+            without_hint(alloc, serve_check(files, alloc, file, options, output))
         }
         Request::CheckIncluding { file } => {
             without_hint(
                 alloc,
-                serve_check_including(files, alloc, file, moment_in(options.clock), output),
+                serve_check_including(files, alloc, file, options, output),
             )
         }
         Request::CheckQueuesIncluding { queues } => {
             without_hint(
                 alloc,
-                serve_check_queues_including(files, alloc, queues, output),
+                serve_check_queues_including(files, alloc, queues, options.is_json, output),
             )
         }
         Request::CheckBothIncluding { files: paths } => {
-            let moment = moment_in(options.clock);
             without_hint(
                 alloc,
-                serve_check_both_including(files, alloc, paths, moment, output),
+                serve_check_both_including(files, alloc, paths, options, output),
             )
         }
         Request::CheckQueues { queues } => {
-            without_hint(alloc, serve_check_queues(files, alloc, queues, output))
+            without_hint(
+                alloc,
+                serve_check_queues(files, alloc, queues, options.is_json, output),
+            )
         }
         Request::CheckBoth { files: paths } => {
             without_hint(
                 alloc,
-                serve_check_both(files, alloc, paths, options.explains, output),
+                serve_check_both(files, alloc, paths, options, output),
             )
         }
         Request::Listing { file } => without_hint(alloc, serve_list(files, alloc, file, output)),
         Request::ListIncluding { file } => {
             serve_list_including(files, alloc, file, options.clock, output)
         }
-        Request::Audit { file } => serve_audit(files, alloc, file, output),
+        Request::Audit { file } => serve_audit(files, alloc, file, options.is_json, output),
         Request::AuditBy { file, choice } if choice.is_wide => {
             let choice = *choice;
-            let asked = WideAudit {
+            let asked = ChosenAudit {
                 file,
                 choice,
-                clock: options.clock,
+                options,
             };
             serve_audit_including(files, alloc, asked, output)
         }
-        Request::AuditBy { file, choice } => serve_audit_by(files, alloc, file, *choice, output),
+        Request::AuditBy { file, choice } => {
+            let choice = *choice;
+            let asked = ChosenAudit {
+                file,
+                choice,
+                options,
+            };
+            serve_audit_by(files, alloc, asked, output)
+        }
         Request::Match { lookup, all } => {
             let manner = Manner { all: *all, options };
             serve_match(files, alloc, lookup, manner, output)

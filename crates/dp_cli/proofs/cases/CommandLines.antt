@@ -182,7 +182,36 @@ explain_beside_all : asked_of (codes "pbx" ∷ codes "match" ∷ codes "--all" �
 unfolding clap_on_literals asked_of
 explain_beside_all = refl
 
+-- whether the output is JSON
+check_is_json : (options_of (codes "pbx" ∷ codes "check" ∷ codes "a.conf" ∷ codes "--json" ∷ [])).is_json ≡ true
+unfolding clap_on_literals options_of
+check_is_json = refl
+
+audit_is_json : (options_of (codes "pbx" ∷ codes "audit" ∷ codes "--json" ∷ codes "--asterisk" ∷ codes "a.conf" ∷ [])).is_json ≡ true
+unfolding clap_on_literals options_of
+audit_is_json = refl
+
+match_is_json : (options_of (codes "pbx" ∷ codes "match" ∷ codes "--all" ∷ codes "--json" ∷ codes "a.conf" ∷ codes "main" ∷ codes "5" ∷ [])).is_json ≡ true
+unfolding clap_on_literals options_of
+match_is_json = refl
+
+match_is_text : (options_of (codes "pbx" ∷ codes "match" ∷ codes "a.conf" ∷ codes "main" ∷ codes "5" ∷ [])).is_json ≡ false
+unfolding clap_on_literals options_of
+match_is_text = refl
+
+no_command_is_text : (options_of (codes "pbx" ∷ [])).is_json ≡ false
+unfolding clap_on_literals options_of
+no_command_is_text = refl
+
+json_beside_all : asked_of (codes "pbx" ∷ codes "match" ∷ codes "--all" ∷ codes "--json" ∷ codes "a.conf" ∷ codes "main" ∷ codes "5" ∷ []) ≡ Some (matching (record { file = codes "a.conf"; context = codes "main"; text = codes "5"; priority = 1 }) true)
+unfolding clap_on_literals asked_of
+json_beside_all = refl
+
 -- words that are refused, and words that are not
+json_of_a_listing : fault_of pbx_app (codes "pbx" ∷ codes "list" ∷ codes "--json" ∷ codes "a.conf" ∷ []) ≡ kind.UnknownArgument ∷ []
+unfolding clap_on_literals
+json_of_a_listing = refl
+
 explain_alone : fault_of pbx_app (codes "pbx" ∷ codes "--explain" ∷ []) ≡ kind.UnknownArgument ∷ []
 unfolding clap_on_literals
 explain_alone = refl

@@ -504,6 +504,25 @@ fault 7 ReadFailed
   missing.conf
   a file could not be opened or read
 ? 1
+$ pbx check --json usual.conf
+{"type":"note","line":13,"kind":"UnknownContext"}
+{"type":"count","contexts":1,"entries":4}
+? 0
+$ pbx check --asterisk --json faulty.conf
+{"type":"fault","file":"faulty.conf","line":2,"kind":"BadPriority","code":20}
+{"type":"count","faults":1}
+? 1
+$ pbx match --all --json sample/extensions.conf phones 100
+{"type":"match","context":"phones","name":"100","priority":1,"label":"desk","application":"NoOp","arguments":"the front desk"}
+{"type":"candidate","kind":"Answers","context":"phones","name":"100","priority":1,"label":"desk","application":"NoOp","arguments":"the front desk"}
+{"type":"candidate","kind":"LessSpecific","context":"phones","name":"_1XX","priority":1,"application":"NoOp","arguments":"a room"}
+{"type":"candidate","kind":"LaterContext","context":"rest","name":"_X.","priority":1,"application":"NoOp","arguments":"no such number"}
+? 0
+$ pbx audit --json --only Gap,Unset sample/faulty.conf
+{"type":"finding","kind":"Gap","context":"sales","name":"s","priority":1,"application":"Dial","arguments":"${TRUNK}/100","missing":2}
+{"type":"finding","kind":"Unset","context":"support","name":"s","priority":1,"label":"begin","application":"Queue","arguments":"${QUEUE}","variable":"QUEUE"}
+{"type":"count","findings":2}
+? 1
 @ early.script
 start phones 123
 timeout 1

@@ -1,4 +1,5 @@
 //! The commands, over files: their whole output, and their statuses.
+use crate::program::json::JSON;
 use crate::program::mistakes::{check_helps, check_mistakes};
 use dp_program_fixture::{check_table, make_folder};
 use std::rt::Files;
@@ -654,12 +655,13 @@ check @empty←[main]¶exten => 100,1,NoOp(hello)¶exten => 100,2,Goto(200,1)¶e
 ";
 
 /// All the tables.
-const TABLES: [&str; 18] = [
+const TABLES: [&str; 19] = [
     CHECKS,
     LISTS,
     MATCHES,
     REACHES,
     AUDITS,
+    JSON,
     EXPLAINS,
     EXPLAINED,
     RUNS,

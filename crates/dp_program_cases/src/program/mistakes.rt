@@ -19,6 +19,8 @@ check --asterisk→the following required arguments were not provided:¶  <FILE>
 check @usual more→unexpected argument 'more' found→pbx check [OPTIONS] [FILE]
 check --loud x→unexpected argument '--loud' found¶¶  tip: to pass '--loud' as a value, use '-- --loud'→pbx check [OPTIONS] [FILE]
 check --reload @usual @usual→unexpected argument '--reload' found¶¶  tip: to pass '--reload' as a value, use '-- --reload'→pbx check [OPTIONS] [FILE]
+check --json --json @usual→the argument '--json' cannot be used multiple times→pbx check [OPTIONS] [FILE]
+list --json @usual→unexpected argument '--json' found¶¶  tip: to pass '--json' as a value, use '-- --json'→pbx list [OPTIONS] <FILE>
 list --clock friday @missing→the following required arguments were not provided:¶  --asterisk→pbx list [OPTIONS] <FILE>
 list --asterisk --clock friday @missing→invalid value 'friday' for '--clock <MOMENT>': a moment is written like 'fri 2026-11-27 09:30'→pbx list [OPTIONS] <FILE>
 list --asterisk→the following required arguments were not provided:¶  <FILE>→pbx list --asterisk <FILE>
@@ -169,6 +171,7 @@ Options:
       --asterisk         Read included files, templates and block comments, and print every fault
       --clock <MOMENT>   With --asterisk: the moment by which includes with times are read, like 'fri 2026-11-27 09:30'
       --queues <QUEUES>  The queues, such as queues.conf
+      --json             Print a JSON object in place of each line, for other tools
       --explain          Print below each fault, and below each note of `check`, where it is and what the manual says about it
   -h, --help             Print help
 
@@ -179,6 +182,8 @@ is printed on standard error with its line, and the status is 1.
 With --asterisk the files are read as Asterisk reads them: with the files that they include, templates, block comments, and
 priorities such as `n+1`. All notes and all faults are printed, each with its file and line, those of the dialplan before those of
 the queues. Then come the counts, or `N faults` with status 1.
+
+With --json each of these lines is a JSON object: of type `note`, `fault` or `count`.
 
 Example:
   $ pbx check extensions.conf
@@ -233,6 +238,7 @@ Options:
       --asterisk        Read included files, templates and block comments
       --clock <MOMENT>  With --asterisk: the moment by which includes with times are read, like 'fri 2026-11-27 09:30'
       --all             Also print what becomes of each extension that matches
+      --json            Print a JSON object in place of each line, for other tools
       --explain         Print below each fault, and below each note of `check`, where it is and what the manual says about it
   -h, --help            Print help
 
@@ -244,6 +250,8 @@ With --all a line follows for each extension that matches, in the order in which
 
 With --asterisk the files that the dialplan includes are read. If a line has a fault, or something that this program cannot follow
 (`switch`, an extension for one caller, `autofallthrough=no`, `#exec`), each such line is printed on standard error, with status 1.
+
+With --json each line on standard output is a JSON object: of type `match`, `none` or `candidate`.
 
 Example:
   $ pbx match extensions.conf main 555-1234 3
@@ -264,6 +272,7 @@ Options:
       --clock <MOMENT>     With --asterisk: the moment by which includes with times are read, like 'fri 2026-11-27 09:30'
       --only <KINDS>       Print only the findings of these kinds, separated by commas
       --ignore <UNWANTED>  Leave out the findings of these kinds, separated by commas
+      --json               Print a JSON object in place of each line, for other tools
       --explain            Print below each fault, and below each note of `check`, where it is and what the manual says about it
   -h, --help               Print help
 
@@ -286,6 +295,8 @@ printed only for a variable that nothing else mentions, and these kinds come las
 
 With --only KINDS only findings of these kinds are printed, and with --ignore KINDS all others. A kind is one of the words above, in
 any case.
+
+With --json each line is a JSON object: of type `finding` or `count`.
 
 Example:
   $ pbx audit extensions.conf

@@ -1,8 +1,8 @@
 use Rattle.std.proofs.Common.{ℕ, List, Err, sym, subst}
-use Rattle.std.specs.Option.{option_map}
 use Rattle.dp_program.specs.Dialplans.{OnDialplan, ReadsDialplan}
 use Rattle.dp_program.specs.Files.{Source}
 use Rattle.dp_program.specs.Including.{MayTellOf}
+use Rattle.dp_program.specs.Requests.{options_of}
 use Rattle.dp_program.specs.Serves.{AuditsFileBy, AuditsText}
 use Rattle.dp_program.proofs.ServesLemmas.{auditing_lacks}
 use Rattle.dp_wide_runs.specs.Kinds.{choice_of}
@@ -16,15 +16,15 @@ pub returns-in-Ok-Loads-clause-serves : goal.returns-in-Ok-Loads-clause-serves
 returns-in-Ok-Loads-clause-serves g c =
     let old = g.W.WriteTold.contents c.args.output.now in
     let new = g.W.WriteTold.contents c.serve_audit_by.new.output in
-    dialplan_known Report (option_map (λ word. word.now) c.args.asked.clock) c.args.asked.file.now (MayTellOf (g.F.ReadFiles.source_at c.args.files.now) c.args.asked.file.now) _
-    (λ read. OnDialplan (AuditsText (choice_of c.args.asked.choice) c.args.asked.file.now (g.F.ReadFiles.source_at c.args.files.now) old new) c.args.asked.file.now old new read c.serve_audit_by.result)
+    dialplan_known Report (options_of c.args.asked.options).clock c.args.asked.file.now (MayTellOf (g.F.ReadFiles.source_at c.args.files.now) c.args.asked.file.now) _
+    (λ read. OnDialplan (AuditsText c.args.asked.options.is_json (choice_of c.args.asked.choice) c.args.asked.file.now (g.F.ReadFiles.source_at c.args.files.now) old new) c.args.asked.file.now old new read c.serve_audit_by.result)
     (rw c.in-Ok-Loads.field-0-is at c.in-Ok-Loads.ensures.read)
-    (subst (λ (made : List ℕ → Source). AuditsFileBy (choice_of c.args.asked.choice) c.args.asked.file.now (made c.args.asked.file.now) old new c.serve_audit_by.result) c.made_files-made.ensures c.serve_audit_by.ensures.serves)
+    (subst (λ (made : List ℕ → Source). AuditsFileBy c.args.asked.options.is_json (choice_of c.args.asked.choice) c.args.asked.file.now (made c.args.asked.file.now) old new c.serve_audit_by.result) c.made_files-made.ensures c.serve_audit_by.ensures.serves)
 
 -- the first file could not be read
 pub returns-in-Err-clause-serves : goal.returns-in-Err-clause-serves
 returns-in-Err-clause-serves g c =
-    subst (λ (faulted : Faulted). ReadsDialplan Report (option_map (λ word. word.now) c.args.asked.clock) (g.F.ReadFiles.source_at c.args.files.now) c.args.asked.file.now (AuditsText (choice_of c.args.asked.choice) c.args.asked.file.now (g.F.ReadFiles.source_at c.args.files.now) (g.W.WriteTold.contents c.args.output.now) (g.W.WriteTold.contents c.args.output.now)) (g.W.WriteTold.contents c.args.output.now) (g.W.WriteTold.contents c.args.output.now) (Err faulted))
+    subst (λ (faulted : Faulted). ReadsDialplan Report (options_of c.args.asked.options).clock (g.F.ReadFiles.source_at c.args.files.now) c.args.asked.file.now (AuditsText c.args.asked.options.is_json (choice_of c.args.asked.choice) c.args.asked.file.now (g.F.ReadFiles.source_at c.args.files.now) (g.W.WriteTold.contents c.args.output.now) (g.W.WriteTold.contents c.args.output.now)) (g.W.WriteTold.contents c.args.output.now) (g.W.WriteTold.contents c.args.output.now) (Err faulted))
     (sym c.from.ensures)
-    (dialplan_refused (AuditsText (choice_of c.args.asked.choice) c.args.asked.file.now (g.F.ReadFiles.source_at c.args.files.now) (g.W.WriteTold.contents c.args.output.now) (g.W.WriteTold.contents c.args.output.now)) c.args.asked.file.now (g.W.WriteTold.contents c.args.output.now)
-    (auditing_lacks (choice_of c.args.asked.choice) c.args.asked.file.now (g.F.ReadFiles.source_at c.args.files.now) (g.W.WriteTold.contents c.args.output.now)) Report (option_map (λ word. word.now) c.args.asked.clock) (g.F.ReadFiles.source_at c.args.files.now) _ c.in-Err.ensures.path c.in-Err.ensures.read)
+    (dialplan_refused (AuditsText c.args.asked.options.is_json (choice_of c.args.asked.choice) c.args.asked.file.now (g.F.ReadFiles.source_at c.args.files.now) (g.W.WriteTold.contents c.args.output.now) (g.W.WriteTold.contents c.args.output.now)) c.args.asked.file.now (g.W.WriteTold.contents c.args.output.now)
+    (auditing_lacks c.args.asked.options.is_json (choice_of c.args.asked.choice) c.args.asked.file.now (g.F.ReadFiles.source_at c.args.files.now) (g.W.WriteTold.contents c.args.output.now)) Report (options_of c.args.asked.options).clock (g.F.ReadFiles.source_at c.args.files.now) _ c.in-Err.ensures.path c.in-Err.ensures.read)

@@ -6,11 +6,11 @@ use Rattle.dp_program.proofs.wide_audits.serve_audit_by.Goals as goal
 pub returns-in_err-plan-clause-serves : goal.returns-in_err-plan-clause-serves
 returns-in_err-plan-clause-serves g c =
     let p = err_from_is_err_and c.from_residual.result c.from_residual.ensures.1 in
-    rw (p.1, p.2) (choice_refused (choice_of c.args.choice) c.args.file.now (g.F.ReadFiles.source_at c.args.files.now c.args.file.now) (g.W.WriteTold.contents c.args.output.now) _ c.in_err-plan.ensures.path c.in_err-plan.ensures.read)
+    rw (p.1, p.2) (choice_refused c.args.asked.options.is_json (choice_of c.args.asked.choice) c.args.asked.file.now (g.F.ReadFiles.source_at c.args.files.now c.args.asked.file.now) (g.W.WriteTold.contents c.args.output.now) _ c.in_err-plan.ensures.path c.in_err-plan.ensures.read)
 
 -- the audit is of the text that was read
 pub returns-clause-serves : goal.returns-clause-serves
 returns-clause-serves g c =
-    choice_read (choice_of c.args.choice) c.args.file.now (g.F.ReadFiles.source_at c.args.files.now c.args.file.now) (g.W.WriteTold.contents c.args.output.now) (g.W.WriteTold.contents c.audit_told.new.output) c.in_ok-plan.plan.items
+    choice_read c.args.asked.options.is_json (choice_of c.args.asked.choice) c.args.asked.file.now (g.F.ReadFiles.source_at c.args.files.now c.args.asked.file.now) (g.W.WriteTold.contents c.args.output.now) (g.W.WriteTold.contents c.audit_told.new.output) c.in_ok-plan.plan.items
     c.deref-2.result.now c.deref.result.now c.deref-2.ensures.value c.deref.ensures.value
     c.audit_told.result c.with_place.result c.in_ok-plan.ensures.read c.with_place.ensures.same c.audit_told.ensures.audits c.with_place.ensures.stands c.audit_told.ensures.tells
