@@ -15,14 +15,14 @@ use Rattle.dp_commands.specs.declared.fault.PbxFault.TheVariants.{Coded, NoMemor
 use Rattle.dp_json.specs.Findings.{count_object, findings_text}
 use Rattle.dp_json.specs.Objects.{object_text}
 use Rattle.dp_json.specs.WideFindings.{wide_text}
-use Rattle.dp_program.specs.declared.json_audits.Outcome.{Outcome}
+use Rattle.dp_program.specs.declared.json_audits.AuditLines.{AuditLines}
 use Rattle.dp_wide_runs.specs.Kinds.{ChoiceOf}
 use Rattle.dp_wide_runs.specs.WideAudits.{status_of}
 use Rattle.dp_wide_runs.specs.WideFindings.{AreTold}
 use Rattle.dp_wide_runs.specs.declared.wide_finding.WideFinding.{WideFinding}
 
--- the report of an outcome
-abbrev pub reported : Outcome → Audited
+-- the report that has these lines and this status
+abbrev pub reported : AuditLines → Audited
 reported report = record { text = report.lines.items; status = report.status }
 
 -- the report of these findings: their lines, then their number

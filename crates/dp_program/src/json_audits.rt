@@ -21,9 +21,9 @@ use dp_wide_runs::{AuditChoice, WideFinding, find_told};
 use std::alloc::Global;
 
 /// The names of the applications of this program.
-struct StandardNames;
+struct TableNames;
 
-impl Names for StandardNames {
+impl Names for TableNames {
     ghost use Rattle.dp_app.specs.Rows.{has_row};
     ghost use Rattle.dp_table.specs.Standard.{standard_rows};
 
@@ -36,35 +36,35 @@ impl Names for StandardNames {
 
 /// The result of an audit: its lines, and its status.
 #[derive(Drop)]
-struct Outcome {
+struct AuditLines {
     lines: Vec<u8>,
     status: u8,
 }
 
 /// The report of the findings in a dialplan.
-fn report_of(alloc: Global, plan: &Dialplan, findings: &[Finding]) -> Result<Outcome, NoMemory>
+fn report_of(alloc: Global, plan: &Dialplan, findings: &[Finding]) -> Result<AuditLines, NoMemory>
     ensures { IfOk result (λ report. spec.reported report ≡ spec.report_of plan.now findings.now) }
 {
     let mut lines = Vec::new(alloc);
     push_findings(&mut lines, plan, findings)?;
     push_finding_count(&mut lines, findings.len())?;
-    Ok(Outcome {
+    Ok(AuditLines {
         lines,
         status: u8::from(!findings.is_empty()),
     })
 }
 
 /// The report of an audit of a dialplan.
-fn report(alloc: Global, plan: &Dialplan) -> Result<Outcome, NoMemory>
+fn report(alloc: Global, plan: &Dialplan) -> Result<AuditLines, NoMemory>
     ensures { IfOk result (λ report. spec.reported report ≡ spec.report_of plan.now (findings_of (has_row standard_rows) plan.now)) }
 {
-    let findings = dp_audit::audit::<StandardNames>(alloc, plan)?;
+    let findings = dp_audit::audit::<TableNames>(alloc, plan)?;
     report_of(alloc, plan, &findings)
 }
 
 /// The report of an audit of a dialplan's text, or the text's fault.
 #[tactic(auto, unfolding(crate::specs::JsonAudits::audit_json_of))]
-fn audit_report(alloc: Global, text: &[u8]) -> Result<Outcome, PbxFault>
+fn audit_report(alloc: Global, text: &[u8]) -> Result<AuditLines, PbxFault>
     ensures report { Answers spec.reported reason_of result (spec.audit_json_of text.now) }
     ensures quiet { is_write_failed result ≡ false }
 {
@@ -92,20 +92,24 @@ fn wide_report_of(
     alloc: Global,
     plan: &Dialplan,
     findings: &[WideFinding],
-) -> Result<Outcome, NoMemory>
+) -> Result<AuditLines, NoMemory>
     ensures { IfOk result (λ report. spec.reported report ≡ spec.wide_report_of plan.now findings.now) }
 {
     let mut lines = Vec::new(alloc);
     push_wide_findings(&mut lines, plan, findings)?;
     push_finding_count(&mut lines, findings.len())?;
-    Ok(Outcome {
+    Ok(AuditLines {
         lines,
         status: u8::from(!findings.is_empty()),
     })
 }
 
 /// The report of such an audit of a dialplan.
-fn wide_report(alloc: Global, plan: &Dialplan, choice: AuditChoice<'_>) -> Result<Outcome, NoMemory>
+fn wide_report(
+    alloc: Global,
+    plan: &Dialplan,
+    choice: AuditChoice<'_>,
+) -> Result<AuditLines, NoMemory>
     ensures { IfOk result (λ report. spec.IsJsonAudit (choice_of choice.entry) plan.now (spec.reported report)) }
 {
     let findings = find_told(alloc, plan, choice)?;

@@ -1,4 +1,4 @@
-use Rattle.std.proofs.Common.{ℕ, Result, subst, sym}
+use Rattle.std.proofs.Common.{ℕ, Option, Result, subst, sym}
 use Rattle.std.specs.Option.{option_map}
 use Rattle.dp_program.specs.Checks.{check_by, queues_report}
 use Rattle.dp_program.specs.Dialplans.{moment_in}
@@ -6,6 +6,7 @@ use Rattle.dp_program.specs.Including.{ChecksBothIncluding, ChecksIncluding, Che
 use Rattle.dp_program.specs.Serves.{ChecksBoth, ReportsOn}
 use Rattle.dp_program.specs.declared.faulted.Faulted.{Faulted}
 use Rattle.dp_program.proofs.program.serve.Goals as goal
+use Rattle.dp_wide.specs.declared.times.Moment.{Moment}
 
 -- a report on a dialplan
 pub returns-in-Check-clause-serves : goal.returns-in-Check-clause-serves
@@ -26,7 +27,7 @@ returns-in-CheckIncluding-clause-serves g c =
     let files = g.F.ReadFiles.source_at c.args.files.now in
     let old = g.W.WriteTold.contents c.args.output.now in
     let new = g.W.WriteTold.contents c.serve_check_including.new.output in
-    let moment = moment_in (option_map (λ word. word.now) c.args.options.clock) in
+    let moment : Option Moment = moment_in (option_map (λ word. word.now) c.args.options.clock) in
     rw c.in-CheckIncluding.is (
       subst (λ (answered : Result ℕ Faulted). ChecksIncluding c.args.options.is_json moment c.in-CheckIncluding.file.now files old new answered)
           (sym c.without_hint-in-CheckIncluding.ensures.same) c.serve_check_including.ensures.serves,
@@ -53,7 +54,7 @@ returns-in-CheckBothIncluding-clause-serves g c =
     let queues = c.in-CheckBothIncluding.paths.queues.now in
     let old = g.W.WriteTold.contents c.args.output.now in
     let new = g.W.WriteTold.contents c.serve_check_both_including.new.output in
-    let moment = moment_in (option_map (λ word. word.now) c.args.options.clock) in
+    let moment : Option Moment = moment_in (option_map (λ word. word.now) c.args.options.clock) in
     rw c.in-CheckBothIncluding.is (
       subst (λ (answered : Result ℕ Faulted). ChecksBothIncluding c.args.options.is_json moment plan queues files old new answered)
           (sym c.without_hint-in-CheckBothIncluding.ensures.same) c.serve_check_both_including.ensures.serves,
