@@ -27,7 +27,8 @@ use Rattle.dp_program.specs.Files.{Source, Reads}
 use Rattle.dp_program.specs.Graphs.{Draws, GraphsFiles}
 use Rattle.dp_program.specs.Hints.{Tells, audit_hint_of, match_hint_of, status_in}
 use Rattle.dp_program.specs.PlanAndQueues.{contents_in, place_of_files}
-use Rattle.dp_program.specs.Meanings.{standard_meanings, wide_meanings}
+use Rattle.dp_program.specs.Meanings.{wide_meanings}
+use Rattle.dp_table.specs.Standard.{standard_meanings}
 use Rattle.dp_program.specs.Reaches.{Reaches, ReachesFiles}
 use Rattle.dp_program.specs.Requests.{DrawingOf, OptionsOf, RequestOf, LookupOf, QuestionOf, joined, check, check_files, check_queue_files, check_both_files, check_queues, check_both, listing, listing_files, auditing, auditing_by, matching, matching_files, explaining, run, run_wide, debug, debug_wide, testing, comparing, comparing_files, drawing, drawing_files, reaching, reaching_files}
 use Rattle.dp_program.specs.Entries.{explanation_of}

@@ -25,7 +25,7 @@ use Rattle.dp_program.specs.Including.{ChecksBothIncluding, ChecksIncluding, Che
 use Rattle.dp_program.specs.JsonAudits.{WritesJsonChoice, audit_json_of}
 use Rattle.dp_program.specs.JsonMatches.{match_json_of}
 use Rattle.dp_program.specs.QueueTexts.{ReadsQueues}
-use Rattle.dp_program.specs.Meanings.{standard_meanings}
+use Rattle.dp_table.specs.Standard.{standard_meanings}
 use Rattle.dp_program.specs.Reaches.{ReachesFiles, ReachesIncluding}
 use Rattle.dp_program.specs.Requests.{OptionsOf, RequestOf, LookupOf, joined, check, check_files, check_queue_files, check_both_files, check_queues, check_both, listing, listing_files, auditing, auditing_by, matching, matching_files, explaining, run, run_wide, debug, debug_wide, testing, comparing, comparing_files, drawing, drawing_files, reaching, reaching_files}
 use Rattle.dp_program.specs.TestSuites.{TestsFiles, manner_of}

@@ -9,7 +9,8 @@ ghost use Rattle.dp_commands.specs.Faults.{is_write_failed};
 ghost use Rattle.dp_commands.specs.Run.{files_of};
 ghost use Rattle.dp_program.specs.Faulted.{without_place};
 ghost use Rattle.dp_program.specs.Graphs as spec;
-ghost use Rattle.dp_program.specs.Meanings.{standard_meanings, wide_meanings};
+ghost use Rattle.dp_program.specs.Meanings.{wide_meanings};
+ghost use Rattle.dp_table.specs.Standard.{standard_meanings};
 ghost use Rattle.dp_program.specs.Requests.{drawing_of, options_of};
 ghost use Rattle.dp_program.proofs.ServesLemmas.{graphs_lack};
 

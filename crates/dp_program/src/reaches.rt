@@ -10,7 +10,8 @@ ghost use Rattle.dp_conf.specs.Levels.{arguments_of};
 ghost use Rattle.dp_program.specs.Faulted.{without_place};
 ghost use Rattle.dp_program.specs.Reaches as spec;
 ghost use Rattle.dp_program.specs.Reaches.{ReachesFiles};
-ghost use Rattle.dp_program.specs.Meanings.{standard_meanings, wide_meanings};
+ghost use Rattle.dp_program.specs.Meanings.{wide_meanings};
+ghost use Rattle.dp_table.specs.Standard.{standard_meanings};
 ghost use Rattle.dp_program.specs.Requests.{options_of, question_of};
 ghost use Rattle.dp_program.proofs.ServesLemmas.{reaches_files_lack};
 
