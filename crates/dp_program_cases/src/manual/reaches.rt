@@ -144,4 +144,30 @@ For more information, try '--help'.
 $ pbx reach sample/routes.conf carrier
 pbx: sample/routes.conf has no context `carrier`
 ? 1
+@ frontdesk.conf
+[general]
+#include nights.conf
+
+[incoming]
+exten => _X.,1,GotoIfTime(08:00-18:00,mon-fri,*,*?desk,s,1)
+ same => n,Goto(night,s,1)
+exten => 9,1,VoiceMail(100@office,u)
+
+[desk]
+exten => s,1,ExecIf($["${DB(desk/busy)}" = "1"]?Goto(night,s,1))
+ same => n,Dial(PJSIP/desk,30)
+ same => n,Hangup()
+
+[safe]
+exten => s,1,NoOp(nobody gets here from outside)
+@
+@ nights.conf
+[night]
+exten => s,1,Playback(closed)
+ same => n,Hangup()
+@
+$ pbx reach --asterisk frontdesk.conf incoming --to safe
+assumed: extensions of {0-9A-Za-z*#+_.}*, callers' numbers of {0-9+}*, values from outside of {0-9A-Za-z_./ -}*, calls come in at every context
+unreachable: safe
+? 0
 "##;
