@@ -7,57 +7,56 @@ use Rattle.dp_conf.specs.declared.groups.GroupKind.{GroupKind}
 use Rattle.dp_conf.specs.declared.groups.Mark.{Mark}
 use Rattle.dp_conf.specs.declared.groups.Mark.TheVariants.{End, Opening, Byte}
 use Rattle.dp_conf.specs.Groups.{Over, opener}
-use Rattle.dp_conf.specs.GroupsRead.{Levels, Last, Within, with_byte, with_opening, with_mark, levels, outer_of}
-use Rattle.dp_pieces.specs.Names.{Names}
+use Rattle.dp_conf.specs.GroupsRead.{Levels, Last, Within, with_byte, with_opening, with_mark, levels, outer_of, reading_of}
 use Rattle.dp_pieces.specs.Pieces.{Known, Piece}
-use Rattle.dp_pieces.specs.Texts.{group_pieces, pieces_of, text_pieces}
+use Rattle.dp_pieces.specs.Texts.{GroupMeaning, pieces_by}
 use Rattle.dp_pieces.specs.steps.Reader.{Open, Read, after, after_group, kinds_of, with_group}
 
-module _ (names : Names) where
+module _ (groups : GroupMeaning) where
   -- the pieces of the whole, given those read so far, the waiting openings in them, and the levels after
   abbrev pub come : List Open → List Piece → Levels → List Piece
-  come waiting pieces (Last rest) = pieces ++ pieces_of names rest
-  come [] pieces (Within rest outer) = come [] (pieces ++ pieces_of names rest) outer
-  come (w ∷ waiting) pieces (Within rest outer) = come waiting (with_group names w (pieces ++ pieces_of names rest)) outer
+  come waiting pieces (Last rest) = pieces ++ pieces_by groups rest
+  come [] pieces (Within rest outer) = come [] (pieces ++ pieces_by groups rest) outer
+  come (w ∷ waiting) pieces (Within rest outer) = come waiting (with_group groups w (pieces ++ pieces_by groups rest)) outer
 
   come-with_byte : (waiting : List Open) (pieces : List Piece) (byte : ℕ) (l : Levels) → come waiting (pieces ++ Known byte ∷ []) l ≡ come waiting pieces (with_byte byte l)
-  unfolding pieces_of
-  come-with_byte waiting pieces byte (Last rest) = append_assoc pieces (Known byte ∷ []) (pieces_of names rest)
-  come-with_byte [] pieces byte (Within rest outer) = ap (λ ps. come [] ps outer) (append_assoc pieces (Known byte ∷ []) (pieces_of names rest))
+  unfolding pieces_by
+  come-with_byte waiting pieces byte (Last rest) = append_assoc pieces (Known byte ∷ []) (pieces_by groups rest)
+  come-with_byte [] pieces byte (Within rest outer) = ap (λ ps. come [] ps outer) (append_assoc pieces (Known byte ∷ []) (pieces_by groups rest))
   come-with_byte (w ∷ waiting) pieces byte (Within rest outer) =
-      ap (λ ps. come waiting (with_group names w ps) outer) (append_assoc pieces (Known byte ∷ []) (pieces_of names rest))
+      ap (λ ps. come waiting (with_group groups w ps) outer) (append_assoc pieces (Known byte ∷ []) (pieces_by groups rest))
 
   -- a group whose opening was read last
   group_at_end : (pieces body : List Piece) (kind : GroupKind)
-      → with_group names (record { kind = kind; start = length pieces }) ((pieces ++ Known 36 ∷ Known (opener kind) ∷ []) ++ body) ≡ pieces ++ group_pieces names kind body
+      → with_group groups (record { kind = kind; start = length pieces }) ((pieces ++ Known 36 ∷ Known (opener kind) ∷ []) ++ body) ≡ pieces ++ groups kind body
   group_at_end pieces body kind =
-      ap (with_group names (record { kind = kind; start = length pieces })) (append_assoc pieces (Known 36 ∷ Known (opener kind) ∷ []) body)
-      ∙ (λ i. take-append_seam pieces (Known 36 ∷ Known (opener kind) ∷ body) i ++ group_pieces names kind (drop-append-add pieces (Known 36 ∷ Known (opener kind) ∷ body) 2 i))
+      ap (with_group groups (record { kind = kind; start = length pieces })) (append_assoc pieces (Known 36 ∷ Known (opener kind) ∷ []) body)
+      ∙ (λ i. take-append_seam pieces (Known 36 ∷ Known (opener kind) ∷ body) i ++ groups kind (drop-append-add pieces (Known 36 ∷ Known (opener kind) ∷ body) 2 i))
 
   come-with_opening : (waiting : List Open) (pieces : List Piece) (kind : GroupKind) (l : Levels)
       → come (record { kind = kind; start = length pieces } ∷ waiting) (pieces ++ Known 36 ∷ Known (opener kind) ∷ []) l ≡ come waiting pieces (with_opening kind l)
-  unfolding pieces_of
-  come-with_opening waiting pieces kind (Last rest) = append_assoc pieces (Known 36 ∷ Known (opener kind) ∷ []) (pieces_of names rest)
+  unfolding pieces_by
+  come-with_opening waiting pieces kind (Last rest) = append_assoc pieces (Known 36 ∷ Known (opener kind) ∷ []) (pieces_by groups rest)
   come-with_opening waiting pieces kind (Within inside (Last rest)) =
-      ap (λ ps. ps ++ pieces_of names rest) (group_at_end pieces (pieces_of names inside) kind)
-      ∙ append_assoc pieces (group_pieces names kind (pieces_of names inside)) (pieces_of names rest)
+      ap (λ ps. ps ++ pieces_by groups rest) (group_at_end pieces (pieces_by groups inside) kind)
+      ∙ append_assoc pieces (groups kind (pieces_by groups inside)) (pieces_by groups rest)
   come-with_opening [] pieces kind (Within inside (Within rest outer)) =
-      ap (λ ps. come [] (ps ++ pieces_of names rest) outer) (group_at_end pieces (pieces_of names inside) kind)
-      ∙ ap (λ ps. come [] ps outer) (append_assoc pieces (group_pieces names kind (pieces_of names inside)) (pieces_of names rest))
+      ap (λ ps. come [] (ps ++ pieces_by groups rest) outer) (group_at_end pieces (pieces_by groups inside) kind)
+      ∙ ap (λ ps. come [] ps outer) (append_assoc pieces (groups kind (pieces_by groups inside)) (pieces_by groups rest))
   come-with_opening (w ∷ waiting) pieces kind (Within inside (Within rest outer)) =
-      ap (λ ps. come waiting (with_group names w (ps ++ pieces_of names rest)) outer) (group_at_end pieces (pieces_of names inside) kind)
-      ∙ ap (λ ps. come waiting (with_group names w ps) outer) (append_assoc pieces (group_pieces names kind (pieces_of names inside)) (pieces_of names rest))
+      ap (λ ps. come waiting (with_group groups w (ps ++ pieces_by groups rest)) outer) (group_at_end pieces (pieces_by groups inside) kind)
+      ∙ ap (λ ps. come waiting (with_group groups w ps) outer) (append_assoc pieces (groups kind (pieces_by groups inside)) (pieces_by groups rest))
 
   come-end : (waiting : List Open) (pieces : List Piece) (beyond : List GroupKind → ℕ → Levels)
-      → come (after_group names waiting pieces).waiting (after_group names waiting pieces).pieces (beyond (kinds_of (after_group names waiting pieces).waiting) 0)
+      → come (after_group groups waiting pieces).waiting (after_group groups waiting pieces).pieces (beyond (kinds_of (after_group groups waiting pieces).waiting) 0)
       ≡ come waiting pieces (Within Over (beyond (outer_of (kinds_of waiting)) 0))
-  unfolding pieces_of
+  unfolding pieces_by
   come-end [] pieces beyond = ap (λ ps. come [] ps (beyond [] 0)) (sym (append-nil pieces))
-  come-end (w ∷ waiting) pieces beyond = ap (λ ps. come waiting (with_group names w ps) (beyond (kinds_of waiting) 0)) (sym (append-nil pieces))
+  come-end (w ∷ waiting) pieces beyond = ap (λ ps. come waiting (with_group groups w ps) (beyond (kinds_of waiting) 0)) (sym (append-nil pieces))
 
   -- a mark does not change the pieces of the whole
   pub come-mark : (m : Mark) (read : Read) (beyond : List GroupKind → ℕ → Levels)
-      → come (after names m read).waiting (after names m read).pieces (beyond (kinds_of (after names m read).waiting) 0)
+      → come (after groups m read).waiting (after groups m read).pieces (beyond (kinds_of (after groups m read).waiting) 0)
       ≡ come read.waiting read.pieces (with_mark m beyond 0 (kinds_of read.waiting))
   come-mark End read beyond = come-end read.waiting read.pieces beyond
   come-mark (Opening kind) read beyond = come-with_opening read.waiting read.pieces kind (beyond (kind ∷ kinds_of read.waiting) 0)
@@ -65,9 +64,9 @@ module _ (names : Names) where
 
   -- nothing is left
   pub come-over : (waiting : List Open) (pieces : List Piece) → come waiting pieces (levels [] (kinds_of waiting) 0) ≡ pieces
-  unfolding levels pieces_of
+  unfolding levels pieces_by
   come-over waiting pieces = append-nil pieces
 
   -- nothing has been read yet
-  pub come-text : (text : List ℕ) → come [] [] (levels text [] 0) ≡ text_pieces names text
+  pub come-text : (text : List ℕ) → come [] [] (levels text [] 0) ≡ pieces_by groups (reading_of text)
   come-text text = ap (come [] []) (levels-last text)

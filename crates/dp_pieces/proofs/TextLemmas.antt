@@ -10,16 +10,17 @@ use Rattle.dp_conf.specs.Words.{same_text}
 use Rattle.dp_conf.specs.declared.groups.GroupKind.{GroupKind}
 use Rattle.dp_conf.specs.declared.groups.GroupKind.TheVariants.{Braces, Brackets}
 use Rattle.dp_expr.specs.Expression.{expression_value}
+use Rattle.dp_vars.specs.Functions.{FunctionTable}
 use Rattle.dp_vars.specs.Parts.{asked_of}
 use Rattle.dp_vars.specs.Sights.{Sight}
-use Rattle.dp_vars.specs.Values.{body_by as body_value_by, call_argument, caller_value, expansion_of, expansion_of_with, expansion, function_of, function_value, group_value, group_value_with, head_by as head_value_by, head_value, head_value_with}
+use Rattle.dp_vars.specs.Values.{body_by as body_value_by, call_argument, caller_value, expansion, expansion_of_with, function_of, function_value, group_value, group_value_with, head_by as head_value_by, head_value, head_value_with, standard_functions}
 use Rattle.dp_vars.specs.declared.value.Function.{Function}
 use Rattle.dp_vars.specs.declared.value.Function.TheVariants.{Global, Local, Len, CallerId, QueueWaitingCount}
 use Rattle.dp_pieces.specs.Bytes.{IsPart, Within, either, none, numeric}
 use Rattle.dp_pieces.specs.Cuts.{cut_known}
 use Rattle.dp_pieces.specs.Names.{Names, IsWithin, any_argument_set, body_by, called_set, caller_set, function_set, head_by, head_pieces, variable_pieces}
 use Rattle.dp_pieces.specs.Pieces.{Fits, Known, Piece, bytes_in, text_known, any_bytes_of, pieces_set}
-use Rattle.dp_pieces.specs.Texts.{braces_pieces, called_pieces, group_pieces, pieces_of, text_pieces, text_set, unknown_pieces}
+use Rattle.dp_pieces.specs.Texts.{GroupMeaning, braces_pieces, called_pieces, group_pieces, pieces_by, text_pieces, text_set, unknown_pieces}
 use Rattle.dp_pieces.proofs.ExpressionLemmas.{within-expression}
 use Rattle.dp_pieces.proofs.LastLemmas.{headed}
 use Rattle.dp_pieces.proofs.FitsLemmas.{fits-append, fits-text_known, fits-any_bytes_of, fits-nothing, fits-part, fits-set, any_bytes_of-part}
@@ -56,6 +57,21 @@ begins-named mark name rest cut avoids is =
     let found = begins-with mark rest (name ++ 40 ∷ []) cut (
     sym (passed-over mark (name ++ 40 ∷ []) rest [] avoids ∙ refl) ∙ (ap (cut_after (stands_outside mark) []) (append_assoc name (40 ∷ []) rest) ∙ is)) in
     (found.0, found.1 ∙ append_assoc name (40 ∷ []) found.0)
+
+module _ (groups : GroupMeaning) (functions : FunctionTable) (sight : Sight)
+    (each : (kind : GroupKind) (body : List Piece) (text : List ℕ) → Fits body text → Fits (groups kind body) (group_value_with functions sight kind text)) where
+  plain : (byte : ℕ) (pieces : List Piece) (text : List ℕ) → Fits pieces text → Fits (Known byte ∷ pieces) (byte ∷ text)
+  unfolding Fits
+  plain byte pieces text fits = (text, refl, fits)
+
+  -- an expanded text fits its pieces if the value of each group fits the pieces of the group
+  pub fits-pieces_by : (reading : Reading) → Fits (pieces_by groups reading) (expansion_of_with functions sight reading)
+  unfolding pieces_by expansion_of_with
+  fits-pieces_by Over = fits-nothing
+  fits-pieces_by (Plain byte rest) = plain byte (pieces_by groups rest) (expansion_of_with functions sight rest) (fits-pieces_by rest)
+  fits-pieces_by (Group kind inside rest) =
+      fits-append (groups kind (pieces_by groups inside)) (pieces_by groups rest) (group_value_with functions sight kind (expansion_of_with functions sight inside))
+      (expansion_of_with functions sight rest) (each kind (pieces_by groups inside) (expansion_of_with functions sight inside) (fits-pieces_by inside)) (fits-pieces_by rest)
 
 module _ (names : Names) (sight : Sight) (seen : IsWithin names sight) where
   within-caller : (argument : List ℕ) → Within (caller_set names.caller argument) (caller_value sight.caller argument)
@@ -184,21 +200,9 @@ module _ (names : Names) (sight : Sight) (seen : IsWithin names sight) where
   fits-group Braces body text fits = fits-braces body text fits (text_known body) (λ bytes from. fits-text_known body text bytes from fits)
   fits-group Brackets body text fits = fits-any_bytes_of (either (pieces_set body) numeric) (expression_value text) (within-expression (pieces_set body) text (fits-set body text fits))
 
-  plain : (byte : ℕ) (pieces : List Piece) (text : List ℕ) → Fits pieces text → Fits (Known byte ∷ pieces) (byte ∷ text)
-  unfolding Fits
-  plain byte pieces text fits = (text, refl, fits)
-
-  fits-reading : (reading : Reading) → Fits (pieces_of names reading) (expansion_of sight reading)
-  unfolding pieces_of expansion_of_with
-  fits-reading Over = fits-nothing
-  fits-reading (Plain byte rest) = plain byte (pieces_of names rest) (expansion_of sight rest) (fits-reading rest)
-  fits-reading (Group kind inside rest) =
-      fits-append (group_pieces names kind (pieces_of names inside)) (pieces_of names rest) (group_value sight kind (expansion_of sight inside)) (expansion_of sight rest)
-      (fits-group kind (pieces_of names inside) (expansion_of sight inside) (fits-reading inside)) (fits-reading rest)
-
 -- an expanded text fits its pieces
 pub fits-expansion : (names : Names) (sight : Sight) → IsWithin names sight → (text : List ℕ) → Fits (text_pieces names text) (expansion sight text)
-fits-expansion names sight seen text = fits-reading names sight seen (reading_of text)
+fits-expansion names sight seen text = fits-pieces_by (group_pieces names) standard_functions sight (fits-group names sight seen) (reading_of text)
 
 -- and has only their bytes
 pub within-expansion : (names : Names) (sight : Sight) → IsWithin names sight → (text : List ℕ) → Within (text_set names text) (expansion sight text)

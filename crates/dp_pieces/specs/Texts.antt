@@ -34,11 +34,19 @@ abbrev pub group_pieces : Names → GroupKind → List Piece → List Piece
 group_pieces names Braces body = braces_pieces names body (text_known body)
 group_pieces names Brackets body = any_bytes_of (either (pieces_set body) numeric)
 
--- the pieces of a reading
-unfoldable pub pieces_of : Names → Reading → List Piece
-pieces_of names Over = []
-pieces_of names (Plain byte rest) = Known byte ∷ pieces_of names rest
-pieces_of names (Group kind inside rest) = group_pieces names kind (pieces_of names inside) ++ pieces_of names rest
+-- the pieces of a group, given those of its body
+abbrev pub GroupMeaning : Type 0
+GroupMeaning = GroupKind → List Piece → List Piece
+
+-- the pieces of a reading, given the meaning of its groups
+unfoldable pub pieces_by : GroupMeaning → Reading → List Piece
+pieces_by groups Over = []
+pieces_by groups (Plain byte rest) = Known byte ∷ pieces_by groups rest
+pieces_by groups (Group kind inside rest) = groups kind (pieces_by groups inside) ++ pieces_by groups rest
+
+-- the pieces of a reading, given what is known of the names
+abbrev pub pieces_of : Names → Reading → List Piece
+pieces_of names = pieces_by (group_pieces names)
 
 -- the pieces of a text
 abbrev pub text_pieces : Names → List ℕ → List Piece

@@ -19,6 +19,6 @@ pub use cuts::{Cutting, are_clean, cut_known, cut_last, cut_level, cut_pieces, f
 pub use name_table::NameTable;
 pub use names_at::NamesAt;
 pub use piece::{Piece, add_pieces, bytes_of, known_text};
-pub use reader::{NamedPieces, read_pieces};
+pub use reader::{GroupPieces, NamedPieces, read_pieces};
 pub use shapes::{covers, is_within, matched, may_fit, may_match};
 pub use trims::trimmed;

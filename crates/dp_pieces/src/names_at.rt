@@ -33,7 +33,7 @@ pub struct NamesAt<'a> {
 impl NamedPieces for NamesAt<'_> {
     ghost names = { names_of };
 
-    fn group(
+    fn named_group(
         &self,
         alloc: Global,
         kind: GroupKind,

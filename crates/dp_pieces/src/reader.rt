@@ -1,10 +1,10 @@
 //! Reading a text as pieces, in one pass without recursion.
 ghost use Rattle.std.specs.Prelude.{◌≡◌, ◌+◌, ◌≤◌, ℕ, [], ◌∷◌, ◌++◌, IfOk, OnOk, drop, length, map, reverse, take};
 ghost use Rattle.dp_conf.specs.Groups.{opener};
-ghost use Rattle.dp_conf.specs.GroupsRead.{first_of};
+ghost use Rattle.dp_conf.specs.GroupsRead.{first_of, reading_of};
 ghost use Rattle.dp_pieces.specs.Names.{Names};
 ghost use Rattle.dp_pieces.specs.steps.Reader as steps;
-ghost use Rattle.dp_pieces.specs.Texts.{group_pieces, text_pieces};
+ghost use Rattle.dp_pieces.specs.Texts.{GroupMeaning, group_pieces, pieces_by};
 ghost use Rattle.dp_pieces.specs.Shown.{shown_all};
 ghost use Rattle.dp_pieces.specs.steps.ReadSoFar.{read_of, StandIn};
 
@@ -12,14 +12,42 @@ use crate::piece::Piece;
 use dp_conf::{GroupKind, Mark, NoMemory, next_mark};
 use std::alloc::Global;
 
+/// What the groups of a text mean.
+pub trait GroupPieces {
+    // The pieces of the value of a group, given those of its body.
+    ghost groups: { Self → GroupMeaning };
+
+    /// The pieces of the value of a group, given the pieces of its body. It fails only if memory runs out.
+    fn group(&self, alloc: Global, kind: GroupKind, body: &[Piece]) -> Result<Vec<Piece>, NoMemory>
+        ensures { IfOk result (λ pieces. shown_all pieces.items ≡ groups self.now kind (shown_all body.now)) };
+}
+
 /// What is known of the values of names.
 pub trait NamedPieces {
     // What is known of the names.
     ghost names: { Self → Names };
 
     /// The pieces of the value of a group, given the pieces of its body. It fails only if memory runs out.
-    fn group(&self, alloc: Global, kind: GroupKind, body: &[Piece]) -> Result<Vec<Piece>, NoMemory>
+    fn named_group(
+        &self,
+        alloc: Global,
+        kind: GroupKind,
+        body: &[Piece],
+    ) -> Result<Vec<Piece>, NoMemory>
         ensures { IfOk result (λ pieces. shown_all pieces.items ≡ group_pieces (names self.now) kind (shown_all body.now)) };
+}
+
+impl<N: NamedPieces> GroupPieces for N {
+    ghost groups = { λ known. group_pieces (N.names known) };
+
+    fn group(
+        &self,
+        alloc: Global,
+        kind: GroupKind,
+        body: &[Piece],
+    ) -> Result<Vec<Piece>, NoMemory> {
+        self.named_group(alloc, kind, body)
+    }
 }
 
 /// The byte after the `$` that opens a group.
@@ -41,18 +69,18 @@ fn push_all(pieces: &mut Vec<Piece>, more: &[Piece]) -> Result<(), NoMemory>
 }
 
 /// Replaces an opening and its body with the pieces of the group.
-fn put_group<N: NamedPieces>(
+fn put_group<G: GroupPieces>(
     alloc: Global,
-    names: &N,
+    groups: &G,
     pieces: &mut Vec<Piece>,
     kind: GroupKind,
     start: usize,
 ) -> Result<(), NoMemory>
     requires { start + 2 ≤ length pieces.old.items }
     ensures { OnOk result (shown_all pieces.new.items
-        ≡ steps.with_group (N.names names.now) (record { kind = kind; start = start }) (shown_all pieces.old.items)) }
+        ≡ steps.with_group (G.groups groups.now) (record { kind = kind; start = start }) (shown_all pieces.old.items)) }
 {
-    let value = names.group(alloc, kind, pieces.split_at(start + 2).1)?;
+    let value = groups.group(alloc, kind, pieces.split_at(start + 2).1)?;
     pieces.truncate(start);
     push_all(pieces, &value)?;
     Ok(())
@@ -72,13 +100,13 @@ struct Reading {
     waiting: Vec<Open>,
 }
 
-/// Reads an unexpanded text as pieces. It fails only if memory runs out.
-pub fn read_pieces<N: NamedPieces>(
+/// Reads an unexpanded text as pieces, by what its groups mean. It fails only if memory runs out.
+pub fn read_pieces<G: GroupPieces>(
     alloc: Global,
-    names: &N,
+    groups: &G,
     text: &[u8],
 ) -> Result<Vec<Piece>, NoMemory>
-    ensures { IfOk result (λ pieces. shown_all pieces.items ≡ text_pieces (N.names names.now) text.now) }
+    ensures { IfOk result (λ pieces. shown_all pieces.items ≡ pieces_by (G.groups groups.now) (reading_of text.now)) }
 {
     let pieces = Vec::with_capacity(alloc, text.len())?;
     let mut reading = Reading {
@@ -87,7 +115,7 @@ pub fn read_pieces<N: NamedPieces>(
     };
     let mut rest = text;
     while let Some((mark, after)) = next_mark(rest, reading.innermost()) {
-        reading.take(alloc, names, mark)?;
+        reading.take(alloc, groups, mark)?;
         rest = after;
     }
     Ok(reading.finish())
@@ -105,14 +133,19 @@ impl Reading {
     }
 
     /// Takes a mark.
-    fn take<N: NamedPieces>(&mut self, alloc: Global, names: &N, mark: Mark) -> Result<(), NoMemory>
+    fn take<G: GroupPieces>(
+        &mut self,
+        alloc: Global,
+        groups: &G,
+        mark: Mark,
+    ) -> Result<(), NoMemory>
         requires { StandIn (read_of self.old).waiting (length (read_of self.old).pieces) }
-        ensures { OnOk result (read_of self.new ≡ steps.after (N.names names.now) mark (read_of self.old)) }
+        ensures { OnOk result (read_of self.new ≡ steps.after (G.groups groups.now) mark (read_of self.old)) }
     {
         match mark {
             Mark::End => {
                 if let Some(open) = self.waiting.pop() {
-                    put_group(alloc, names, &mut self.pieces, open.kind, open.start)?;
+                    put_group(alloc, groups, &mut self.pieces, open.kind, open.start)?;
                 }
             }
             Mark::Opening(kind) => {

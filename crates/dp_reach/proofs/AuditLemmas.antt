@@ -20,7 +20,7 @@ use Rattle.dp_app.specs.declared.touch.Touch.{Touch}
 use Rattle.dp_machine.specs.Events.{Entered, event_row, new_channel, start_call}
 use Rattle.dp_machine.specs.Replay.{final_world, world_after}
 use Rattle.dp_machine.specs.Seen.{global_value, globals_of, globals_set, no_queues, sight_of_globals, with_global}
-use Rattle.dp_machine.specs.World.{World, channel_at, most_channels, opening}
+use Rattle.dp_machine.specs.World.{World, channel_at, most_channels, opening_with}
 use Rattle.dp_machine.specs.declared.channel.Channel.{Channel}
 use Rattle.dp_machine.specs.declared.event.Event.{Event}
 use Rattle.dp_machine.specs.declared.event.Event.TheVariants.{Start, Step, Digit, Timeout, Poll, Hangup, DialResult, Offer, Answer, Decline, AgentDone, Reload, Assign, Redirect}
@@ -134,7 +134,7 @@ module _ (touches : List ℕ → Touch) (rows : Rows) (lawful : IsLawful touches
   allowed-all [] all = tt
   allowed-all (event ∷ events) all = (allowed-one event all.0, allowed-all events all.1)
 
-  opens-in : (queues : QueuesOf) → map (λ queue. queue.settings) queues.queues ≡ claim.settings → IsWorldIn claim (opening claim.plan queues)
+  opens-in : (queues : QueuesOf) → map (λ queue. queue.settings) queues.queues ≡ claim.settings → IsWorldIn claim (opening_with owing.functions claim.plan queues)
   unfolding globals_of
   opens-in queues same = record {
     plan = refl;
@@ -189,10 +189,10 @@ module _ (touches : List ℕ → Touch) (rows : Rows) (lawful : IsLawful touches
 
   pub runs-only : RunsOnly (with_functions rows owing.functions) outside context claim.plan claim.settings answers
   runs-only queues before later exten caller number settings all reply =
-      let w : World = world_after (with_functions rows owing.functions) (opening claim.plan queues) before in
+      let w : World = world_after (with_functions rows owing.functions) (opening_with owing.functions claim.plan queues) before in
       let first = each-front (IsFromOutside outside) before (Start context exten caller ∷ later) all in
       let rest = each-rest (IsFromOutside outside) before (Start context exten caller ∷ later) all in
-      let world = worlds-in (opening claim.plan queues) before (opens-in queues settings) (allowed-all before first) in
+      let world = worlds-in (opening_with owing.functions claim.plan queues) before (opens-in queues settings) (allowed-all before first) in
       let comes = comes-in w exten caller number rest.0.1 rest.0.2 reply in
       stays-within touches rows lawful owing bounded claim others audit.all reach answers audit.own number (final_world (with_functions rows owing.functions) w (Start context exten caller)) later
       (world-more touches rows lawful owing bounded claim others audit.all w (Start context exten caller) world (allowed-one (Start context exten caller) rest.0))

@@ -7,7 +7,7 @@ use Rattle.dp_pieces.specs.Arguments.{shapes_of, split_pieces}
 use Rattle.dp_pieces.specs.Bytes.{digits}
 use Rattle.dp_pieces.specs.Names.{Names, head_pieces}
 use Rattle.dp_pieces.specs.Pieces.{AnyOf, Known, OneOf, Piece, exactly, any_bytes_of, pieces_set}
-use Rattle.dp_pieces.specs.Texts.{pieces_of, text_pieces}
+use Rattle.dp_pieces.specs.Texts.{pieces_by, text_pieces}
 use Rattle.dp_reach.specs.Areas.{Area, area_at}
 use Rattle.dp_reach.specs.Bounds.{Anything, Calls, Duties, Duty, Holds, HoldsAll, Leads, Waits, gosub_duties, goto_duties, goto_if_duties}
 use Rattle.dp_reach.specs.Settings.{set_duties}
@@ -38,27 +38,27 @@ abbrev owed_texts : Duties → List ℕ → List (List ℕ)
 owed_texts duties text = map duty_text (duties here (text_pieces plain text))
 
 pub goto-exten : owed_texts goto_duties (codes "from-did-direct,${EXTEN},1") ≡ codes "to from-did-direct *" ∷ codes "to from-did-direct *" ∷ []
-unfolding pieces_of head_pieces split_pieces shapes_of pieces_set reading_of levels cut_outside
+unfolding pieces_by head_pieces split_pieces shapes_of pieces_set reading_of levels cut_outside
 goto-exten = refl
 
 -- a part that is known to have a byte is not left out
 pub goto-prefix : owed_texts goto_duties (codes "9${EXTEN},1") ≡ codes "to from-pstn 9*" ∷ []
-unfolding pieces_of head_pieces split_pieces shapes_of pieces_set reading_of levels cut_outside
+unfolding pieces_by head_pieces split_pieces shapes_of pieces_set reading_of levels cut_outside
 goto-prefix = refl
 
 pub goto-choice : owed_texts goto_if_duties (codes "$[\"${X}\" = \"1\"]?a,1:other,b,1") ≡ codes "to from-pstn a" ∷ codes "to other b" ∷ []
-unfolding pieces_of head_pieces split_pieces shapes_of pieces_set reading_of levels cut_outside
+unfolding pieces_by head_pieces split_pieces shapes_of pieces_set reading_of levels cut_outside
 goto-choice = refl
 
 pub gosub-call : owed_texts gosub_duties (codes "sub-dial,s,1(${ARG1},${EXTEN:1},in)") ≡ codes "to sub-dial s" ∷ codes "set ARG1" ∷ codes "set ARG2" ∷ codes "set ARG3" ∷ []
-unfolding pieces_of head_pieces split_pieces shapes_of pieces_set reading_of levels cut_outside digits_in
+unfolding pieces_by head_pieces split_pieces shapes_of pieces_set reading_of levels cut_outside digits_in
 gosub-call = refl
 
 pub set-global : owed_texts set_duties (codes "GLOBAL(LAST)=${CALLERID(num)}") ≡ codes "set LAST" ∷ []
-unfolding pieces_of head_pieces split_pieces shapes_of pieces_set reading_of levels cut_outside
+unfolding pieces_by head_pieces split_pieces shapes_of pieces_set reading_of levels cut_outside
 set-global = refl
 
 -- a function of an unknown argument
 pub set-any-caller : owed_texts set_duties (codes "CALLERID(${X})=${EXTEN}") ≡ codes "set caller" ∷ []
-unfolding pieces_of head_pieces split_pieces shapes_of pieces_set reading_of levels cut_outside
+unfolding pieces_by head_pieces split_pieces shapes_of pieces_set reading_of levels cut_outside
 set-any-caller = refl

@@ -11,7 +11,7 @@ use Rattle.dp_vars.specs.Values.{expansion_with}
 use Rattle.dp_app.specs.Rows.{Meanings}
 use Rattle.dp_machine.specs.Events.{event_row}
 use Rattle.dp_machine.specs.Replay.{final_world, world_after}
-use Rattle.dp_machine.specs.World.{opening}
+use Rattle.dp_machine.specs.World.{opening_with}
 use Rattle.dp_machine.specs.declared.event.Event.{Event}
 use Rattle.dp_machine.specs.declared.event.Event.TheVariants.{Start, Step, Digit, Timeout, Poll, Hangup, DialResult, Offer, Answer, Decline, AgentDone, Reload, Assign, Redirect}
 use Rattle.dp_machine.specs.declared.reply.Reply.TheVariants.{Started}
@@ -82,5 +82,5 @@ abbrev pub RunsOnly : Meanings → Outside → List ℕ → PlanOf → List Sett
 RunsOnly meanings outside context plan settings answers = (queues : QueuesOf) (before later : List Event) (exten caller : List ℕ) (number : ℕ)
     → map (λ queue. queue.settings) queues.queues ≡ settings
     → AllByRecursion (IsFromOutside outside) (before ++ Start context exten caller ∷ later)
-    → (event_row meanings (world_after meanings (opening plan queues) before) (Start context exten caller)).1 ≡ Started number
-    → RunsWithin meanings answers number (final_world meanings (world_after meanings (opening plan queues) before) (Start context exten caller)) later
+    → (event_row meanings (world_after meanings (opening_with meanings.functions plan queues) before) (Start context exten caller)).1 ≡ Started number
+    → RunsWithin meanings answers number (final_world meanings (world_after meanings (opening_with meanings.functions plan queues) before) (Start context exten caller)) later

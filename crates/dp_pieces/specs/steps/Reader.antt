@@ -4,9 +4,8 @@ use Rattle.dp_conf.specs.declared.groups.GroupKind.{GroupKind}
 use Rattle.dp_conf.specs.declared.groups.Mark.{Mark}
 use Rattle.dp_conf.specs.declared.groups.Mark.TheVariants.{End, Opening, Byte}
 use Rattle.dp_conf.specs.Groups.{opener}
-use Rattle.dp_pieces.specs.Names.{Names}
 use Rattle.dp_pieces.specs.Pieces.{Known, Piece}
-use Rattle.dp_pieces.specs.Texts.{group_pieces}
+use Rattle.dp_pieces.specs.Texts.{GroupMeaning}
 
 -- an opening, with the place of its `$`
 pub record Open : Type 0 where
@@ -23,19 +22,19 @@ abbrev pub kinds_of : List Open → List GroupKind
 kinds_of waiting = map (λ w. w.kind) waiting
 
 -- the pieces with those of a group in place of its opening and its body
-abbrev pub with_group : Names → Open → List Piece → List Piece
-with_group names w pieces = take w.start pieces ++ group_pieces names w.kind (drop (w.start + 2) pieces)
+abbrev pub with_group : GroupMeaning → Open → List Piece → List Piece
+with_group groups w pieces = take w.start pieces ++ groups w.kind (drop (w.start + 2) pieces)
 
 -- after the end of the innermost group
-abbrev pub after_group : Names → List Open → List Piece → Read
-after_group names [] pieces = record { pieces = pieces; waiting = [] }
-after_group names (w ∷ waiting) pieces = record { pieces = with_group names w pieces; waiting = waiting }
+abbrev pub after_group : GroupMeaning → List Open → List Piece → Read
+after_group groups [] pieces = record { pieces = pieces; waiting = [] }
+after_group groups (w ∷ waiting) pieces = record { pieces = with_group groups w pieces; waiting = waiting }
 
 -- after a mark
-abbrev pub after : Names → Mark → Read → Read
-after names End read = after_group names read.waiting read.pieces
-after names (Opening kind) read = record {
+abbrev pub after : GroupMeaning → Mark → Read → Read
+after groups End read = after_group groups read.waiting read.pieces
+after groups (Opening kind) read = record {
   pieces = read.pieces ++ Known 36 ∷ Known (opener kind) ∷ [];
   waiting = record { kind = kind; start = length read.pieces } ∷ read.waiting;
 }
-after names (Byte byte) read = record read { pieces = read.pieces ++ Known byte ∷ [] }
+after groups (Byte byte) read = record read { pieces = read.pieces ++ Known byte ∷ [] }

@@ -4,7 +4,7 @@ use Rattle.dp_pieces.proofs.OnWay.{IsOnWay}
 use Rattle.dp_pieces.proofs.reader.read_pieces.Given as goal
 
 abbrev pub invariant-loop-mark : goal.invariant-loop-mark
-invariant-loop-mark g l = IsOnWay (g.N.NamedPieces.names l.names) l.text (read_of l.reading) l.rest
+invariant-loop-mark g l = IsOnWay (g.G.GroupPieces.groups l.groups) l.text (read_of l.reading) l.rest
 
 abbrev pub decreases-loop-mark : goal.decreases-loop-mark
 decreases-loop-mark g l = length l.rest
