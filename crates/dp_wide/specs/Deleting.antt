@@ -54,6 +54,10 @@ tree_by argument (Some cut) = if length cut.1 == 0 then cut.0 else argument
 abbrev pub tree_of : List ℕ → List ℕ
 tree_of argument = tree_by argument (cut_once (byte "/") argument)
 
+-- the name of the global that says that the keys which an argument names were deleted
+abbrev pub deleted_mark : List ℕ → List ℕ
+deleted_mark argument = if names_all argument then assumed_name (codes "DB") else deleted_name (tree_of argument)
+
 -- the globals after the keys that an argument names were deleted
 abbrev pub without_named : Named → List ℕ → Named
 without_named globals argument = if names_all argument then without_keys globals else without_key globals (tree_of argument)

@@ -5,6 +5,7 @@ pub mod CellValues
 pub mod Cells
 pub mod Choices
 pub mod Deleting
+pub mod Effects
 pub mod Fields
 pub mod Functions
 pub mod Going

@@ -1,5 +1,5 @@
 -- The steps of private functions. No public clause depends on them.
-pub mod Effects
+pub mod Callers
 pub mod Far
 pub mod PartsLeft
 pub mod Placed

@@ -105,6 +105,17 @@ fn tree_of(argument: &[u8]) -> &[u8]
     if tree.is_empty() { family } else { argument }
 }
 
+/// The name of the global that says that the keys which the argument of `DBdeltree` names were deleted, given the argument without blanks at
+/// its ends. It fails only if memory runs out.
+pub fn deleted_mark(alloc: Global, argument: &[u8]) -> Result<Vec<u8>, NoMemory>
+    ensures { IfOk result (λ name. name.items ≡ spec.deleted_mark argument.now) }
+{
+    if names_all(argument) {
+        return assumed_name(alloc, b"DB");
+    }
+    deleted_name(alloc, tree_of(argument))
+}
+
 /// Deletes the keys that an argument names. If memory runs out the globals are as before.
 fn delete_named(alloc: Global, globals: &mut Globals, argument: &[u8]) -> Result<(), NoMemory>
     ensures ok { OnOk result (globals.new ≡ spec.without_named globals.old argument.now) }

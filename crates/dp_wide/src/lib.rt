@@ -33,7 +33,7 @@ mod wide_table;
 pub use asterisk_functions::is_asterisk_function;
 pub use cell_values::assumed_name;
 pub use choices::if_value;
-pub use deleting::{DbDel, DbDelTree};
+pub use deleting::{DbDel, DbDelTree, deleted_mark};
 pub use dp_conf::NoMemory;
 pub use dp_vars::Target;
 pub use ended::{Busy, Congestion};
@@ -44,8 +44,10 @@ pub use functions::{WideFunctions, is_computed};
 pub use going::{WithGoing, goes_on};
 pub use macros::{Macro, MacroExit};
 pub use names::{is_given_by_asterisk, is_status};
-pub use outside::{WithOutside, is_outside};
-pub use settings::{MSet, SetWide, outside_sets_what_set_sets, setting_target};
+pub use outside::{WithOutside, is_outside, is_read};
+pub use settings::{
+    Effect, MSet, SetWide, bare_name, effect_of, outside_sets_what_set_sets, setting_target,
+};
 pub use subroutines::{GosubIfWide, GosubWide, goes_where_gosub_goes};
 pub use texts::{cut, delimiter_of, field_count, filter, to_lower, to_upper};
 pub use time_choice::GotoIfTime;

@@ -108,8 +108,8 @@ pub fn is_outside(name: &[u8]) -> bool
     outside_statuses(name).is_some()
 }
 
-/// Whether the first argument of an application names a variable for the input.
-fn is_read(name: &[u8]) -> bool
+/// Whether the first argument of an application with a name names a variable for the input: `Read` and `ReadExten`, in any ASCII case.
+pub fn is_read(name: &[u8]) -> bool
     ensures { result ≡ spec.is_read name.now }
 {
     same_word(name, b"Read") || same_word(name, b"ReadExten")

@@ -12,13 +12,12 @@ ghost use Rattle.dp_wide.specs.Settings as spec;
 ghost use Rattle.dp_wide.specs.Settings.{settable_of, with_settable};
 ghost use Rattle.dp_wide.specs.steps.PartsLeft.{parts_left};
 
-use crate::settings::effects::{Effect, effect_of};
 use crate::settings::one::{set_effect, set_one};
 use crate::settings::together::{Assignments, set_together};
 use dp_app::{Application, Cell, Move, Touch};
 use dp_conf::{NoMemory, cut_once, first_argument, trim};
-pub(crate) use effects::{bare_name, does_more};
-pub use effects::{outside_sets_what_set_sets, setting_target};
+pub(crate) use effects::does_more;
+pub use effects::{Effect, bare_name, effect_of, outside_sets_what_set_sets, setting_target};
 use std::alloc::Global;
 
 /// The first of a list of values, and the values after it; empty if there is none.

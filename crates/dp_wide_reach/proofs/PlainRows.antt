@@ -15,7 +15,7 @@ use Rattle.dp_pieces.proofs.FitsLemmas.{fits-set, fits-text_known}
 use Rattle.dp_pieces.proofs.WithinLemmas.{part-left, part-right, within-append, within-more, within-own, within-trim}
 use Rattle.dp_wide.specs.CellValues.{assumed_name, deleted_name}
 use Rattle.dp_wide.specs.Cells.{cell_name}
-use Rattle.dp_wide.specs.Deleting.{database_front, delete_row, delete_tree_row, front_below, names_all, tree_of, without_key, without_keys, without_named}
+use Rattle.dp_wide.specs.Deleting.{database_front, delete_row, delete_tree_row, deleted_mark, front_below, names_all, tree_of, without_key, without_keys, without_named}
 use Rattle.dp_wide.specs.Macros.{exit_by, macro_exit_row}
 use Rattle.dp_wide.specs.Outside.{after_arguments, after_reading, name_to_read, outside_outcome, outside_row, without_values}
 use Rattle.dp_wide.specs.ReadNames.{is_listed, read_names, with_listed}
@@ -25,7 +25,7 @@ use Rattle.dp_reach.specs.Bounds.{Holds, IsBounded, Meets, MeetsAll, nothing_owe
 use Rattle.dp_reach.specs.Holding.{AreHeld, Claim, IsGood, IsHeld, IsInside, IsKept}
 use Rattle.dp_reach.proofs.StoreLemmas.{each-get, held-insert, kept-set, kept-without_frame}
 use Rattle.dp_reach.proofs.TargetLemmas.{arguments-within}
-use Rattle.dp_wide_reach.specs.Settings.{delete_tree_duties, deleted_mark, deletion_duties, read_duties}
+use Rattle.dp_wide_reach.specs.Settings.{delete_tree_duties, deletion_duties, read_duties}
 use Rattle.dp_wide_reach.proofs.HeldLemmas.{held-value_in, held-without_tree, kept-unset}
 
 -- the end of a macro

@@ -1,13 +1,12 @@
 -- The duties of the applications of the wide table that set names.
-use Rattle.std.specs.Prelude.{ℕ, List, [], ◌∷◌, Option, Some, None, codes, if◌then◌else◌}
+use Rattle.std.specs.Prelude.{ℕ, List, [], ◌∷◌, Option, Some, None, codes}
 use Rattle.dp_conf.specs.Blanks.{trim}
 use Rattle.dp_vars.specs.Functions.{SettingTarget, Variable, Global, Local, Caller, Nothing}
 use Rattle.dp_pieces.specs.Bytes.{Bytes, either}
 use Rattle.dp_pieces.specs.Cuts.{cut_known}
 use Rattle.dp_pieces.specs.Pieces.{Piece, bytes_in, pieces_set, text_known}
-use Rattle.dp_wide.specs.CellValues.{assumed_name, deleted_name}
 use Rattle.dp_wide.specs.Cells.{cell_name}
-use Rattle.dp_wide.specs.Deleting.{names_all, tree_of}
+use Rattle.dp_wide.specs.Deleting.{deleted_mark}
 use Rattle.dp_wide.specs.ReadNames.{read_names}
 use Rattle.dp_wide.specs.Settings.{Effect, OneTarget, NameAndNumber, EmptyKey, EachName, bare_name, effect_of}
 use Rattle.dp_reach.specs.Bounds.{Calls, Duties, Duty, Holds, HoldsAll}
@@ -43,10 +42,6 @@ wide_set_duties area pieces = setting_duties pieces (cut_known 61 pieces)
 -- the duties of the row of `MSet`, whose arguments may set any names
 abbrev pub mset_duties : Duties
 mset_duties area pieces = any_duties (pieces_set pieces)
-
--- the global that says that the keys which an argument names are deleted
-abbrev pub deleted_mark : List ℕ → List ℕ
-deleted_mark argument = if names_all argument then assumed_name (codes "DB") else deleted_name (tree_of argument)
 
 -- the duties of the row of `DBdeltree`, given its argument if it is known: that global becomes `1`
 abbrev pub deletion_duties : Option (List ℕ) → List Duty

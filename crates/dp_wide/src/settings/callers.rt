@@ -2,7 +2,7 @@
 ghost use Rattle.std.specs.Prelude.{◌≡◌};
 ghost use Rattle.std.specs.Option.{option_map};
 ghost use Rattle.dp_wide.specs.Settings as spec;
-ghost use Rattle.dp_wide.specs.steps.Effects.{caller_seen};
+ghost use Rattle.dp_wide.specs.steps.Callers.{caller_seen};
 
 use dp_conf::{before_last, cut_once, trim};
 

@@ -3,16 +3,16 @@ ghost use Rattle.std.specs.Prelude.{◌≡◌, ◌≢◌, ℕ, List};
 ghost use Rattle.dp_vars.specs.Functions.{Nothing, target_seen};
 ghost use Rattle.dp_wide.specs.Settings as spec;
 ghost use Rattle.dp_wide.specs.Settings.{Settable};
-ghost use Rattle.dp_wide.specs.steps.Effects.{effect_seen};
+ghost use Rattle.dp_wide.specs.Effects.{effect_seen};
 
 use crate::cells::is_of_all;
 use dp_conf::{cut_once, trim};
 use dp_flow::argument_of;
 use dp_vars::Target;
 
-/// The effect of setting a name.
+/// What setting a name does.
 #[derive(Clone, Copy)]
-pub(super) enum Effect<'a> {
+pub enum Effect<'a> {
     /// One thing.
     OneTarget(Target<'a>),
     /// The name and the number of the caller.
@@ -33,8 +33,8 @@ fn without_mark(name: &[u8]) -> &[u8]
     }
 }
 
-/// A name that is set, without blanks at its ends and without up to two marks of inheritance.
-pub(crate) fn bare_name(name: &[u8]) -> &[u8]
+/// A name that is set, without blanks at its ends and without up to two marks of inheritance, each a `_`.
+pub fn bare_name(name: &[u8]) -> &[u8]
     ensures { result.now ≡ spec.bare_name name.now }
 {
     without_mark(without_mark(trim(name)))
@@ -111,9 +111,9 @@ fn variable_target(name: &[u8]) -> Target<'_>
     }
 }
 
-/// What a name sets.
+/// What a name sets, given without blanks at its ends and without marks of inheritance, as [`bare_name`] gives it.
 #[tactic(auto, unfolding(crate::specs::Settings::effect_of))]
-pub(super) fn effect_of(name: &[u8]) -> Effect<'_>
+pub fn effect_of(name: &[u8]) -> Effect<'_>
     ensures { effect_seen result ≡ spec.effect_of name.now }
 {
     match cut_once(name, b'(') {

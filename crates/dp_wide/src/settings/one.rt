@@ -4,7 +4,8 @@ ghost use Rattle.dp_app.specs.Cells.{KeepsLoans, cell_now};
 ghost use Rattle.dp_vars.specs.Functions.{target_seen};
 ghost use Rattle.dp_wide.specs.Settings as spec;
 ghost use Rattle.dp_wide.specs.Settings.{settable_of, with_settable};
-ghost use Rattle.dp_wide.specs.steps.Effects.{caller_seen, effect_seen};
+ghost use Rattle.dp_wide.specs.Effects.{effect_seen};
+ghost use Rattle.dp_wide.specs.steps.Callers.{caller_seen};
 
 use crate::deleting::empty_key;
 use crate::settings::callers::{CallerText, caller_of};

@@ -1,7 +1,6 @@
 -- The effects of setting names, as the bytes that they hold.
 use Rattle.dp_vars.specs.Functions.{target_seen}
-use Rattle.dp_wide.specs.Settings.{CallerText as CallerBytes, Effect as EffectOf, OneTarget, NameAndNumber, EmptyKey, EachName}
-use Rattle.dp_wide.specs.declared.settings.callers.CallerText.{CallerText}
+use Rattle.dp_wide.specs.Settings.{Effect as EffectOf, OneTarget, NameAndNumber, EmptyKey, EachName}
 use Rattle.dp_wide.specs.declared.settings.effects.Effect.{Effect}
 use Rattle.dp_wide.specs.declared.settings.effects.Effect.TheVariants as effects
 
@@ -11,7 +10,3 @@ effect_seen (effects.OneTarget target) = OneTarget (target_seen target)
 effect_seen effects.NameAndNumber = NameAndNumber
 effect_seen (effects.EmptyKey key) = EmptyKey key.now
 effect_seen (effects.EachName names) = EachName names.now
-
--- a caller, as the bytes of its texts
-abbrev pub caller_seen : CallerText → CallerBytes
-caller_seen caller = record { name = caller.name.now; number = caller.number.now }
