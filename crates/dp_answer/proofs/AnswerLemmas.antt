@@ -3,6 +3,7 @@ use Rattle.std.proofs.Common.{◌≡◌, ℕ, Bool, true, false, List, ◌++◌,
 use Rattle.std.specs.Prelude.{is_some}
 use Rattle.std.specs.Global.{Vec}
 use Rattle.std.specs.Option.{option_map_or}
+use Rattle.dp_app.specs.Rows.{Meanings}
 use Rattle.dp_answer.specs.Asks.{AskOf, is_lacking, outside_of, starts_of}
 use Rattle.dp_answer.specs.Reports.{IsReport, IsReportBy, IsRight, ReportOf, Told, answer_text, assumptions, has_answer, head_text, may_reach, nothing_told, status_by, no_proof_line, verdict}
 use Rattle.dp_answer.specs.Steps.{AreTerms, IsFoundBy, IsTold, answers_by, answers_of}
@@ -13,14 +14,13 @@ use Rattle.dp_plan.specs.Lookup.{number_of}
 use Rattle.dp_plan.specs.Plan.{PlanOf}
 use Rattle.dp_queue.specs.declared.settings.Settings.{Settings}
 use Rattle.dp_reach.specs.Audits.{Outside, RunsOnly}
-use Rattle.dp_table.specs.Standard.{standard_rows}
 
 -- if no answer is proved each entry is reported, and none but these runs
-pub runs-told : (outside : Outside) (context : List ℕ) (plan : PlanOf) (settings : List Settings) (is_proved : Bool) (marks : List (Vec Bool))
-    → (IsTrue is_proved → RunsOnly standard_rows outside context plan settings (answers_in (Some marks)))
-    → RunsOnly standard_rows outside context plan settings (answers_in (answers_by is_proved marks))
-runs-told outside context plan settings true marks proved = proved refl
-runs-told outside context plan settings false marks proved = λ queues before later exten caller number same from started b l id split ran. refl
+pub runs-told : (meanings : Meanings) (outside : Outside) (context : List ℕ) (plan : PlanOf) (settings : List Settings) (is_proved : Bool) (marks : List (Vec Bool))
+    → (IsTrue is_proved → RunsOnly meanings outside context plan settings (answers_in (Some marks)))
+    → RunsOnly meanings outside context plan settings (answers_in (answers_by is_proved marks))
+runs-told meanings outside context plan settings true marks proved = proved refl
+runs-told meanings outside context plan settings false marks proved = λ queues before later exten caller number same from started b l id split ran. refl
 
 -- if no proof was found there are no marks
 found-marks : (is_proved : Bool) (marks : List (Vec Bool)) → is_some (answers_by is_proved marks) ≡ is_proved
@@ -28,17 +28,17 @@ found-marks true marks = refl
 found-marks false marks = refl
 
 -- a report of proved answers is right
-pub right-told : (plan : PlanOf) (settings : List Settings) (ask : AskOf) (report : ReportOf) (outside : Outside) (is_proved : Bool) (marks : List (Vec Bool))
-    → outside ≡ outside_of plan ask → RunsOnly standard_rows outside ask.context plan settings (answers_in (answers_by is_proved marks))
-    → IsTold plan (assumptions ask outside.contexts ++ no_proof_line is_proved) (answers_by is_proved marks) ask.target report → IsRight plan settings ask report
-right-told plan settings ask report outside is_proved marks same runs told =
+pub right-told : (meanings : Meanings) (plan : PlanOf) (settings : List Settings) (ask : AskOf) (report : ReportOf) (outside : Outside) (is_proved : Bool) (marks : List (Vec Bool))
+    → outside ≡ outside_of plan ask → RunsOnly meanings outside ask.context plan settings (answers_in (answers_by is_proved marks))
+    → IsTold plan (assumptions ask outside.contexts ++ no_proof_line is_proved) (answers_by is_proved marks) ask.target report → IsRight meanings plan settings ask report
+right-told meanings plan settings ask report outside is_proved marks same runs told =
     let answers : Option (List (Vec Bool)) = answers_by is_proved marks in
     let head : assumptions ask outside.contexts ++ no_proof_line is_proved ≡ head_text plan ask answers =
     ap (λ (o : Outside). assumptions ask o.contexts ++ no_proof_line is_proved) same
     ∙ ap (λ b. assumptions ask (starts_of plan ask) ++ no_proof_line b) (sym (found-marks is_proved marks)) in
     record {
       marks = answers;
-      runs = subst (λ (o : Outside). RunsOnly standard_rows o ask.context plan settings (answers_in answers)) same runs;
+      runs = subst (λ (o : Outside). RunsOnly meanings o ask.context plan settings (answers_in answers)) same runs;
       told = told.told;
       text = told.text ∙ ap (λ h. h ++ answer_text plan (answers_in answers) ask.target told.told) head;
       status = told.status;
@@ -68,20 +68,20 @@ told-target plan head marks found name number reached told report same numbered 
     }
 
 -- a report if a named context is missing, and if none is
-pub lacking-report : (plan : PlanOf) (settings : List Settings) (ask : AskOf) (report : ReportOf)
-    → is_lacking plan ask ≡ true → report ≡ nothing_told → IsReport plan settings ask report
-lacking-report plan settings ask report lacks nothing = subst (λ b. IsReportBy b plan settings ask report) (sym lacks) nothing
+pub lacking-report : (meanings : Meanings) (plan : PlanOf) (settings : List Settings) (ask : AskOf) (report : ReportOf)
+    → is_lacking plan ask ≡ true → report ≡ nothing_told → IsReport meanings plan settings ask report
+lacking-report meanings plan settings ask report lacks nothing = subst (λ b. IsReportBy meanings b plan settings ask report) (sym lacks) nothing
 
-pub right-report : (plan : PlanOf) (settings : List Settings) (ask : AskOf) (report : ReportOf)
-    → is_lacking plan ask ≡ false → IsRight plan settings ask report → IsReport plan settings ask report
-right-report plan settings ask report lacks right = subst (λ b. IsReportBy b plan settings ask report) (sym lacks) right
+pub right-report : (meanings : Meanings) (plan : PlanOf) (settings : List Settings) (ask : AskOf) (report : ReportOf)
+    → is_lacking plan ask ≡ false → IsRight meanings plan settings ask report → IsReport meanings plan settings ask report
+right-report meanings plan settings ask report lacks right = subst (λ b. IsReportBy meanings b plan settings ask report) (sym lacks) right
 
 -- a report of what was found on the terms of the question
-pub found-report : (plan : PlanOf) (settings : List Settings) (ask : AskOf) (terms : Terms) (found : Found) (starts : List (Vec ℕ)) (report : ReportOf)
-    → AreTerms plan settings ask terms → IsFoundBy terms plan ask.context found → starts ≡ terms.outside.contexts.items
+pub found-report : (meanings : Meanings) (plan : PlanOf) (settings : List Settings) (ask : AskOf) (terms : Terms) (found : Found) (starts : List (Vec ℕ)) (report : ReportOf)
+    → AreTerms plan settings ask terms → IsFoundBy meanings terms plan ask.context found → starts ≡ terms.outside.contexts.items
     → IsTold plan (assumptions ask (map (λ name. name.items) starts) ++ no_proof_line found.is_proved) (answers_of found) ask.target report
-    → IsReport plan settings ask report
-found-report plan settings ask terms found starts report are found_by same told =
+    → IsReport meanings plan settings ask report
+found-report meanings plan settings ask terms found starts report are found_by same told =
     let told_in : List (Vec ℕ) → Type 0 = λ names. IsTold plan (assumptions ask (map (λ name. name.items) names) ++ no_proof_line found.is_proved) (answers_of found) ask.target report in
-    right-report plan settings ask report are.has_all
-    (right-told plan settings ask report (shown_outside terms.outside) found.is_proved found.search.marks are.outside (found_by settings are.ways) (subst told_in same told))
+    right-report meanings plan settings ask report are.has_all
+    (right-told meanings plan settings ask report (shown_outside terms.outside) found.is_proved found.search.marks are.outside (found_by settings are.ways) (subst told_in same told))

@@ -71,8 +71,9 @@ byte-put set new low left rest text b split up put all =
     ∙ all))
 
 -- what may come in, given its sets
-pub outside-same : (outside : Outside) (extens callers : Bytes) (names : List (List ℕ))
-    → ((b : ℕ) → set_by outside.exten b ≡ extens b) → ((b : ℕ) → set_by outside.caller b ≡ callers b) → map (λ name. name.items) outside.contexts.items ≡ names
-    → shown_outside outside ≡ record { exten = extens; caller = callers; contexts = names }
-outside-same outside extens callers names of_exten of_caller of_contexts =
-    λ i. record { exten = λ b. of_exten b i; caller = λ b. of_caller b i; contexts = of_contexts i }
+pub outside-same : (outside : Outside) (extens callers facts : Bytes) (names : List (List ℕ))
+    → ((b : ℕ) → set_by outside.exten b ≡ extens b) → ((b : ℕ) → set_by outside.caller b ≡ callers b) → ((b : ℕ) → set_by outside.facts b ≡ facts b)
+    → map (λ name. name.items) outside.contexts.items ≡ names
+    → shown_outside outside ≡ record { exten = extens; caller = callers; facts = facts; contexts = names }
+outside-same outside extens callers facts names of_exten of_caller of_facts of_contexts =
+    λ i. record { exten = λ b. of_exten b i; caller = λ b. of_caller b i; facts = λ b. of_facts b i; contexts = of_contexts i }

@@ -10,13 +10,14 @@ use Rattle.dp_plan.specs.Plan.{PlanOf}
 use Rattle.dp_reach.specs.Audits.{Outside}
 
 -- the context, optionally one that a call from there must not reach, and optionally the contexts where calls come in and the bytes of
--- extensions and of callers' numbers
+-- extensions, of callers' numbers and of what names are set to from outside
 pub record AskOf : Type 0 where
   pub context : List ℕ
   pub target : Option (List ℕ)
   pub starts : Option (List ℕ)
   pub exten : Option (List ℕ)
   pub caller : Option (List ℕ)
+  pub facts : Option (List ℕ)
 
 abbrev pub ask_of : Ask → AskOf
 ask_of ask = record {
@@ -25,14 +26,18 @@ ask_of ask = record {
   starts = option_map (λ text. text.now) ask.starts;
   exten = option_map (λ text. text.now) ask.exten;
   caller = option_map (λ text. text.now) ask.caller;
+  facts = option_map (λ text. text.now) ask.facts;
 }
 
--- the bytes of a dialled extension and of a caller's number by default
+-- the bytes of a dialled extension and of a caller's number by default; nothing is set from outside then
 abbrev pub usual_exten : List ℕ
 usual_exten = codes "0-9A-Za-z*#+_."
 
 abbrev pub usual_caller : List ℕ
 usual_caller = codes "0-9+"
+
+abbrev pub usual_facts : List ℕ
+usual_facts = []
 
 -- the contexts where calls come in: that of the question and the given ones, separated by commas, else every context of the dialplan
 abbrev pub starts_of : PlanOf → AskOf → List (List ℕ)
@@ -43,6 +48,7 @@ abbrev pub outside_of : PlanOf → AskOf → Outside
 outside_of plan ask = record {
   exten = ranges (unwrap_or ask.exten usual_exten);
   caller = ranges (unwrap_or ask.caller usual_caller);
+  facts = ranges (unwrap_or ask.facts usual_facts);
   contexts = starts_of plan ask;
 }
 

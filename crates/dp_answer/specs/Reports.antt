@@ -4,6 +4,7 @@ use Rattle.std.specs.Prelude.{◌≡◌, ℕ, Bool, true, false, List, [], ◌�
 use Rattle.std.specs.Global.{Vec}
 use Rattle.std.specs.List.{flat_map, list_any, range_with_len}
 use Rattle.std.specs.Option.{option_map_or}
+use Rattle.dp_app.specs.Rows.{Meanings}
 use Rattle.dp_answer.specs.Asks.{AskOf, is_lacking, outside_of, starts_of, usual_caller, usual_exten}
 use Rattle.dp_closed.specs.Answers.{answers_in}
 use Rattle.dp_pattern.specs.Spelling.{spelling}
@@ -13,7 +14,6 @@ use Rattle.dp_plan.specs.declared.entry.Entry.{Entry}
 use Rattle.dp_plan.specs.declared.entry.EntryId.{EntryId}
 use Rattle.dp_queue.specs.declared.settings.Settings.{Settings}
 use Rattle.dp_reach.specs.Audits.{RunsOnly}
-use Rattle.dp_table.specs.Standard.{standard_rows}
 
 -- the name of the context with a number
 abbrev pub name_at : PlanOf → ℕ → List ℕ
@@ -58,12 +58,18 @@ entrances (Some given) starts = flat_map start_text starts
 abbrev pub bytes_text : List ℕ → Option (List ℕ) → List ℕ → List ℕ
 bytes_text text given usual = text ++ unwrap_or given usual
 
--- the assumptions: the bytes of extensions and of callers' numbers as given, and the contexts where calls come in
+-- the bytes of what names are set to from outside, if these are given
+abbrev pub facts_text : Option (List ℕ) → List ℕ
+facts_text None = []
+facts_text (Some given) = codes "}*, values from outside of {" ++ given
+
+-- the assumptions: the bytes of extensions, of callers' numbers and of values from outside as given, and the contexts where calls come in
 abbrev pub assumptions : AskOf → List (List ℕ) → List ℕ
 assumptions ask starts =
     bytes_text (codes "assumed: extensions of {") ask.exten usual_exten
     ++ (bytes_text (codes "}*, callers' numbers of {") ask.caller usual_caller
-    ++ (codes "}*, calls come in at" ++ (entrances ask.starts starts ++ codes "\n")))
+    ++ (facts_text ask.facts
+    ++ (codes "}*, calls come in at" ++ (entrances ask.starts starts ++ codes "\n"))))
 
 -- the line that says that no proof was found, if there is none
 abbrev pub no_proof_line : Bool → List ℕ
@@ -121,11 +127,11 @@ pub record ReportOf : Type 0 where
   pub status : ℕ
 
 -- a report is correct: it begins with the assumptions; a call that comes in at the context runs only entries among the answers, in each run
--- of the dialplan with queues of these settings in which calls come in as the question says and no other dialplan is loaded; and it reports
--- these entries
-pub record IsRight (plan : PlanOf) (settings : List Settings) (ask : AskOf) (report : ReportOf) : Type 0 where
+-- with these meanings of the dialplan with queues of these settings in which calls come in and names are set as the question says and no
+-- other dialplan is loaded; and it reports these entries
+pub record IsRight (meanings : Meanings) (plan : PlanOf) (settings : List Settings) (ask : AskOf) (report : ReportOf) : Type 0 where
   pub marks : Option (List (Vec Bool))
-  pub runs : RunsOnly standard_rows (outside_of plan ask) ask.context plan settings (answers_in marks)
+  pub runs : RunsOnly meanings (outside_of plan ask) ask.context plan settings (answers_in marks)
   pub told : Told
   pub text : report.text ≡ head_text plan ask marks ++ answer_text plan (answers_in marks) ask.target told
   pub status : report.status ≡ answer_status plan (answers_in marks) ask.target
@@ -135,9 +141,9 @@ abbrev pub nothing_told : ReportOf
 nothing_told = record { text = []; status = 1 }
 
 -- a report, given whether the dialplan lacks a name in the question
-abbrev pub IsReportBy : Bool → PlanOf → List Settings → AskOf → ReportOf → Type 0
-IsReportBy true plan settings ask report = report ≡ nothing_told
-IsReportBy false plan settings ask report = IsRight plan settings ask report
+abbrev pub IsReportBy : Meanings → Bool → PlanOf → List Settings → AskOf → ReportOf → Type 0
+IsReportBy meanings true plan settings ask report = report ≡ nothing_told
+IsReportBy meanings false plan settings ask report = IsRight meanings plan settings ask report
 
-abbrev pub IsReport : PlanOf → List Settings → AskOf → ReportOf → Type 0
-IsReport plan settings ask report = IsReportBy (is_lacking plan ask) plan settings ask report
+abbrev pub IsReport : Meanings → PlanOf → List Settings → AskOf → ReportOf → Type 0
+IsReport meanings plan settings ask report = IsReportBy meanings (is_lacking plan ask) plan settings ask report

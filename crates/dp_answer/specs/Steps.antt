@@ -1,6 +1,7 @@
 -- The steps of private functions. No public clause depends on them.
 use Rattle.std.specs.Prelude.{◌≡◌, ℕ, Bool, true, false, List, ◌++◌, Option, Some, None}
 use Rattle.std.specs.Global.{Vec}
+use Rattle.dp_app.specs.Rows.{Meanings}
 use Rattle.dp_answer.specs.Asks.{AskOf, is_lacking, outside_of}
 use Rattle.dp_answer.specs.Reports.{ReportOf, Told, answer_status, answer_text}
 use Rattle.dp_answer.specs.declared.answer.OutsideQuestion.{OutsideQuestion}
@@ -12,12 +13,11 @@ use Rattle.dp_closed.specs.Claimed.{AreWays}
 use Rattle.dp_plan.specs.Plan.{PlanOf}
 use Rattle.dp_queue.specs.declared.settings.Settings.{Settings}
 use Rattle.dp_reach.specs.Audits.{RunsOnly}
-use Rattle.dp_table.specs.Standard.{standard_rows}
 
 -- a call of the question runs only marked entries, with any queues that have the question's ways out
-abbrev pub IsProvedBy : OutsideQuestion → List (Vec Bool) → Type 0
-IsProvedBy question marks = (settings : List Settings) → AreWays settings question.ways.now
-    → RunsOnly standard_rows (shown_outside question.outside.now) question.context.now question.plan.now settings (answers_in (Some marks))
+abbrev pub IsProvedBy : Meanings → OutsideQuestion → List (Vec Bool) → Type 0
+IsProvedBy meanings question marks = (settings : List Settings) → AreWays settings question.ways.now
+    → RunsOnly meanings (shown_outside question.outside.now) question.context.now question.plan.now settings (answers_in (Some marks))
 
 -- the marks of the answer: those that were found, if they are proved
 abbrev pub answers_by : Bool → List (Vec Bool) → Option (List (Vec Bool))
@@ -38,9 +38,9 @@ AreTermsIfAny plan settings ask None = is_lacking plan ask ≡ true
 AreTermsIfAny plan settings ask (Some terms) = AreTerms plan settings ask terms
 
 -- a call that comes in at the context runs only entries in the answer, with any queues that have the ways out
-abbrev pub IsFoundBy : Terms → PlanOf → List ℕ → Found → Type 0
-IsFoundBy terms plan context found = (settings : List Settings) → AreWays settings terms.ways.items
-    → RunsOnly standard_rows (shown_outside terms.outside) context plan settings (answers_in (answers_of found))
+abbrev pub IsFoundBy : Meanings → Terms → PlanOf → List ℕ → Found → Type 0
+IsFoundBy meanings terms plan context found = (settings : List Settings) → AreWays settings terms.ways.items
+    → RunsOnly meanings (shown_outside terms.outside) context plan settings (answers_in (answers_of found))
 
 -- a report, as its text and status
 abbrev pub shown_report : Report → ReportOf

@@ -1,12 +1,13 @@
 //! The answer: which entries a phone call may run, and how a call gets to them.
 ghost use Rattle.std.specs.Prelude.{◌≡◌, false, IfOk, IsTrue};
+ghost use Rattle.dp_app.specs.Rows.{with_functions};
 ghost use Rattle.dp_answer.specs.Steps.{IsProvedBy};
 
 use crate::names::opening_names;
 use crate::route::Cause;
 use crate::search::{Search, pieces_in};
 use crate::trails::Found;
-use dp_closed::{Audit, Claim, Outside, Reach};
+use dp_closed::{Audit, Claim, DutyTable, Marks, Outside, Reach};
 use dp_conf::NoMemory;
 use dp_pieces::{NameTable, Piece};
 use dp_plan::Dialplan;
@@ -36,42 +37,44 @@ fn enter_all(
     Ok(())
 }
 
-/// The findings for calls of each context where they come in: the bytes of names, and the areas. None if there were too many.
-fn find_all(
+/// The findings for calls of each context where they come in, and whether they are complete.
+fn find_all<'a, T: DutyTable>(
     alloc: Global,
-    question: OutsideQuestion<'_>,
-) -> Result<Option<(NameTable, Reach)>, NoMemory> {
-    let names = opening_names(alloc, &question.outside.caller)?;
+    question: OutsideQuestion<'a>,
+) -> Result<(Search<'a>, bool), NoMemory> {
+    let names = opening_names(alloc, question.outside)?;
     let mut search = Search::new(alloc, question.plan, question.ways, names)?;
     let any = [Piece::AnyOf(question.outside.exten)];
     enter_all(alloc, &mut search, &question.outside.contexts, &any)?;
-    let is_whole = search.go(alloc)?;
-    let found = search.into_parts();
-    Ok(if is_whole { Some(found) } else { None })
+    let is_whole = search.go::<T>(alloc)?;
+    Ok((search, is_whole))
 }
 
-/// The findings for a call of the context alone, and whether they are complete.
-fn find_one<'a>(
+/// The findings for a call of the context alone, and whether they are complete, given the bytes of names, and the entries of which nothing
+/// is known that calls of any context may run.
+fn find_one<'a, T: DutyTable>(
     alloc: Global,
     question: OutsideQuestion<'a>,
     names: NameTable,
+    unknown: Marks,
 ) -> Result<(Search<'a>, bool), NoMemory> {
     let mut search = Search::new(alloc, question.plan, question.ways, names)?;
+    search.unknown = unknown;
     let any = [Piece::AnyOf(question.outside.exten)];
     let name = pieces_in(alloc, question.context)?;
     search.lead(alloc, &name, &any, Cause::Entrance)?;
-    let is_whole = search.go(alloc)?;
+    let is_whole = search.go::<T>(alloc)?;
     Ok((search, is_whole))
 }
 
 /// Whether the findings are proved, with the areas of all calls.
-fn is_proved(
+fn is_proved<T: DutyTable>(
     alloc: Global,
     question: OutsideQuestion<'_>,
     search: &Search<'_>,
     reach: &Reach,
 ) -> Result<bool, NoMemory>
-    ensures { IfOk result (λ yes. IsTrue yes → IsProvedBy question.entry search.now.marks) }
+    ensures { IfOk result (λ yes. IsTrue yes → IsProvedBy (with_functions T.rows T.Functions.table) question.entry search.now.marks) }
 {
     let audit = Audit {
         wide: Claim {
@@ -84,15 +87,20 @@ fn is_proved(
         outside: question.outside,
         context: question.context,
     };
-    audit.is_closed(alloc, Some(&search.marks))
+    audit.is_closed::<T>(alloc, Some(&search.marks))
 }
 
-/// No findings, and nothing proved.
-fn nothing_proved<'a>(alloc: Global, question: OutsideQuestion<'a>) -> Result<Found<'a>, NoMemory>
+/// No findings but the entries of which nothing is known, and nothing proved.
+fn nothing_proved<'a>(
+    alloc: Global,
+    question: OutsideQuestion<'a>,
+    unknown: Marks,
+) -> Result<Found<'a>, NoMemory>
     ensures { IfOk result (λ found. found.is_proved ≡ false) }
 {
-    let names = opening_names(alloc, &question.outside.caller)?;
-    let search = Search::new(alloc, question.plan, question.ways, names)?;
+    let names = opening_names(alloc, question.outside)?;
+    let mut search = Search::new(alloc, question.plan, question.ways, names)?;
+    search.unknown = unknown;
     Ok(Found {
         search,
         is_proved: false,
@@ -100,35 +108,38 @@ fn nothing_proved<'a>(alloc: Global, question: OutsideQuestion<'a>) -> Result<Fo
 }
 
 /// Whether the findings are complete and proved.
-fn is_found(
+fn is_found<T: DutyTable>(
     alloc: Global,
     question: OutsideQuestion<'_>,
     found: &(Search<'_>, bool),
     reach: &Reach,
 ) -> Result<bool, NoMemory>
-    ensures { IfOk result (λ yes. IsTrue yes → IsProvedBy question.entry found.now.0.marks) }
+    ensures { IfOk result (λ yes. IsTrue yes → IsProvedBy (with_functions T.rows T.Functions.table) question.entry found.now.0.marks) }
 {
     let (search, is_whole) = found;
     if !*is_whole {
         return Ok(false);
     }
-    let is_proved = is_proved(alloc, question, search, reach)?;
+    let is_proved = is_proved::<T>(alloc, question, search, reach)?;
     Ok(is_proved)
 }
 
 /// Which entries a call may run, and whether that is proved.
-pub(crate) fn answer<'a>(
+pub(crate) fn answer<'a, T: DutyTable>(
     alloc: Global,
     question: OutsideQuestion<'a>,
 ) -> Result<Found<'a>, NoMemory>
-    ensures { IfOk result (λ found. IsTrue found.is_proved → IsProvedBy question.entry found.search.marks) }
+    ensures { IfOk result (λ found. IsTrue found.is_proved
+        → IsProvedBy (with_functions T.rows T.Functions.table) question.entry found.search.marks) }
 {
-    let Some((names, reach)) = find_all(alloc, question)? else {
-        let found = nothing_proved(alloc, question)?;
+    let (all, is_whole) = find_all::<T>(alloc, question)?;
+    let (names, reach, unknown) = all.into_parts();
+    if !is_whole {
+        let found = nothing_proved(alloc, question, unknown)?;
         return Ok(found);
-    };
-    let found = find_one(alloc, question, names)?;
-    let is_proved = is_found(alloc, question, &found, &reach)?;
+    }
+    let found = find_one::<T>(alloc, question, names, unknown)?;
+    let is_proved = is_found::<T>(alloc, question, &found, &reach)?;
     let (search, _is_whole) = found;
     Ok(Found { search, is_proved })
 }

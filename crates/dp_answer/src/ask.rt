@@ -13,4 +13,6 @@ pub struct Ask<'a> {
     pub exten: Option<&'a [u8]>,
     /// The bytes of a caller's number, as ranges; by default `0-9+`.
     pub caller: Option<&'a [u8]>,
+    /// The bytes of what names are set to from outside, as ranges; by default nothing is set.
+    pub facts: Option<&'a [u8]>,
 }

@@ -19,6 +19,9 @@ pub(crate) const USUAL_EXTEN: &[u8] = b"0-9A-Za-z*#+_.";
 /// The bytes of a caller's number by default.
 pub(crate) const USUAL_CALLER: &[u8] = b"0-9+";
 
+/// The bytes of what names are set to from outside by default: nothing is set.
+const USUAL_FACTS: &[u8] = b"";
+
 /// Adds a copy of a name.
 fn push_name(alloc: Global, names: &mut Vec<Vec<u8>>, name: &[u8]) -> Result<(), NoMemory>
     ensures { OnOk result (map (λ name. name.items) names.new.items ≡ map (λ name. name.items) names.old.items ++ name.now ∷ []) }
@@ -79,6 +82,7 @@ pub(crate) fn outside_of(alloc: Global, plan: &Dialplan, ask: &Ask<'_>) -> Resul
     Ok(Outside {
         exten: set_of_ranges(given_or(ask.exten, USUAL_EXTEN)),
         caller: set_of_ranges(given_or(ask.caller, USUAL_CALLER)),
+        facts: set_of_ranges(given_or(ask.facts, USUAL_FACTS)),
         contexts,
     })
 }

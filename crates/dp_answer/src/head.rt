@@ -1,5 +1,5 @@
 //! The text before an answer: the assumptions about the outside, and whether a proof was found.
-ghost use Rattle.std.specs.Prelude.{◌≡◌, ◌++◌, OnOk, map, option_map};
+ghost use Rattle.std.specs.Prelude.{◌≡◌, ◌++◌, OnOk, codes, map, option_map};
 ghost use Rattle.std.specs.List.{flat_map};
 ghost use Rattle.dp_answer.specs.Asks.{ask_of};
 ghost use Rattle.dp_answer.specs.Reports as spec;
@@ -60,12 +60,32 @@ fn push_bytes(
     Ok(())
 }
 
+/// Adds the bytes of what names are set to from outside.
+fn push_given(out: &mut Vec<u8>, given: &[u8]) -> Result<(), NoMemory>
+    ensures { OnOk result (out.new.items ≡ out.old.items ++ codes "}*, values from outside of {" ++ given.now) }
+{
+    out.extend_from_slice(b"}*, values from outside of {")?;
+    out.extend_from_slice(given)?;
+    Ok(())
+}
+
+/// Adds the bytes of what names are set to from outside, if these are given.
+fn push_facts(out: &mut Vec<u8>, given: Option<&[u8]>) -> Result<(), NoMemory>
+    ensures { OnOk result (out.new.items ≡ out.old.items ++ spec.facts_text (option_map (λ text. text.now) given.entry)) }
+{
+    match given {
+        Some(given) => push_given(out, given),
+        None => Ok(()),
+    }
+}
+
 /// Adds the assumptions about the outside: the bytes as given, and where calls come in.
 fn push_assumed(out: &mut Vec<u8>, ask: &Ask<'_>, starts: &[Vec<u8>]) -> Result<(), NoMemory>
     ensures { OnOk result (out.new.items ≡ out.old.items ++ spec.assumptions (ask_of ask.now) (map (λ name. name.items) starts.now)) }
 {
     push_bytes(out, b"assumed: extensions of {", ask.exten, USUAL_EXTEN)?;
     push_bytes(out, b"}*, callers' numbers of {", ask.caller, USUAL_CALLER)?;
+    push_facts(out, ask.facts)?;
     out.extend_from_slice(b"}*, calls come in at")?;
     push_entrances(out, ask.starts, starts)?;
     out.extend_from_slice(b"\n")?;

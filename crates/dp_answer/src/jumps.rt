@@ -2,7 +2,7 @@
 use crate::names::{TELEPHONE_DIGITS, set_in};
 use crate::search::{Search, pieces_in};
 use crate::turned_orders::TurnedOrders;
-use dp_closed::{Area, Duty, Marks, found_shape};
+use dp_closed::{Area, Duty, DutyTable, Marks, found_shape};
 use dp_conf::NoMemory;
 use dp_pieces::{Piece, may_fit};
 use dp_plan::{Dialplan, Entry, EntryId};
@@ -69,11 +69,12 @@ impl JumpTarget<'_> {
         Ok(false)
     }
 
-    /// Whether the duty leads to an area from which an entry of the target may be found.
+    /// Whether the duty leads to an area from which an entry of the target may be found, as anything may.
     fn is_led_by(&self, alloc: Global, duty: &Duty) -> Result<bool, NoMemory> {
         match duty {
             Duty::Leads(area) => self.is_seen(alloc, &area.context, &area.exten),
             Duty::Waits => self.is_way_out(alloc),
+            Duty::Anything => Ok(true),
             Duty::Holds(_, _) | Duty::HoldsAll(_) | Duty::Calls(_) => Ok(false),
         }
     }
@@ -99,7 +100,7 @@ struct Jumps<'a> {
 
 impl Jumps<'_> {
     /// Marks the entry, if it is found from an area and is such a jump.
-    fn take_entry(
+    fn take_entry<T: DutyTable>(
         &mut self,
         alloc: Global,
         name: &[u8],
@@ -124,7 +125,7 @@ impl Jumps<'_> {
             context: pieces_in(alloc, name)?,
             exten: met,
         };
-        let duties = self.search.duties_of(alloc, entry, &area)?;
+        let duties = self.search.duties_of::<T>(alloc, entry, &area)?;
         if self.target.is_led_to(alloc, &duties)? {
             self.marks.mark(id);
         }
@@ -132,7 +133,7 @@ impl Jumps<'_> {
     }
 
     /// Marks such jumps of a context that is searched from an area.
-    fn take_context(
+    fn take_context<T: DutyTable>(
         &mut self,
         alloc: Global,
         name: &[u8],
@@ -148,13 +149,13 @@ impl Jumps<'_> {
                 context: number,
                 entry,
             };
-            self.take_entry(alloc, name, id, exten)?;
+            self.take_entry::<T>(alloc, name, id, exten)?;
         }
         Ok(())
     }
 
     /// Marks such jumps of the area of a route.
-    fn take_route(
+    fn take_route<T: DutyTable>(
         &mut self,
         alloc: Global,
         order: &mut TurnedOrders<'_>,
@@ -172,14 +173,14 @@ impl Jumps<'_> {
         }
         order.fill(context.name());
         for number in order.contexts() {
-            self.take_context(alloc, context.name().bytes(), *number, &route.exten)?;
+            self.take_context::<T>(alloc, context.name().bytes(), *number, &route.exten)?;
         }
         Ok(())
     }
 }
 
 /// The entries that lead from an area where no entry of the context with this number may be found to an area where one may.
-pub(crate) fn jumps_to(
+pub(crate) fn jumps_to<T: DutyTable>(
     alloc: Global,
     search: &Search<'_>,
     target: usize,
@@ -201,7 +202,7 @@ pub(crate) fn jumps_to(
     };
     let mut order = TurnedOrders::room(alloc, plan)?;
     for route in 0..search.routes.len() {
-        jumps.take_route(alloc, &mut order, route)?;
+        jumps.take_route::<T>(alloc, &mut order, route)?;
     }
     let Jumps {
         search: _,

@@ -1,4 +1,5 @@
 //! The bytes that the machine itself puts into names.
+use dp_closed::Outside;
 use dp_conf::NoMemory;
 use dp_pieces::{ByteSet, NameTable};
 use std::alloc::Global;
@@ -26,11 +27,14 @@ const MACHINE_NAMES: &[(&str, &str)] = &[
     ),
 ];
 
-/// The bytes that names may have before any entry runs, with these bytes in the caller's number.
-pub(crate) fn opening_names(alloc: Global, caller: &ByteSet) -> Result<NameTable, NoMemory> {
+/// The bytes that names and the caller's number may have before any entry runs: those of the caller's number and of what is set from
+/// outside among them.
+pub(crate) fn opening_names(alloc: Global, outside: &Outside) -> Result<NameTable, NoMemory> {
     let mut names = NameTable::new(alloc);
     names.hold_anywhere(&set_in(b"0123456789"));
-    names.hold_caller(caller);
+    names.hold_caller(&outside.caller);
+    names.hold_caller(&outside.facts);
+    names.hold_everywhere(&outside.facts);
     for (name, bytes) in MACHINE_NAMES {
         names.hold(alloc, name.as_bytes(), &set_in(bytes.as_bytes()))?;
     }

@@ -1,5 +1,6 @@
 //! The entries that phone calls which come in at a context may run.
 ghost use Rattle.std.specs.Prelude.{◌≡◌, ◌∷◌, ◌++◌, [], IfOk, OnOk, filter, map, option_map};
+ghost use Rattle.dp_app.specs.Rows.{with_functions};
 ghost use Rattle.dp_answer.specs.Asks.{ask_of};
 ghost use Rattle.dp_answer.specs.Reached as spec;
 ghost use Rattle.dp_closed.specs.Answers.{answers_in};
@@ -7,7 +8,7 @@ ghost use Rattle.dp_closed.specs.Answers.{answers_in};
 use crate::ask::Ask;
 use crate::report::{count_at, is_answer};
 use crate::terms::Terms;
-use dp_closed::Marks;
+use dp_closed::{DutyTable, Marks};
 use dp_conf::NoMemory;
 use dp_plan::{Dialplan, EntryId};
 use dp_queue::Queues;
@@ -64,25 +65,27 @@ fn all_answers(
     Ok(entries)
 }
 
-/// The entries that a phone call which comes in at a context may run, in the order of the dialplan: those that the report lists on the same
-/// question without a target. If no proof is found within the bounds, these are all entries.
+/// The entries that a phone call which comes in at a context may run over the table, in the order of the dialplan: those that the report
+/// lists on the same question without a target. If no proof is found, these are all entries: the bounds were too narrow, or a call may run
+/// an entry of which nothing is known of what it does.
 ///
 /// If the dialplan lacks a context that is named, even if as the target, there are none. Otherwise the target has no effect.
 ///
 /// It is proved for every run that a call runs no other entry: see the clause. Nothing is proved of the entries that are given: conditions
 /// are not followed. It fails only if memory runs out.
-pub fn reached_entries(
+pub fn reached_entries<T: DutyTable>(
     alloc: Global,
     plan: &Dialplan,
     queues: &Queues,
     ask: &Ask<'_>,
 ) -> Result<Vec<EntryId>, NoMemory>
-    ensures { IfOk result (λ entries. spec.AreReached plan.now (map (λ queue. queue.settings) queues.now.queues) (ask_of ask.now) entries.items) }
+    ensures { IfOk result (λ entries. spec.AreReached (with_functions T.rows T.Functions.table) plan.now
+        (map (λ queue. queue.settings) queues.now.queues) (ask_of ask.now) entries.items) }
 {
     let Some(terms) = Terms::of(alloc, plan, queues, ask)? else {
         return Ok(Vec::new(alloc));
     };
-    let found = terms.find(alloc, plan, ask.context)?;
+    let found = terms.find::<T>(alloc, plan, ask.context)?;
     let entries = all_answers(alloc, plan, found.answers())?;
     Ok(entries)
 }

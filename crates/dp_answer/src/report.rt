@@ -1,6 +1,7 @@
 //! The report on phone calls that come in at a context.
 ghost use Rattle.std.specs.Prelude.{◌≡◌, ◌++◌, None, Some, false, IfOk, OnOk, map, option_map};
 ghost use Rattle.std.specs.Option.{option_map_or};
+ghost use Rattle.dp_app.specs.Rows.{with_functions};
 ghost use Rattle.dp_answer.specs.Asks.{ask_of};
 ghost use Rattle.dp_answer.specs.Reports as spec;
 ghost use Rattle.dp_answer.specs.Steps.{IsTold, answers_of, shown_report};
@@ -11,7 +12,7 @@ use crate::head::push_head;
 use crate::terms::Terms;
 use crate::text::push_entry;
 use crate::trails::{Found, Trails, told_of_all, told_of_target};
-use dp_closed::Marks;
+use dp_closed::{DutyTable, Marks};
 use dp_conf::NoMemory;
 use dp_plan::{Dialplan, EntryId, Text};
 use dp_queue::Queues;
@@ -170,7 +171,7 @@ fn push_target(out: &mut Vec<u8>, name: &[u8], may_reach: bool, tail: &[u8]) -> 
 }
 
 /// The report on all entries that a call may run, given the start of its text.
-fn report_all(
+fn report_all<T: DutyTable>(
     alloc: Global,
     mut text: Vec<u8>,
     plan: &Dialplan,
@@ -178,13 +179,13 @@ fn report_all(
 ) -> Result<Report, NoMemory>
     ensures { IfOk result (λ report. IsTold plan.now text.items (answers_of found.now) None (shown_report report)) }
 {
-    let told = told_of_all(alloc, found)?;
+    let told = told_of_all::<T>(alloc, found)?;
     push_answers(&mut text, plan, found.answers(), &told)?;
     Ok(Report { text, status: 0 })
 }
 
 /// The report on a context that a call may or may not reach, given the start of its text.
-fn report_target(
+fn report_target<T: DutyTable>(
     alloc: Global,
     mut text: Vec<u8>,
     plan: &Dialplan,
@@ -195,7 +196,7 @@ fn report_target(
 {
     let target = Text::copy_of(alloc, name)?;
     let number = plan.number_of(&target);
-    let tail = told_of_target(alloc, found, number)?;
+    let tail = told_of_target::<T>(alloc, found, number)?;
     let may_reach = may_reach(plan, found.answers(), number);
     push_target(&mut text, name, may_reach, &tail)?;
     Ok(Report {
@@ -205,7 +206,7 @@ fn report_target(
 }
 
 /// The report, given the findings.
-fn report_found(
+fn report_found<T: DutyTable>(
     alloc: Global,
     plan: &Dialplan,
     ask: &Ask<'_>,
@@ -219,24 +220,25 @@ fn report_found(
     let mut text = Vec::new(alloc);
     push_head(&mut text, ask, starts, found.is_proved)?;
     match ask.target {
-        None => report_all(alloc, text, plan, found),
-        Some(name) => report_target(alloc, text, plan, name, found),
+        None => report_all::<T>(alloc, text, plan, found),
+        Some(name) => report_target::<T>(alloc, text, plan, name, found),
     }
 }
 
-/// Reports which entries a phone call that comes in at a context may run, or whether it may run one of a target: whatever is dialled,
-/// pressed, answered, waited for or done by other calls. If the dialplan lacks a context that is named the report is empty, with status 1.
+/// Reports which entries a phone call that comes in at a context may run over the table, or whether it may run one of a target: whatever is
+/// dialled, pressed, answered, waited for or done by other calls. If the dialplan lacks a context that is named the report is empty, with
+/// status 1.
 ///
 /// It is proved for every run that an entry is not in the report, or that a context is unreachable: see the clause. Nothing is proved of
 /// the entries in the report: conditions are not followed. It fails only if memory runs out.
-pub fn report_on(
+pub fn report_on<T: DutyTable>(
     alloc: Global,
     plan: &Dialplan,
     queues: &Queues,
     ask: &Ask<'_>,
 ) -> Result<Report, NoMemory>
-    ensures { IfOk result (λ report. spec.IsReport plan.now (map (λ queue. queue.settings) queues.now.queues) (ask_of ask.now)
-        (record { text = report.text.items; status = report.status })) }
+    ensures { IfOk result (λ report. spec.IsReport (with_functions T.rows T.Functions.table) plan.now
+        (map (λ queue. queue.settings) queues.now.queues) (ask_of ask.now) (record { text = report.text.items; status = report.status })) }
 {
     let Some(terms) = Terms::of(alloc, plan, queues, ask)? else {
         return Ok(Report {
@@ -244,7 +246,7 @@ pub fn report_on(
             status: 1,
         });
     };
-    let found = terms.find(alloc, plan, ask.context)?;
-    let report = report_found(alloc, plan, ask, &found, &terms.outside.contexts)?;
+    let found = terms.find::<T>(alloc, plan, ask.context)?;
+    let report = report_found::<T>(alloc, plan, ask, &found, &terms.outside.contexts)?;
     Ok(report)
 }

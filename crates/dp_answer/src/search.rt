@@ -6,11 +6,9 @@ ghost use Rattle.dp_pieces.specs.Shown.{shown_all};
 use crate::names::{TELEPHONE_DIGITS, set_in};
 use crate::route::{Cause, Route};
 use crate::turned_orders::TurnedOrders;
-use dp_closed::{Area, Duty, Marks, Meeting, Reach, is_excluded, owed};
+use dp_closed::{Area, Duty, DutyTable, Marks, Meeting, Reach, is_excluded};
 use dp_conf::NoMemory;
-use dp_pieces::{
-    ByteSet, NameTable, NamesAt, Piece, add_pieces, bytes_of, known_text, may_fit, read_pieces,
-};
+use dp_pieces::{ByteSet, NameTable, NamesAt, Piece, add_pieces, bytes_of, known_text, may_fit};
 use dp_plan::{Dialplan, Entry, EntryId, Text};
 use dp_vars::has_opening;
 use std::alloc::Global;
@@ -38,6 +36,8 @@ pub(crate) struct Search<'a> {
     pub(crate) firsts: Vec<Option<First>>,
     /// The entries that may jump to contexts whose names are unknown.
     pub(crate) computed: Marks,
+    /// The entries of which nothing is known of what they do. The search does not follow them.
+    pub(crate) unknown: Marks,
     /// Whether a name has more bytes than before.
     pub(crate) has_grown: bool,
     /// The number of routes that were gone through.
@@ -101,6 +101,7 @@ impl<'a> Search<'a> {
         let marks = Marks::none(alloc, plan)?;
         let firsts = no_firsts(alloc, plan)?;
         let computed = Marks::none(alloc, plan)?;
+        let unknown = Marks::none(alloc, plan)?;
         Ok(Search {
             plan,
             ways,
@@ -110,14 +111,15 @@ impl<'a> Search<'a> {
             marks,
             firsts,
             computed,
+            unknown,
             has_grown: false,
             taken: 0,
             stale: 0,
         })
     }
 
-    /// The bytes that names may have, and the areas.
-    pub(crate) fn into_parts(self) -> (NameTable, Reach) {
+    /// The bytes that names may have, the areas, and the entries of which nothing is known.
+    pub(crate) fn into_parts(self) -> (NameTable, Reach, Marks) {
         let Search {
             plan: _,
             ways: _,
@@ -127,11 +129,12 @@ impl<'a> Search<'a> {
             marks: _,
             firsts: _,
             computed: _,
+            unknown,
             has_grown: _,
             taken: _,
             stale: _,
         } = self;
-        (names, reach)
+        (names, reach, unknown)
     }
 
     /// Any bytes of the shapes of a context and of this one.
@@ -279,7 +282,14 @@ impl<'a> Search<'a> {
         }
     }
 
-    /// Does what a duty asks for.
+    /// Records that nothing is known of what the entry does that jumps, if an entry does.
+    fn note_unknown(&mut self, cause: Cause) {
+        if let Cause::Jump(_, entry) = cause {
+            self.unknown.mark(entry);
+        }
+    }
+
+    /// Does what a duty asks for. What may do anything is only recorded: no proof is found then.
     fn meet(&mut self, alloc: Global, duty: &Duty, cause: Cause) -> Result<(), NoMemory> {
         match duty {
             Duty::Leads(area) => self.lead(alloc, &area.context, &area.exten, cause),
@@ -293,6 +303,10 @@ impl<'a> Search<'a> {
                 Ok(())
             }
             Duty::Waits => self.lead_out(alloc, cause),
+            Duty::Anything => {
+                self.note_unknown(cause);
+                Ok(())
+            }
         }
     }
 
@@ -305,7 +319,7 @@ impl<'a> Search<'a> {
     }
 
     /// The duties of an entry that is found in an area.
-    pub(crate) fn duties_of(
+    pub(crate) fn duties_of<T: DutyTable>(
         &self,
         alloc: Global,
         entry: &Entry,
@@ -316,7 +330,7 @@ impl<'a> Search<'a> {
             context: &area.context,
             exten: &area.exten,
         };
-        owed(
+        T::owed(
             alloc,
             &names,
             area,
@@ -336,20 +350,25 @@ impl<'a> Search<'a> {
     }
 
     /// Goes through an entry that is found at places of an area, given how its duties came up.
-    fn take_entry(
+    fn take_entry<T: DutyTable>(
         &mut self,
         alloc: Global,
         cause: Cause,
         entry: &Entry,
         met: &Area,
     ) -> Result<(), NoMemory> {
-        let duties = self.duties_of(alloc, entry, met)?;
+        let duties = self.duties_of::<T>(alloc, entry, met)?;
         self.meet_all(alloc, &duties, cause)
     }
 
     /// Goes through the entries of a context that is searched from an area. In a later round those whose arguments have no group have no
     /// new duties.
-    fn take_context(&mut self, alloc: Global, seen: &Seen, number: usize) -> Result<(), NoMemory> {
+    fn take_context<T: DutyTable>(
+        &mut self,
+        alloc: Global,
+        seen: &Seen,
+        number: usize,
+    ) -> Result<(), NoMemory> {
         let plan = self.plan;
         let Some(context) = plan.contexts().get(number) else {
             return Ok(());
@@ -370,7 +389,7 @@ impl<'a> Search<'a> {
                     entry: place,
                 };
                 self.note(seen.route, id);
-                self.take_entry(alloc, Cause::Jump(seen.route, id), entry, met)?;
+                self.take_entry::<T>(alloc, Cause::Jump(seen.route, id), entry, met)?;
             }
             before = Some(meeting);
         }
@@ -398,7 +417,7 @@ impl<'a> Search<'a> {
     }
 
     /// Goes through the area of a route.
-    fn take_route(
+    fn take_route<T: DutyTable>(
         &mut self,
         alloc: Global,
         order: &mut TurnedOrders<'_>,
@@ -427,13 +446,13 @@ impl<'a> Search<'a> {
         self.take_area(alloc, &seen)?;
         order.fill(context.name());
         for searched in order.contexts() {
-            self.take_context(alloc, &seen, *searched)?;
+            self.take_context::<T>(alloc, &seen, *searched)?;
         }
         Ok(())
     }
 
     /// Lets the name of each global have the bytes of its value. If a name gets more bytes by that, all routes have to be gone through.
-    fn take_globals(&mut self, alloc: Global) -> Result<(), NoMemory> {
+    fn take_globals<T: DutyTable>(&mut self, alloc: Global) -> Result<(), NoMemory> {
         let plan = self.plan;
         self.has_grown = false;
         for global in plan.globals() {
@@ -442,8 +461,8 @@ impl<'a> Search<'a> {
                 context: &[],
                 exten: &[],
             };
-            let pieces = read_pieces(alloc, &names, global.value.bytes())?;
-            self.hold(alloc, global.name.bytes(), &bytes_of(&pieces))?;
+            let set = T::expanded_bytes(alloc, &names, global.value.bytes())?;
+            self.hold(alloc, global.name.bytes(), &set)?;
         }
         if self.has_grown {
             self.stale = MOST_AREAS;
@@ -453,7 +472,7 @@ impl<'a> Search<'a> {
 
     /// Goes once through each area, including areas that it finds on the way, except for those that it has gone through since a name got
     /// more bytes: these lead to nothing new. It returns whether there are not too many.
-    fn take_routes(
+    fn take_routes<T: DutyTable>(
         &mut self,
         alloc: Global,
         order: &mut TurnedOrders<'_>,
@@ -468,7 +487,7 @@ impl<'a> Search<'a> {
                 continue;
             }
             self.has_grown = false;
-            self.take_route(alloc, order, route, is_again)?;
+            self.take_route::<T>(alloc, order, route, is_again)?;
             if self.has_grown {
                 stale = route + 1;
                 self.stale = MOST_AREAS;
@@ -480,12 +499,12 @@ impl<'a> Search<'a> {
     }
 
     /// Continues until nothing more is found. It returns whether that happened within the limits.
-    pub(crate) fn go(&mut self, alloc: Global) -> Result<bool, NoMemory> {
+    pub(crate) fn go<T: DutyTable>(&mut self, alloc: Global) -> Result<bool, NoMemory> {
         let mut order = TurnedOrders::room(alloc, self.plan)?;
         for _ in 0..MOST_ROUNDS {
-            self.take_globals(alloc)?;
+            self.take_globals::<T>(alloc)?;
             let are_globals_held = !self.has_grown;
-            if !self.take_routes(alloc, &mut order)? {
+            if !self.take_routes::<T>(alloc, &mut order)? {
                 return Ok(false);
             }
             if are_globals_held && self.stale == 0 {

@@ -1,5 +1,6 @@
 //! The terms of a question: what may come in from outside, and where queues let a call out.
 ghost use Rattle.std.specs.Prelude.{◌≡◌, IfOk, map};
+ghost use Rattle.dp_app.specs.Rows.{with_functions};
 ghost use Rattle.dp_answer.specs.Asks.{ask_of};
 ghost use Rattle.dp_answer.specs.Steps.{AreTermsIfAny, IsFoundBy};
 
@@ -8,7 +9,7 @@ use crate::ask::Ask;
 use crate::asked::{is_lacking, outside_of};
 use crate::trails::Found;
 use crate::ways::ways_of;
-use dp_closed::Outside;
+use dp_closed::{DutyTable, Outside};
 use dp_conf::NoMemory;
 use dp_pieces::Piece;
 use dp_plan::Dialplan;
@@ -41,13 +42,13 @@ impl Terms {
     }
 
     /// Which entries a call that comes in at the context may run.
-    pub(crate) fn find<'a>(
+    pub(crate) fn find<'a, T: DutyTable>(
         &'a self,
         alloc: Global,
         plan: &'a Dialplan,
         context: &'a [u8],
     ) -> Result<Found<'a>, NoMemory>
-        ensures { IfOk result (λ found. IsFoundBy self.now plan.now context.now found) }
+        ensures { IfOk result (λ found. IsFoundBy (with_functions T.rows T.Functions.table) self.now plan.now context.now found) }
     {
         let question = OutsideQuestion {
             plan,
@@ -55,7 +56,7 @@ impl Terms {
             outside: &self.outside,
             context,
         };
-        let found = answer(alloc, question)?;
+        let found = answer::<T>(alloc, question)?;
         Ok(found)
     }
 }

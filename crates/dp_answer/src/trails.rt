@@ -6,11 +6,9 @@ use crate::chain::push_chain;
 use crate::jumps::jumps_to;
 use crate::search::{First, Search};
 use crate::text::{context_name, example, push_entry, push_number};
-use dp_app::AppTable;
-use dp_closed::{Marks, found_shape};
+use dp_closed::{DutyTable, Marks, found_shape};
 use dp_conf::NoMemory;
 use dp_plan::{Dialplan, Entry, EntryId};
-use dp_table::StandardApps;
 use std::alloc::Global;
 
 /// For each context how a call gets there, and the text after the answer.
@@ -164,7 +162,7 @@ fn push_marked(
 }
 
 /// Adds the line of each entry of a context that a call may run and whose application the table lacks.
-fn push_lacking_of(
+fn push_lacking_of<T: DutyTable>(
     out: &mut Vec<u8>,
     found: &Found<'_>,
     context: usize,
@@ -175,7 +173,7 @@ fn push_lacking_of(
             context,
             entry: number,
         };
-        if found.has(id) && StandardApps::number_of(entry.application.bytes()).is_none() {
+        if found.has(id) && T::number_of(entry.application.bytes()).is_none() {
             push_line(out, b"no such application: ", found.plan(), id)?;
         }
     }
@@ -183,10 +181,10 @@ fn push_lacking_of(
 }
 
 /// Adds the line of each entry that a call may run and whose application the table lacks, and that nothing is claimed of these.
-fn push_lacking(out: &mut Vec<u8>, found: &Found<'_>) -> Result<(), NoMemory> {
+fn push_lacking<T: DutyTable>(out: &mut Vec<u8>, found: &Found<'_>) -> Result<(), NoMemory> {
     let before = out.len();
     for (number, context) in found.plan().contexts().iter().enumerate() {
-        push_lacking_of(out, found, number, context.entries())?;
+        push_lacking_of::<T>(out, found, number, context.entries())?;
     }
     if out.len() > before {
         out.extend_from_slice(
@@ -196,8 +194,9 @@ fn push_lacking(out: &mut Vec<u8>, found: &Found<'_>) -> Result<(), NoMemory> {
     Ok(())
 }
 
-/// Adds what an engineer may have to fix: jumps to an unknown context, and applications that the table lacks.
-fn push_remarks(out: &mut Vec<u8>, found: &Found<'_>) -> Result<(), NoMemory> {
+/// Adds what an engineer may have to fix: jumps to an unknown context, entries of which nothing is known, and applications that the table
+/// lacks.
+fn push_remarks<T: DutyTable>(out: &mut Vec<u8>, found: &Found<'_>) -> Result<(), NoMemory> {
     let search = &found.search;
     push_marked(
         out,
@@ -205,14 +204,18 @@ fn push_remarks(out: &mut Vec<u8>, found: &Found<'_>) -> Result<(), NoMemory> {
         &search.computed,
         b"may lead to any context: ",
     )?;
-    push_lacking(out, found)
+    push_marked(out, search.plan, &search.unknown, b"may do anything: ")?;
+    push_lacking::<T>(out, found)
 }
 
 /// The further text on all entries that a call may run.
-pub(crate) fn told_of_all(alloc: Global, found: &Found<'_>) -> Result<Trails, NoMemory> {
+pub(crate) fn told_of_all<T: DutyTable>(
+    alloc: Global,
+    found: &Found<'_>,
+) -> Result<Trails, NoMemory> {
     let chains = chains_of(alloc, &found.search)?;
     let mut tail = Vec::new(alloc);
-    push_remarks(&mut tail, found)?;
+    push_remarks::<T>(&mut tail, found)?;
     push_counts(&mut tail, found)?;
     Ok(Trails { chains, tail })
 }
@@ -244,13 +247,13 @@ fn push_example(
 }
 
 /// Adds every jump that lets a call in to the context with a number, if there is one.
-fn push_jumps(
+fn push_jumps<T: DutyTable>(
     alloc: Global,
     out: &mut Vec<u8>,
     search: &Search<'_>,
     target: usize,
 ) -> Result<(), NoMemory> {
-    let jumps = jumps_to(alloc, search, target)?;
+    let jumps = jumps_to::<T>(alloc, search, target)?;
     let mut lines = Vec::new(alloc);
     push_marked(&mut lines, search.plan, &jumps, b"  ")?;
     if lines.is_empty() {
@@ -262,7 +265,7 @@ fn push_jumps(
 }
 
 /// Adds the entry that a call may run first, how it gets there, and every jump that lets a call in.
-fn push_way(
+fn push_way<T: DutyTable>(
     alloc: Global,
     out: &mut Vec<u8>,
     search: &Search<'_>,
@@ -272,18 +275,18 @@ fn push_way(
     push_example(alloc, out, search, first)?;
     out.push(b'\n')?;
     push_chain(alloc, out, search, first.route)?;
-    push_jumps(alloc, out, search, first.entry.context)
+    push_jumps::<T>(alloc, out, search, first.entry.context)
 }
 
 /// Adds how a call gets to the context with this number, if it may; if nothing is proved, the context's name.
-fn push_reached(
+fn push_reached<T: DutyTable>(
     alloc: Global,
     out: &mut Vec<u8>,
     found: &Found<'_>,
     target: usize,
 ) -> Result<(), NoMemory> {
     if let Some(Some(first)) = found.search.firsts.get(target) {
-        return push_way(alloc, out, &found.search, *first);
+        return push_way::<T>(alloc, out, &found.search, *first);
     }
     if !found.is_proved {
         out.extend_from_slice(context_name(found.plan(), target))?;
@@ -293,15 +296,15 @@ fn push_reached(
 }
 
 /// The further text on a context that a call may or may not reach.
-pub(crate) fn told_of_target(
+pub(crate) fn told_of_target<T: DutyTable>(
     alloc: Global,
     found: &Found<'_>,
     target: Option<usize>,
 ) -> Result<Vec<u8>, NoMemory> {
     let mut tail = Vec::new(alloc);
     if let Some(target) = target {
-        push_reached(alloc, &mut tail, found, target)?;
+        push_reached::<T>(alloc, &mut tail, found, target)?;
     }
-    push_remarks(&mut tail, found)?;
+    push_remarks::<T>(&mut tail, found)?;
     Ok(tail)
 }

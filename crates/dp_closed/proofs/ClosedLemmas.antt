@@ -19,10 +19,10 @@ use Rattle.dp_plan.specs.Plan.{PlanOf}
 use Rattle.dp_plan.specs.declared.entry.Entry.{Entry}
 use Rattle.dp_plan.specs.declared.entry.EntryId.{EntryId}
 use Rattle.dp_reach.specs.Areas.{Area, area_at, area_matched}
+use Rattle.dp_reach.specs.Bounds.{Obligations}
 use Rattle.dp_reach.specs.Closed.{IsEntry}
 use Rattle.dp_reach.specs.Finding.{MayFind}
 use Rattle.dp_reach.specs.Holding.{Claim}
-use Rattle.dp_reach.specs.Standard.{standard_duties}
 use Rattle.dp_closed.specs.Found.{IsUnfound}
 use Rattle.dp_closed.specs.Reach.{areas_in, shapes_at}
 use Rattle.dp_closed.specs.Steps.{IsEntryIn}
@@ -52,13 +52,13 @@ unfound plan context exten id entry other entries there are none may = by (slice
         (subst (λ e. MayFind plan (area_at context exten) id e) same may)
 
 -- an entry that is found, from what is known of its match
-pub found-entry : (claim : Claim) (answers : EntryId → Bool) (area met : Area) (id : EntryId) (entry : Entry) → entry_at claim.plan id ≡ Some entry
-    → met ≡ area_matched area entry.name → IsEntry standard_duties claim answers met id entry → IsEntryIn claim answers area id
-found-entry claim answers area met id entry there is closed other may =
+pub found-entry : (owing : Obligations) (claim : Claim) (answers : EntryId → Bool) (area met : Area) (id : EntryId) (entry : Entry) → entry_at claim.plan id ≡ Some entry
+    → met ≡ area_matched area entry.name → IsEntry owing claim answers met id entry → IsEntryIn owing claim answers area id
+found-entry owing claim answers area met id entry there is closed other may =
     let found : entry_at claim.plan id ≡ Some other = may.there in
     let same : entry ≡ other = cc in
-    subst (λ (e : Entry). IsEntry standard_duties claim answers (area_matched area e.name) id e) same
-    (subst (λ (a : Area). IsEntry standard_duties claim answers a id entry) is closed)
+    subst (λ (e : Entry). IsEntry owing claim answers (area_matched area e.name) id e) same
+    (subst (λ (a : Area). IsEntry owing claim answers a id entry) is closed)
 
 -- after the entries of a context there is none
 pub past-entries : (plan : PlanOf) (number entry : ℕ) → length (entries_in plan number) ≤ entry → entry_at plan (record { context = number; entry = entry }) ≡ None
@@ -80,8 +80,8 @@ there-in plan number place entry entries are within here =
     by (Some c) is = is
 
 -- each entry of the context with a number is closed
-abbrev pub AreEntriesIn : Claim → (EntryId → Bool) → Area → ℕ → Type 0
-AreEntriesIn claim answers area number = (entry : ℕ) → IsEntryIn claim answers area (record { context = number; entry = entry })
+abbrev pub AreEntriesIn : Obligations → Claim → (EntryId → Bool) → Area → ℕ → Type 0
+AreEntriesIn owing claim answers area number = (entry : ℕ) → IsEntryIn owing claim answers area (record { context = number; entry = entry })
 
 -- it holds of each of these numbers
 abbrev pub HoldsOfEach : (ℕ → Type 0) → List ℕ → Type 0
@@ -114,11 +114,11 @@ below-more P n below here k less = by (cases_lt k n)
     by (inr past) = let same : n ≡ k = omega (arith, less, past) in subst P same here
 
 -- each entry of the context with a number is closed if those below a number are, and there are no more
-pub none-behind : (claim : Claim) (answers : EntryId → Bool) (area : Area) (number count : ℕ) → length (entries_in claim.plan number) ≤ count
-    → ((k : ℕ) → k < count → IsEntryIn claim answers area (record { context = number; entry = k })) → AreEntriesIn claim answers area number
-none-behind claim answers area number count all below k = by (cases_lt k count)
+pub none-behind : (owing : Obligations) (claim : Claim) (answers : EntryId → Bool) (area : Area) (number count : ℕ) → length (entries_in claim.plan number) ≤ count
+    → ((k : ℕ) → k < count → IsEntryIn owing claim answers area (record { context = number; entry = k })) → AreEntriesIn owing claim answers area number
+none-behind owing claim answers area number count all below k = by (cases_lt k count)
   where
-    by : (k < count) ⊎ (count ≤ k) → IsEntryIn claim answers area (record { context = number; entry = k })
+    by : (k < count) ⊎ (count ≤ k) → IsEntryIn owing claim answers area (record { context = number; entry = k })
     by (inl less) = below k less
     by (inr past) = λ entry may.
         absurd (not-there claim.plan area (record { context = number; entry = k }) entry (past-entries claim.plan number k (omega (arith, all, past))) may)

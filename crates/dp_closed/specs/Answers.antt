@@ -30,4 +30,9 @@ answers_in (Some marks) id = is_marked marks id
 
 -- everything that may come in, as sets and names
 abbrev pub shown_outside : KeptOutside → Outside
-shown_outside outside = record { exten = set_by outside.exten; caller = set_by outside.caller; contexts = map (λ name. name.items) outside.contexts.items }
+shown_outside outside = record {
+  exten = set_by outside.exten;
+  caller = set_by outside.caller;
+  facts = set_by outside.facts;
+  contexts = map (λ name. name.items) outside.contexts.items;
+}

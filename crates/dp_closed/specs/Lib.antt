@@ -1,6 +1,7 @@
 pub mod Answers
 pub mod Claimed
 pub mod Found
+pub mod Owed
 pub mod Reach
 pub mod Rows
 pub mod Shown

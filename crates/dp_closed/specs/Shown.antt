@@ -2,7 +2,7 @@
 use Rattle.std.specs.Prelude.{List, map}
 use Rattle.dp_closed.specs.declared.area.Area as rust_area
 use Rattle.dp_closed.specs.declared.duty.Duty as rust
-use Rattle.dp_closed.specs.declared.duty.Duty.TheVariants.{Leads, Holds, HoldsAll, Calls, Waits}
+use Rattle.dp_closed.specs.declared.duty.Duty.TheVariants.{Leads, Holds, HoldsAll, Calls, Waits, Anything}
 use Rattle.dp_pieces.specs.Sets.{set_by}
 use Rattle.dp_pieces.specs.Shown.{shown_all}
 use Rattle.dp_reach.specs.Areas.{Area, area_at}
@@ -19,6 +19,7 @@ shown_duty (Holds name set) = spec.Holds name.items (set_by set)
 shown_duty (HoldsAll set) = spec.HoldsAll (set_by set)
 shown_duty (Calls set) = spec.Calls (set_by set)
 shown_duty Waits = spec.Waits
+shown_duty Anything = spec.Anything
 
 -- a list of duties
 abbrev pub shown_duties : List rust.Duty → List spec.Duty

@@ -15,20 +15,17 @@ use Rattle.dp_pieces.specs.Bytes.{IsPart, Within, digits}
 use Rattle.dp_pieces.specs.Names.{Names}
 use Rattle.dp_pieces.specs.Pieces as spec
 use Rattle.dp_pieces.specs.Shown.{shown_all}
-use Rattle.dp_pieces.specs.Sets.{set_by}
 use Rattle.dp_pieces.specs.Tables.{names_in}
-use Rattle.dp_pieces.specs.Texts.{text_set}
 use Rattle.dp_pieces.specs.declared.piece.Piece.{Piece}
 use Rattle.dp_plan.specs.declared.entry.Entry.{Entry}
 use Rattle.dp_plan.specs.declared.entry.EntryId.{EntryId}
 use Rattle.dp_queue.specs.declared.settings.Settings.{Settings}
-use Rattle.dp_plan.specs.declared.plan.GlobalVariable.{GlobalVariable}
 use Rattle.dp_reach.specs.Areas.{Area, Includes, area_at, area_matched}
-use Rattle.dp_reach.specs.Audits.{entrance, names_outside}
+use Rattle.dp_reach.specs.Audits.{IsGlobalWithin, Outside, entrance}
+use Rattle.dp_reach.specs.Bounds.{Obligations}
 use Rattle.dp_reach.specs.Closed.{IsAreaClosed, IsEntry}
 use Rattle.dp_reach.specs.Finding.{MayFind}
 use Rattle.dp_reach.specs.Holding.{Claim}
-use Rattle.dp_reach.specs.Standard.{standard_duties}
 
 -- the shapes as a list
 abbrev pub shown_shapes : Shapes → List (List spec.Piece)
@@ -60,13 +57,13 @@ abbrev pub Closes : Checker → (Claim → (EntryId → Bool) → Type 0) → Ty
 Closes checker holds = (settings : List Settings) → AreWays settings checker.claim.ways.now → holds (kept_claim checker.claim settings) (answers_of checker)
 
 -- an entry is closed if it may be found from the area
-abbrev pub IsEntryIn : Claim → (EntryId → Bool) → Area → EntryId → Type 0
-IsEntryIn claim answers area id = (entry : Entry) → MayFind claim.plan area id entry → IsEntry standard_duties claim answers (area_matched area entry.name) id entry
+abbrev pub IsEntryIn : Obligations → Claim → (EntryId → Bool) → Area → EntryId → Type 0
+IsEntryIn owing claim answers area id = (entry : Entry) → MayFind claim.plan area id entry → IsEntry owing claim answers (area_matched area entry.name) id entry
 
 -- each area with the name of a context and one of these shapes is closed
-abbrev pub AreShapesClosed : Checker → List ℕ → List (Vec Piece) → Type 0
-AreShapesClosed checker name shapes = AllByRecursion
-    (λ shape. Closes checker (λ claim answers. IsAreaClosed standard_duties claim answers (area_at (spec.exactly name) (shown_all shape.items)))) shapes
+abbrev pub AreShapesClosed : Obligations → Checker → List ℕ → List (Vec Piece) → Type 0
+AreShapesClosed owing checker name shapes = AllByRecursion
+    (λ shape. Closes checker (λ claim answers. IsAreaClosed owing claim answers (area_at (spec.exactly name) (shown_all shape.items)))) shapes
 
 -- the names have what the machine gives to each channel
 pub record IsSelfNamed (names : Names) : Type 0 where
@@ -86,15 +83,17 @@ pub record IsDialNamed (names : Names) : Type 0 where
   pub unanswered : Within (names.bytes (codes "DIALSTATUS")) (codes "NOANSWER")
   pub cancelled : Within (names.bytes (codes "DIALSTATUS")) (codes "CANCEL")
 
--- the name of a global may have the bytes of its value
-abbrev pub IsGlobalHeld : Names → GlobalVariable → Type 0
-IsGlobalHeld names variable = IsPart (text_set (names_outside names) variable.value) (names.bytes variable.name)
+-- the names may have the numbers of callers, and they and the caller's number may have what is set from outside
+pub record AreFactsHeld (outside : Outside) (names : Names) : Type 0 where
+  pub caller : IsPart outside.caller names.caller
+  pub facts : (name : List ℕ) → IsPart outside.facts (names.bytes name)
+  pub stated : IsPart outside.facts names.caller
 
--- calls come in within their reach, and the names may have their numbers and the values of globals
-pub record IsEntered (audit : Audit) : Type 0 where
+-- calls come in within their reach, and the names may have their numbers, what is set from outside and the values of globals
+pub record IsEntered (owing : Obligations) (audit : Audit) : Type 0 where
   pub calls : AllByRecursion (λ name. Includes audit.wide.plan.now (areas_in audit.wide.plan.now.contexts audit.wide.reach.now.shapes.items)
       (entrance (shown_outside audit.outside.now) name)) (shown_outside audit.outside.now).contexts
   pub call : Includes audit.wide.plan.now (areas_in audit.wide.plan.now.contexts audit.reach.now.shapes.items)
       (entrance (shown_outside audit.outside.now) audit.context.now)
-  pub caller : IsPart (set_by audit.outside.now.caller) (names_in audit.wide.names.now).caller
-  pub globals : AllByRecursion (IsGlobalHeld (names_in audit.wide.names.now)) audit.wide.plan.now.globals
+  pub held : AreFactsHeld (shown_outside audit.outside.now) (names_in audit.wide.names.now)
+  pub globals : AllByRecursion (IsGlobalWithin owing (names_in audit.wide.names.now)) audit.wide.plan.now.globals

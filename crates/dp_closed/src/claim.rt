@@ -57,7 +57,7 @@ impl Claim<'_> {
         Ok(true)
     }
 
-    /// Whether the duty is seen to be met. It fails only if memory runs out.
+    /// Whether the duty is seen to be met; if it is anything, it is not. It fails only if memory runs out.
     pub fn meets(self, alloc: Global, duty: &Duty) -> Result<bool, NoMemory>
         ensures { IfOk result (λ yes. IsTrue yes → (settings : List Settings) → AreWays settings self.entry.ways.now
             → Meets (kept_claim self.entry settings) (shown_duty duty.now)) }
@@ -70,6 +70,7 @@ impl Claim<'_> {
             Duty::HoldsAll(set) => Ok(self.names.has_everywhere(set)),
             Duty::Calls(set) => Ok(set.is_part(self.names.caller())),
             Duty::Waits => self.has_ways(alloc),
+            Duty::Anything => Ok(false),
         }
     }
 

@@ -16,14 +16,14 @@ ghost use Rattle.dp_plan.specs.declared.entry.EntryId.{EntryId};
 ghost use Rattle.dp_queue.specs.declared.settings.Settings.{Settings};
 ghost use Rattle.dp_reach.specs.Areas as areas;
 ghost use Rattle.dp_reach.specs.Areas.{Includes, area_at};
+ghost use Rattle.dp_reach.specs.Bounds.{obligations};
 ghost use Rattle.dp_reach.specs.Closed.{IsAreaClosed, IsClosed, IsEntry};
-ghost use Rattle.dp_reach.specs.Standard.{standard_duties};
 
 use crate::area::Area;
 use crate::claim::Claim;
+use crate::duty_table::DutyTable;
 use crate::finding::{Meeting, is_excluded};
 use crate::marks::Marks;
-use crate::rows::owed;
 use dp_conf::{NoMemory, Text};
 use dp_lookup::SearchOrder;
 use dp_pieces::{NamesAt, Piece};
@@ -79,11 +79,16 @@ impl Claim<'_> {
             .includes(alloc, self.plan, context, &[Piece::Known(letter)])
     }
 
-    /// Whether the claim is seen to be closed, with the entries in the answer: the marked ones, or all without marks. It fails only if
-    /// memory runs out.
-    pub fn is_closed(self, alloc: Global, answers: Option<&Marks>) -> Result<bool, NoMemory>
+    /// Whether the claim is seen to be closed over the table, with the entries in the answer: the marked ones, or all without marks. It
+    /// fails only if memory runs out.
+    pub fn is_closed<T: DutyTable>(
+        self,
+        alloc: Global,
+        answers: Option<&Marks>,
+    ) -> Result<bool, NoMemory>
         ensures { IfOk result (λ yes. IsTrue yes → (settings : List Settings) → AreWays settings self.entry.ways.now
-            → IsClosed standard_duties (kept_claim self.entry settings) (answers_in (option_map (λ marks. marks.now) answers.entry))) }
+            → IsClosed (obligations T.Functions.table T.duties) (kept_claim self.entry settings)
+            (answers_in (option_map (λ marks. marks.now) answers.entry))) }
     {
         if !self.is_named() {
             return Ok(false);
@@ -92,7 +97,7 @@ impl Claim<'_> {
             claim: self,
             answers,
         };
-        checker.has_contexts(alloc)
+        checker.has_contexts::<T>(alloc)
     }
 }
 
@@ -108,7 +113,7 @@ impl Checker<'_> {
     }
 
     /// Whether an entry that runs in the area is in the answer, and all its duties are met.
-    fn has_met(
+    fn has_met<T: DutyTable>(
         self,
         alloc: Global,
         area: &Area,
@@ -116,7 +121,8 @@ impl Checker<'_> {
         entry: &Entry,
     ) -> Result<bool, NoMemory>
         ensures { IfOk result (λ yes. IsTrue yes
-            → Closes self.entry (λ claim answers. IsEntry standard_duties claim answers (shown_area area.now) id entry.now)) }
+            → Closes self.entry (λ claim answers.
+            IsEntry (obligations T.Functions.table T.duties) claim answers (shown_area area.now) id entry.now)) }
     {
         if !self.is_answered(id) {
             return Ok(false);
@@ -126,7 +132,7 @@ impl Checker<'_> {
             context: &area.context,
             exten: &area.exten,
         };
-        let owed = owed(
+        let owed = T::owed(
             alloc,
             &names,
             area,
@@ -137,7 +143,7 @@ impl Checker<'_> {
     }
 
     /// Whether an entry is seen to be closed, if it may be found from the area that met its name.
-    fn has_entry(
+    fn has_entry<T: DutyTable>(
         self,
         alloc: Global,
         meeting: &Meeting<'_>,
@@ -146,19 +152,25 @@ impl Checker<'_> {
     ) -> Result<bool, NoMemory>
         ensures { IfOk result (λ yes. IsTrue yes → entry_at self.entry.claim.plan.now id ≡ Some entry.now
             → (area : areas.Area) → IsMeeting area meeting.now → entry.now.name ≡ meeting.now.name.now
-            → Closes self.entry (λ claim answers. IsEntryIn claim answers area id)) }
+            → Closes self.entry (λ claim answers. IsEntryIn (obligations T.Functions.table T.duties) claim answers area id)) }
     {
         let entries = entries_at(self.claim.plan, id.context);
         let Some(met) = meeting.found(entries, entry) else {
             return Ok(true);
         };
-        self.has_met(alloc, met, id, entry)
+        self.has_met::<T>(alloc, met, id, entry)
     }
 
     /// The same for each entry of the context with a number.
-    fn has_entries(self, alloc: Global, area: &Area, number: usize) -> Result<bool, NoMemory>
+    fn has_entries<T: DutyTable>(
+        self,
+        alloc: Global,
+        area: &Area,
+        number: usize,
+    ) -> Result<bool, NoMemory>
         ensures { IfOk result (λ yes. IsTrue yes → Closes self.entry (λ claim answers. (entry : ℕ)
-            → IsEntryIn claim answers (shown_area area.now) (record { context = number; entry = entry }))) }
+            → IsEntryIn (obligations T.Functions.table T.duties) claim answers (shown_area area.now)
+            (record { context = number; entry = entry }))) }
     {
         let entries = entries_at(self.claim.plan, number);
         let mut before = None;
@@ -171,7 +183,7 @@ impl Checker<'_> {
                 context: number,
                 entry: place,
             };
-            if !self.has_entry(alloc, &meeting, id, entry)? {
+            if !self.has_entry::<T>(alloc, &meeting, id, entry)? {
                 return Ok(false);
             }
             before = Some(meeting);
@@ -180,12 +192,17 @@ impl Checker<'_> {
     }
 
     /// The same for each entry of the contexts in a search order.
-    fn has_order(self, alloc: Global, area: &Area, order: &[usize]) -> Result<bool, NoMemory>
+    fn has_order<T: DutyTable>(
+        self,
+        alloc: Global,
+        area: &Area,
+        order: &[usize],
+    ) -> Result<bool, NoMemory>
         ensures { IfOk result (λ yes. IsTrue yes → Closes self.entry (λ claim answers. (id : EntryId)
-            → has order.now id.context ≡ true → IsEntryIn claim answers (shown_area area.now) id)) }
+            → has order.now id.context ≡ true → IsEntryIn (obligations T.Functions.table T.duties) claim answers (shown_area area.now) id)) }
     {
         for number in order {
-            if !self.has_entries(alloc, area, *number)? {
+            if !self.has_entries::<T>(alloc, area, *number)? {
                 return Ok(false);
             }
         }
@@ -193,10 +210,15 @@ impl Checker<'_> {
     }
 
     /// Whether an area is seen to be closed, given the search order of its context.
-    fn has_area(self, alloc: Global, area: &Area, order: &[usize]) -> Result<bool, NoMemory>
+    fn has_area<T: DutyTable>(
+        self,
+        alloc: Global,
+        area: &Area,
+        order: &[usize],
+    ) -> Result<bool, NoMemory>
         ensures { IfOk result (λ yes. IsTrue yes → (name : List ℕ) → shown_all area.now.context.items ≡ exactly name
             → order.now ≡ search_order self.entry.claim.plan.now name
-            → Closes self.entry (λ claim answers. IsAreaClosed standard_duties claim answers (shown_area area.now))) }
+            → Closes self.entry (λ claim answers. IsAreaClosed (obligations T.Functions.table T.duties) claim answers (shown_area area.now))) }
     {
         if !self.claim.is_area_named(&area.context, &area.exten) {
             return Ok(false);
@@ -207,11 +229,11 @@ impl Checker<'_> {
         if !self.claim.has_letter(alloc, &area.context, b'i')? {
             return Ok(false);
         }
-        self.has_order(alloc, area, order)
+        self.has_order::<T>(alloc, area, order)
     }
 
     /// The same for each area of the context with a name and of these shapes.
-    fn has_shapes(
+    fn has_shapes<T: DutyTable>(
         self,
         alloc: Global,
         name: &Text,
@@ -219,11 +241,11 @@ impl Checker<'_> {
         shapes: &[Vec<Piece>],
     ) -> Result<bool, NoMemory>
         ensures { IfOk result (λ yes. IsTrue yes → order.now ≡ search_order self.entry.claim.plan.now name.now
-            → AreShapesClosed self.entry name.now shapes.now) }
+            → AreShapesClosed (obligations T.Functions.table T.duties) self.entry name.now shapes.now) }
     {
         for shape in shapes {
             let area = area_in(alloc, name.bytes(), shape)?;
-            if !self.has_area(alloc, &area, order)? {
+            if !self.has_area::<T>(alloc, &area, order)? {
                 return Ok(false);
             }
         }
@@ -231,7 +253,7 @@ impl Checker<'_> {
     }
 
     /// The same for each area of the reach in the context with a number and a name. The order has room for every context.
-    fn has_areas(
+    fn has_areas<T: DutyTable>(
         self,
         alloc: Global,
         number: usize,
@@ -241,21 +263,23 @@ impl Checker<'_> {
         requires { context_count self.claim.plan.now ≤ order.old.room }
         ensures room { order.new.room ≡ order.old.room }
         ensures closed { IfOk result (λ yes. IsTrue yes
-            → AreShapesClosed self.entry name.now (shapes_at self.entry.claim.reach.now.shapes.items number)) }
+            → AreShapesClosed (obligations T.Functions.table T.duties) self.entry name.now
+            (shapes_at self.entry.claim.reach.now.shapes.items number)) }
     {
         order.fill(self.claim.plan, name);
         let shapes = self.claim.reach.shapes_at(number);
-        self.has_shapes(alloc, name, order.contexts(), shapes)
+        self.has_shapes::<T>(alloc, name, order.contexts(), shapes)
     }
 
     /// The same for each area of the reach.
-    fn has_contexts(self, alloc: Global) -> Result<bool, NoMemory>
-        ensures { IfOk result (λ yes. IsTrue yes → Closes self.entry (λ claim answers. AllByRecursion (IsAreaClosed standard_duties claim answers) claim.reach)) }
+    fn has_contexts<T: DutyTable>(self, alloc: Global) -> Result<bool, NoMemory>
+        ensures { IfOk result (λ yes. IsTrue yes → Closes self.entry (λ claim answers.
+            AllByRecursion (IsAreaClosed (obligations T.Functions.table T.duties) claim answers) claim.reach)) }
     {
         let plan = self.claim.plan;
         let mut order = SearchOrder::room(alloc, plan)?;
         for (number, context) in plan.contexts().iter().enumerate() {
-            if !self.has_areas(alloc, number, context.name(), &mut order)? {
+            if !self.has_areas::<T>(alloc, number, context.name(), &mut order)? {
                 return Ok(false);
             }
         }

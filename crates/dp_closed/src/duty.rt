@@ -11,8 +11,8 @@ use dp_conf::NoMemory;
 use dp_pieces::{ByteSet, Piece};
 use std::alloc::Global;
 
-/// A duty of an application: that the reach has an area, that a name, each name, or the caller's number may have these bytes, or that a
-/// digit may lead out of each queue.
+/// A duty of an application: that the reach has an area, that a name, each name, or the caller's number may have these bytes, that a digit
+/// may lead out of each queue, or anything, which no claim meets: nothing is known of what the application does.
 #[derive(Drop)]
 pub enum Duty {
     Leads(Area),
@@ -20,6 +20,7 @@ pub enum Duty {
     HoldsAll(ByteSet),
     Calls(ByteSet),
     Waits,
+    Anything,
 }
 
 /// Adds that the reach has the area of these shapes.

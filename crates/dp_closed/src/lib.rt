@@ -1,4 +1,4 @@
-//! The duties of each application, given the pieces of its arguments, and whether a claim about where channels may be is closed.
+//! The duties of each application, over any table that says them, and whether a claim about where channels may be is closed.
 #![tactic(auto)]
 
 mod area;
@@ -6,6 +6,7 @@ mod audit;
 mod claim;
 mod closed;
 mod duty;
+mod duty_table;
 mod finding;
 mod marks;
 mod named;
@@ -15,6 +16,7 @@ mod rows;
 mod sets;
 mod settings;
 mod shapes;
+mod standard;
 mod subroutines;
 mod targets;
 mod waiting;
@@ -23,6 +25,7 @@ pub use area::Area;
 pub use audit::Audit;
 pub use claim::Claim;
 pub use duty::Duty;
+pub use duty_table::DutyTable;
 pub use finding::{Meeting, found_shape, is_excluded};
 pub use marks::Marks;
 pub use outside::Outside;

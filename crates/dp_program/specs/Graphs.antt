@@ -11,6 +11,7 @@ use Rattle.dp_conf.specs.Fronts.{AppendsFront}
 use Rattle.dp_plan.specs.Plan.{PlanOf}
 use Rattle.dp_plan.specs.declared.entry.EntryId.{EntryId}
 use Rattle.dp_queue.specs.Queues.{QueueOf}
+use Rattle.dp_table.specs.Standard.{standard_meanings}
 use Rattle.dp_commands.specs.Run.{Files}
 use Rattle.dp_commands.specs.declared.fault.Code.TheVariants.{WriteFailed}
 use Rattle.dp_commands.specs.declared.fault.PbxFault.{PbxFault}
@@ -51,12 +52,12 @@ graph_text files filled = text_of (picture_of files.plan filled (exits_of files.
 
 -- the question about calls that come in at a context, whatever is dialled and wherever other calls come in
 abbrev pub ask_from : List ℕ → AskOf
-ask_from context = record { context = context; target = None; starts = None; exten = None; caller = None }
+ask_from context = record { context = context; target = None; starts = None; exten = None; caller = None; facts = None }
 
 -- the entries that such a call may run, each once
 pub record Fills (files : Files) (context : List ℕ) (filled : List EntryId) : Type 0 where
   pub entries : List EntryId
-  pub reached : AreReached files.plan (map (λ queue. queue.settings) files.queues.queues) (ask_from context) entries
+  pub reached : AreReached standard_meanings files.plan (map (λ queue. queue.settings) files.queues.queues) (ask_from context) entries
   pub once : filled ≡ insert_all same_id [] entries
 
 -- the entries that are filled, if a context is named

@@ -13,6 +13,7 @@ use Rattle.dp_commands.specs.Run.{Files}
 use Rattle.dp_commands.specs.declared.fault.Code.TheVariants.{WriteFailed}
 use Rattle.dp_commands.specs.declared.fault.PbxFault.{PbxFault}
 use Rattle.dp_commands.specs.declared.fault.PbxFault.TheVariants.{Coded, NoMemory}
+use Rattle.dp_table.specs.Standard.{standard_meanings}
 use Rattle.dp_program.specs.Files.{Source}
 use Rattle.dp_program.specs.Hints.{bare_line, is_bare, lacking, name_told}
 use Rattle.dp_program.specs.PlanAndQueues.{OnFiles}
@@ -34,7 +35,7 @@ hint_of file ask explains plan =
 
 -- the report on these files is correct, with these hints
 pub record IsAnswered (question : QuestionOf) (explains : Bool) (files : Files) (text : List ℕ) (status : ℕ) (hint : List ℕ) : Type 0 where
-  pub report : IsReport files.plan (map (λ queue. queue.settings) files.queues.queues) question.ask (record { text = text; status = status })
+  pub report : IsReport standard_meanings files.plan (map (λ queue. queue.settings) files.queues.queues) question.ask (record { text = text; status = status })
   pub told : hint ≡ hint_of question.file question.ask explains files.plan
 
 -- the whole of a correct report was written

@@ -1,5 +1,5 @@
 -- Requests, with the texts of their words.
-use Rattle.std.specs.Prelude.{ℕ, Bool, List, map, Option}
+use Rattle.std.specs.Prelude.{ℕ, Bool, List, map, None, Option}
 use Rattle.std.specs.Option.{option_map}
 use Rattle.dp_answer.specs.Asks.{AskOf}
 use Rattle.dp_program.specs.Texts.{OfRun, paths_of}
@@ -34,6 +34,7 @@ asked_in question = record {
   starts = option_map (λ word. word.now) question.starts;
   exten = option_map (λ word. word.now) question.exten;
   caller = option_map (λ word. word.now) question.caller;
+  facts = None;
 }
 
 abbrev pub question_of : ReachQuestion → QuestionOf

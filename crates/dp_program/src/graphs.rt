@@ -27,6 +27,7 @@ use dp_conf::WriteTold;
 use dp_graph::{GraphFault, QueueExit, write_graph};
 use dp_plan::{Dialplan, EntryId, NoMemory, Text};
 use dp_queue::Queue;
+use dp_table::StandardApps;
 use indexmap::IndexSet;
 use std::alloc::Global;
 
@@ -100,6 +101,7 @@ fn ask_from(context: &str) -> Ask<'_>
         starts: None,
         exten: None,
         caller: None,
+        facts: None,
     }
 }
 
@@ -107,7 +109,8 @@ fn ask_from(context: &str) -> Ask<'_>
 fn filled_from(alloc: Global, files: &Files, context: &str) -> Result<IndexSet<EntryId>, NoMemory>
     ensures { IfOk result (λ filled. spec.Fills (record { plan = files.now.plan; queues = files.now.queues }) context.now filled.keys) }
 {
-    let entries = reached_entries(alloc, &files.plan, &files.queues, &ask_from(context))?;
+    let ask = ask_from(context);
+    let entries = reached_entries::<StandardApps>(alloc, &files.plan, &files.queues, &ask)?;
     let mut filled = IndexSet::new(alloc);
     add_entries(&mut filled, &entries)?;
     Ok(filled)

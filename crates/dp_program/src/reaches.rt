@@ -21,6 +21,7 @@ use dp_answer::{Ask, Report, report_on};
 use dp_commands::{Files, PbxFault};
 use dp_conf::{WriteTold, split_args};
 use dp_plan::NoMemory;
+use dp_table::StandardApps;
 use std::alloc::Global;
 
 /// The bytes of an optional word.
@@ -43,6 +44,7 @@ fn ask_of<'a>(question: &ReachQuestion<'a>) -> Ask<'a>
         starts: bytes_of(question.starts),
         exten: bytes_of(question.exten),
         caller: bytes_of(question.caller),
+        facts: None,
     }
 }
 
@@ -133,7 +135,7 @@ fn hinted_report(
         answered.report.text.items answered.report.status answered.hint.items) }
 {
     let ask = ask_of(question);
-    let report = report_on(alloc, &files.plan, &files.queues, &ask)?;
+    let report = report_on::<StandardApps>(alloc, &files.plan, &files.queues, &ask)?;
     let told = HintedPlan {
         file: question.file,
         plan: &files.plan,

@@ -3,12 +3,13 @@ mod answers;
 mod cuts;
 mod duties;
 mod entries;
+mod hidden;
 mod names;
 mod notation;
 mod shapes;
 mod texts;
 
-use crate::pieces::answers::{ANSWERS, Answers};
+use crate::pieces::answers::{ANSWERS, Answers, HIDDEN_ANSWERS, HiddenAnswers};
 use crate::pieces::cuts::{CUTS, Cuts};
 use crate::pieces::duties::{CLAIMED, Claimed, DUTIES, Duties, FOUND, Found, REACHED, Reached};
 use crate::pieces::entries::{ENTRIES, Entries};
@@ -55,6 +56,12 @@ fn duties_reached_places_and_findings(rt: HostRuntime) -> Result<(), Fail> {
 #[test]
 fn entries_and_contexts_that_a_call_may_reach(rt: HostRuntime) -> Result<(), Fail> {
     check::<Answers>(rt.alloc(), ANSWERS)
+}
+
+/// The same over a table of which nothing is known of what one application does.
+#[test]
+fn entries_that_may_do_anything(rt: HostRuntime) -> Result<(), Fail> {
+    check::<HiddenAnswers>(rt.alloc(), HIDDEN_ANSWERS)
 }
 
 /// Which entries a call may run, in the order of the dialplan.

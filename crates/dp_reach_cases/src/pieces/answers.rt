@@ -1,13 +1,16 @@
 //! Reports on the calls that come in at a context, worked out by hand from the rules.
+use crate::pieces::hidden::HiddenApps;
 use dp_answer::{Ask, report_on};
 use dp_case_tables::{Question, text_of};
+use dp_closed::DutyTable;
 use dp_plan::Dialplan;
 use dp_queue::Queues;
+use dp_table::StandardApps;
 use std::alloc::Global;
 use std::test::Fail;
 
-/// A dialplan, its queues, the context, the target, where other calls come in, and the bytes of extensions and of callers' numbers, with a
-/// bar between each; empty ones are not given. The answer is the status and the text, in which a `¶` is a line feed.
+/// A dialplan, its queues, the context, the target, where other calls come in, and the bytes of extensions, of callers' numbers and of what
+/// names are set to from outside, with a bar between each; empty ones are not given, and those at the end may be missing. The answer is the status and the text, in which a `¶` is a line feed.
 pub(super) struct Answers;
 
 /// The dialplans and queues by their names. A `¶` is a line feed.
@@ -18,6 +21,8 @@ ways→[main]¶exten => s,1,Queue(help)¶[out]¶exten => 1,1,Hangup()¶
 wayout→[help]¶context = out¶
 ends→[in]¶exten => s,1,Goto(main,s,1)¶[main]¶exten => s,1,WaitExten(5)¶exten => h,1,Goto(late,s,1)¶exten => i,1,Goto(lost,s,1)¶[late]¶exten => s,1,NoOp()¶[lost]¶exten => s,1,NoOp()¶
 empty→
+facts→[in]¶exten => s,1,Goto(${where},s,1)¶[desk]¶exten => s,1,Hangup()¶
+hidden→[in]¶exten => s,1,Goto(hall,s,1)¶[hall]¶exten => s,1,Playback(hello)¶[desk]¶exten => s,1,Hangup()¶
 back→[last]¶exten => s,1,NoOp()¶ same => n,Hangup()¶[lost]¶exten => s,1,Hangup()¶[first]¶exten => 2,1,Hangup()¶exten => _1X,1,Goto(last,s,1)¶
 shared→[in]¶exten => 5,1,Hangup()¶include => more¶[other]¶exten => 7,1,Hangup()¶[more]¶exten => 7,1,Hangup()¶exten => 5,2,NoOp()¶
 routes→[globals]¶CARRIER=PJSIP/carrier¶RECEPTION=200¶[from-carrier]¶exten => _X.,1,Set(CALLERNUMBER=${CALLERID(num)})¶ same => n,Goto(reception,s,1)¶exten => _+X.,1,Goto(reception,s,1)¶[reception]¶exten => s,1,Answer()¶ same => n,Set(tries=0)¶ same => n(menu),Background(welcome)¶ same => n,WaitExten(5)¶exten => 1,1,Gosub(ring,s,1(${RECEPTION},20))¶ same => n,Goto(desk,1)¶exten => 2,1,Goto(internal,210,1)¶exten => i,1,Set(tries=$[${tries} + 1])¶ same => n,GotoIf($[${tries} < 2]?s,menu)¶ same => n,Goto(desk,1)¶exten => t,1,Goto(desk,1)¶exten => desk,1,Dial(PJSIP/${RECEPTION},30)¶ same => n,Hangup()¶exten => h,1,NoOp(${CALLERNUMBER} left)¶include => lobby-features¶[lobby-features]¶exten => *60,1,Answer()¶ same => n,Playback(opening-hours)¶ same => n,Hangup()¶exten => _*2XX,1,Goto(internal,${EXTEN:1},1)¶[from-lobby]¶include => internal¶include => lobby-features¶[internal]¶exten => _[23]XX,1,Gosub(ring,s,1(${EXTEN},20))¶ same => n,GotoIf($["${DIALSTATUS}" = "BUSY"]?busy)¶ same => n,Playback(not-there)¶ same => n,Hangup()¶ same => n(busy),Playback(busy)¶ same => n,Hangup()¶[ring]¶exten => s,1,Dial(PJSIP/${ARG1},${ARG2})¶ same => n,Return()¶[from-staff]¶include => internal¶include => national¶include => international¶[national]¶exten => _0ZX.,1,Dial(${CARRIER}/${EXTEN},60)¶ same => n,Hangup()¶[international]¶exten => _00ZX.,1,Set(CALLERID(num)=+4989123450)¶ same => n,Dial(${CARRIER}/${EXTEN},60)¶ same => n,Hangup()¶
@@ -86,24 +91,39 @@ pub(super) fn asked_of(alloc: Global, asked: &str) -> Result<Asked<'_>, Fail> {
         starts: given_word(words.next()),
         exten: given_word(words.next()),
         caller: given_word(words.next()),
+        facts: given_word(words.next()),
     };
     Ok(Asked { plan, queues, ask })
 }
 
+/// The status and the text of the report over a table.
+fn report_over<T: DutyTable>(alloc: Global, asked: &str) -> Result<String, Fail> {
+    let asked = asked_of(alloc, asked)?;
+    let report = report_on::<T>(alloc, &asked.plan, &asked.queues, &asked.ask)?;
+    let mut out = String::new(alloc);
+    write!(out, "{} ", report.status)?;
+    for byte in &report.text {
+        out.push(if *byte == b'\n' {
+            '¶'
+        } else {
+            char::from(*byte)
+        })?;
+    }
+    Ok(out)
+}
+
 impl Question for Answers {
     fn answer(alloc: Global, asked: &str) -> Result<String, Fail> {
-        let asked = asked_of(alloc, asked)?;
-        let report = report_on(alloc, &asked.plan, &asked.queues, &asked.ask)?;
-        let mut out = String::new(alloc);
-        write!(out, "{} ", report.status)?;
-        for byte in &report.text {
-            out.push(if *byte == b'\n' {
-                '¶'
-            } else {
-                char::from(*byte)
-            })?;
-        }
-        Ok(out)
+        report_over::<StandardApps>(alloc, asked)
+    }
+}
+
+/// The same over a table of which nothing is known of what `Playback` does.
+pub(super) struct HiddenAnswers;
+
+impl Question for HiddenAnswers {
+    fn answer(alloc: Global, asked: &str) -> Result<String, Fail> {
+        report_over::<HiddenApps>(alloc, asked)
     }
 }
 
@@ -134,4 +154,15 @@ doors||kitchen||||→1
 doors||outside|kitchen|a,hall||→1 
 doors||hal||||→1 
 routes||from-carrier|international|||→0 assumed: extensions of {0-9A-Za-z*#+_.}*, callers' numbers of {0-9+}*, calls come in at every context¶unreachable: international¶
+# What names are set to from outside.
+facts||in|desk|in|s|7→0 assumed: extensions of {s}*, callers' numbers of {7}*, calls come in at in in¶unreachable: desk¶may lead to any context: in,s,1 Goto(${where},s,1)¶
+facts||in|desk|in|s|7|a-z→1 assumed: extensions of {s}*, callers' numbers of {7}*, values from outside of {a-z}*, calls come in at in in¶may reach: desk,s,1 Hangup()  e.g. extension s¶  in,{s}*  a call comes in¶  in,s,1 Goto(${where},s,1) -> desk,s¶every jump that lets a call in there:¶  in,s,1 Goto(${where},s,1)¶may lead to any context: in,s,1 Goto(${where},s,1)¶
+hidden||in|desk|||→0 assumed: extensions of {0-9A-Za-z*#+_.}*, callers' numbers of {0-9+}*, calls come in at every context¶unreachable: desk¶
+"#;
+
+/// Without a proof a call may run each entry.
+pub(super) const HIDDEN_ANSWERS: &str = r#"
+hidden||in||||→0 assumed: extensions of {0-9A-Za-z*#+_.}*, callers' numbers of {0-9+}*, calls come in at every context¶no proof was found within the bounds: a call may run each entry¶in,s,1 Goto(hall,s,1)¶  in,{0-9A-Za-z*#+_.}*  a call comes in¶hall,s,1 Playback(hello)¶  in,{0-9A-Za-z*#+_.}*  a call comes in¶  in,s,1 Goto(hall,s,1) -> hall,s¶desk,s,1 Hangup()¶may do anything: hall,s,1 Playback(hello)¶ok 3 of 3 entries in 3 of 3 contexts¶
+hidden||desk|in|desk|s|7→0 assumed: extensions of {s}*, callers' numbers of {7}*, calls come in at desk desk¶unreachable: in¶
+hidden||desk|in||s|7→1 assumed: extensions of {s}*, callers' numbers of {7}*, calls come in at every context¶no proof was found within the bounds: a call may run each entry¶may reach: in¶may do anything: hall,s,1 Playback(hello)¶
 "#;

@@ -54,6 +54,7 @@ fn push_duty(out: &mut String, duty: &Duty) -> Result<(), Fail> {
         Duty::HoldsAll(set) => push_set(out, "each", set)?,
         Duty::Calls(set) => push_set(out, "caller", set)?,
         Duty::Waits => out.push_str("waits")?,
+        Duty::Anything => out.push_str("anything")?,
     }
     Ok(())
 }

@@ -3,6 +3,7 @@ use crate::pieces::answers::asked_of;
 use dp_answer::reached_entries;
 use dp_case_tables::{Question, push_bytes, text_of};
 use dp_plan::{Dialplan, EntryId};
+use dp_table::StandardApps;
 use std::alloc::Global;
 use std::test::Fail;
 
@@ -24,7 +25,12 @@ fn push_entry(out: &mut String, plan: &Dialplan, id: EntryId) -> Result<(), Fail
 impl Question for Entries {
     fn answer(alloc: Global, asked: &str) -> Result<String, Fail> {
         let asked = asked_of(alloc, asked)?;
-        let entries = reached_entries(alloc, &asked.plan, &asked.queues, &asked.ask)?;
+        let entries = reached_entries::<StandardApps>(
+            alloc,
+            &asked.plan,
+            &asked.queues,
+            &asked.ask,
+        )?;
         let mut out = String::new(alloc);
         for id in &entries {
             if !out.is_empty() {

@@ -5,5 +5,5 @@ use Rattle.dp_answer.proofs.AnswerLemmas.{told-all}
 use Rattle.dp_answer.proofs.report.report_all.Goals as goal
 
 pub returns : goal.returns
-returns c = told-all c.args.plan.now c.args.text.items _ _ (record { chains = c.in_ok-told.told.chains.items; tail = c.in_ok-told.told.tail.items })
+returns g c = told-all c.args.plan.now c.args.text.items _ _ (record { chains = c.in_ok-told.told.chains.items; tail = c.in_ok-told.told.tail.items })
     (shown_report (record { text = c.push_answers.new.out; status = 0 })) c.answers.ensures c.in_ok-push_answers.ensures refl

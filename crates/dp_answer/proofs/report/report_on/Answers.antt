@@ -1,4 +1,5 @@
 use Rattle.std.proofs.Common.{List, map, rules}
+use Rattle.dp_app.specs.Rows.{with_functions}
 use Rattle.dp_answer.specs.Asks.{ask_of}
 use Rattle.dp_answer.specs.Steps.{AreTerms, shown_report}
 use Rattle.dp_queue.specs.declared.settings.Settings.{Settings}
@@ -6,8 +7,8 @@ use Rattle.dp_answer.proofs.AnswerLemmas.{found-report}
 use Rattle.dp_answer.proofs.report.report_on.Goals as goal
 
 pub returns : goal.returns
-returns c =
+returns g c =
     let settings : List Settings = map (λ queue. queue.settings) c.args.queues.now.queues in
     let are : AreTerms c.args.plan.now settings (ask_of c.args.ask.now) c.in-Some.terms = search rules in
-    found-report c.args.plan.now settings (ask_of c.args.ask.now) c.in-Some.terms c.in_ok-found.found _ (shown_report c.in_ok-report.report)
+    found-report (with_functions g.T.AppTable.rows g.T.Functions.Functions.table) c.args.plan.now settings (ask_of c.args.ask.now) c.in-Some.terms c.in_ok-found.found _ (shown_report c.in_ok-report.report)
     are c.in_ok-found.ensures c.deref.ensures.value c.in_ok-report.ensures
