@@ -28,8 +28,8 @@ use Rattle.dp_reach.specs.Holding.{Claim, IsGood, IsInside}
 use Rattle.dp_reach.specs.Standard.{with_duties}
 use Rattle.dp_reach.proofs.StandardRows.{row-bounded}
 use Rattle.dp_reach.proofs.TargetLemmas.{FitsOne}
-use Rattle.dp_wide_reach.specs.Choices.{arguments_by, call_duties_by, choice_duties, chosen_duties, exec_if_duties, exec_if_duties_by, known_call, known_call_by, side_duties}
-use Rattle.dp_wide_reach.proofs.SideRows.{taken_side-fits}
+use Rattle.dp_wide_reach.specs.Choices.{arguments_by, bare_side_duties, call_duties_by, choice_duties, chosen_duties, exec_if_duties, exec_if_duties_by, known_call, known_call_by, side_duties}
+use Rattle.dp_wide_reach.proofs.SideRows.{taken_side-fits, taken_side-present}
 
 -- the application that a text names has the known name, and its arguments fit the known pieces
 record IsCalled (call : List ℕ × List Piece) (text : List ℕ × List ℕ) : Type 0 where
@@ -99,24 +99,35 @@ module _ (duties : List ℕ → Duties) (rows : Rows) (bounded : AreBounded duti
       by None is = record { cell = good; next = tt }
       by (Some row) is = bounded name row is claim area pieces arguments cell good inside own fits met
 
-  side-inside : (pieces : List Piece) (side : List ℕ) → Fits pieces side → MeetsAll claim (side_duties duties area pieces) → IsInside claim cell.place (run_in rows (Some (called_side side)) cell)
-  side-inside pieces side fits met = by (known_call (without_end_blanks pieces)) refl met
+  -- a side that has more than blanks
+  bare-inside : (pieces : List Piece) (side : List ℕ) → Fits pieces (trim side) → MeetsAll claim (call_duties_by duties area (known_call pieces))
+      → IsInside claim cell.place (run_in rows (Some (called_side side)) cell)
+  bare-inside pieces side fits met = by (known_call pieces) refl met
     where
-      by : (o : Option (List ℕ × List Piece)) → known_call (without_end_blanks pieces) ≡ o → MeetsAll claim (call_duties_by duties area o)
+      by : (o : Option (List ℕ × List Piece)) → known_call pieces ≡ o → MeetsAll claim (call_duties_by duties area o)
           → IsInside claim cell.place (run_in rows (Some (called_side side)) cell)
       by None from met = absurd met.0
       by (Some call) from met =
-          let called = known-call (without_end_blanks pieces) (trim side) (fits-without_end_blanks pieces side fits) call from in
+          let called = known-call pieces (trim side) fits call from in
           subst (λ name. IsInside claim cell.place (row_or_end (rows name) (called_side side).1 cell)) (sym called.name)
           (called-inside call.0 call.1 (called_side side).1 called.fits met)
 
-  one-side : (sides : List (List Piece)) (side : List ℕ) → FitsOne sides side → MeetsAll claim (flat_map (side_duties duties area) sides)
+  side-inside : (pieces : List Piece) (side : List ℕ) → Fits pieces side → (trim side ≡ [] → ⊥) → MeetsAll claim (side_duties duties area pieces)
       → IsInside claim cell.place (run_in rows (Some (called_side side)) cell)
-  one-side [] side fits met = absurd fits
-  one-side (pieces ∷ more) side (inl here) met =
-      side-inside pieces side here (each-front (Meets claim) (side_duties duties area pieces) (flat_map (side_duties duties area) more) met)
-  one-side (pieces ∷ more) side (inr there) met =
-      one-side more side there (each-rest (Meets claim) (side_duties duties area pieces) (flat_map (side_duties duties area) more) met)
+  unfolding Fits
+  side-inside pieces side fits present met = by (without_end_blanks pieces) (fits-without_end_blanks pieces side fits) met
+    where
+      by : (bare : List Piece) → Fits bare (trim side) → MeetsAll claim (bare_side_duties duties area bare) → IsInside claim cell.place (run_in rows (Some (called_side side)) cell)
+      by [] fits met = absurd (present fits)
+      by (piece ∷ bare) fits met = bare-inside (piece ∷ bare) side fits met
+
+  one-side : (sides : List (List Piece)) (side : List ℕ) → FitsOne sides side → (trim side ≡ [] → ⊥) → MeetsAll claim (flat_map (side_duties duties area) sides)
+      → IsInside claim cell.place (run_in rows (Some (called_side side)) cell)
+  one-side [] side fits present met = absurd fits
+  one-side (pieces ∷ more) side (inl here) present met =
+      side-inside pieces side here present (each-front (Meets claim) (side_duties duties area pieces) (flat_map (side_duties duties area) more) met)
+  one-side (pieces ∷ more) side (inr there) present met =
+      one-side more side there present (each-rest (Meets claim) (side_duties duties area pieces) (flat_map (side_duties duties area) more) met)
 
   taken-inside : (rest : List Piece) (text : List ℕ) (taken : Bool) → Fits rest text → MeetsAll claim (choice_duties duties area (sides_by rest (cut_level 58 0 rest)))
       → IsInside claim cell.place (run_in rows (option_map called_side (taken_side taken text)) cell)
@@ -129,7 +140,7 @@ module _ (duties : List ℕ → Duties) (rows : Rows) (bounded : AreBounded duti
         where
           side : (o : Option (List ℕ)) → taken_side taken text ≡ o → IsInside claim cell.place (run_in rows (option_map called_side o) cell)
           side None is = record { cell = good; next = tt }
-          side (Some result) is = one-side sides result (taken_side-fits rest text fits sides from taken result is) met
+          side (Some result) is = one-side sides result (taken_side-fits rest text fits sides from taken result is) (taken_side-present text taken result is) met
 
   exec_if-inside : (pieces : List Piece) (arguments : List ℕ) → Fits pieces arguments → MeetsAll claim (exec_if_duties_by duties area (cut_pieces 63 pieces))
       → IsInside claim cell.place (exec_if_row rows arguments cell)

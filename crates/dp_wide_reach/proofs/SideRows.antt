@@ -1,12 +1,13 @@
 -- A side of a choice that is taken, whatever takes it, and the row of `GotoIfTime`.
-use Rattle.std.proofs.Common.{◌≡◌, ℕ, Bool, true, false, List, [], Option, Some, None, refl, subst}
+use Rattle.std.proofs.Common.{◌≡◌, ℕ, Bool, true, false, List, [], ◌∷◌, Option, Some, None, refl, sym, ap, ◌∙◌, subst}
 use Rattle.std.specs.List.{flat_map}
 use Rattle.std.specs.Option.{option_and_then}
 use Rattle.dp_conf.proofs.TextLemmas.{cut_once-is, each-cut_rest}
+use Rattle.dp_conf.specs.Blanks.{trim}
 use Rattle.dp_conf.specs.Cut.{cut_once}
 use Rattle.dp_conf.specs.Levels.{arguments_of, cut_outside}
 use Rattle.dp_app.specs.declared.place.Place.{Place}
-use Rattle.dp_flow.specs.Conditions.{side_of, taken_side}
+use Rattle.dp_flow.specs.Conditions.{present_by, side_of, taken_side}
 use Rattle.dp_flow.specs.Jumps.{jump_if}
 use Rattle.dp_machine.specs.Targets.{parts_place}
 use Rattle.dp_pieces.specs.Bytes.{Bytes, Within}
@@ -31,6 +32,20 @@ pub taken_side-fits : (rest : List Piece) (text : List ℕ) → Fits rest text �
 taken_side-fits rest text fits sides known taken result is =
     side-fits text rest fits (cut_level 58 0 rest) (cut_outside 58 text) (cut-level 58 rest text fits) sides known taken result result
     (chosen_side-side (side_of taken text (cut_outside 58 text)) result is) refl
+
+-- it has more than blanks
+taken_side-present_by : (o : Option (List ℕ)) (result : List ℕ) → option_and_then (λ side. present_by side (trim side)) o ≡ Some result → trim result ≡ [] → ⊥
+taken_side-present_by None result is empty = (cc)
+taken_side-present_by (Some side) result is empty = by (trim side) refl is
+  where
+    by : (bare : List ℕ) → trim side ≡ bare → present_by side bare ≡ Some result → ⊥
+    by [] from same = (cc)
+    by (b ∷ bs) from same =
+        let whole : side ≡ result = cc in
+        let no : b ∷ bs ≡ [] = sym from ∙ (ap trim whole ∙ empty) in let c : ⊥ = cc in c
+
+pub taken_side-present : (text : List ℕ) (taken : Bool) (result : List ℕ) → taken_side taken text ≡ Some result → trim result ≡ [] → ⊥
+taken_side-present text taken result is = taken_side-present_by (side_of taken text (cut_outside 58 text)) result is
 
 -- and is a part of the text
 pub taken_side-within : (set : Bytes) (text : List ℕ) → Within set text → (taken : Bool) (result : List ℕ) → taken_side taken text ≡ Some result → Within set result

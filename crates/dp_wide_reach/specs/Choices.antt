@@ -37,8 +37,13 @@ abbrev pub call_duties_by : (List ℕ → Duties) → Area → Option (List ℕ 
 call_duties_by duties area None = Anything ∷ []
 call_duties_by duties area (Some call) = duties call.0 area call.1
 
+-- the duties of a side without the blanks at its ends; an empty one runs nothing
+abbrev pub bare_side_duties : (List ℕ → Duties) → Area → List Piece → List Duty
+bare_side_duties duties area [] = []
+bare_side_duties duties area (piece ∷ pieces) = call_duties_by duties area (known_call (piece ∷ pieces))
+
 abbrev pub side_duties : (List ℕ → Duties) → Area → List Piece → List Duty
-side_duties duties area side = call_duties_by duties area (known_call (without_end_blanks side))
+side_duties duties area side = bare_side_duties duties area (without_end_blanks side)
 
 -- the duties of both sides; if the sides are unknown, nothing is known
 abbrev pub choice_duties : (List ℕ → Duties) → Area → Option (List (List Piece)) → List Duty
