@@ -122,7 +122,8 @@ module _ (names : Names) (sight : Sight) (seen : IsWithin names sight) where
       by (Some CallerId) = num (same_text argument (codes "num"))
       by (Some QueueWaitingCount) = seen.whole.digits
 
-  all-variable : (name : List ℕ) → Within names.all (sight.variable name)
+  -- a variable has only the bytes of any value
+  pub all-variable : (name : List ℕ) → Within names.all (sight.variable name)
   all-variable name = by (same_text name (codes "EXTEN")) (same_text name (codes "CONTEXT")) (fits-set (variable_pieces names name) (sight.variable name) (seen.variable name))
     where
       by : (a b : Bool) → Within (pieces_set (if a then names.exten else if b then names.context else any_bytes_of (names.bytes name))) (sight.variable name) → Within names.all (sight.variable name)

@@ -41,7 +41,7 @@ impl NamedPieces for NamesAt<'_> {
     ) -> Result<Vec<Piece>, NoMemory> {
         match kind {
             GroupKind::Braces => self.braces(alloc, body),
-            GroupKind::Brackets => expression(alloc, body),
+            GroupKind::Brackets => expression_pieces(alloc, body),
         }
     }
 }
@@ -53,8 +53,8 @@ fn numeric() -> ByteSet
     ByteSet::digits().with(&ByteSet::of(b'-'))
 }
 
-/// The pieces of an expression, given those of its body: any bytes of these or of a number.
-fn expression(alloc: Global, body: &[Piece]) -> Result<Vec<Piece>, NoMemory>
+/// The pieces of an expression, given those of its body: any bytes of these or of a number. It fails only if memory runs out.
+pub fn expression_pieces(alloc: Global, body: &[Piece]) -> Result<Vec<Piece>, NoMemory>
     ensures { IfOk result (λ pieces. shown_all pieces.items ≡ any_bytes_of (bytes.either (pieces_set (shown_all body.now)) bytes.numeric)) }
 {
     let set = bytes_of(body).with(&numeric());
@@ -64,21 +64,22 @@ fn expression(alloc: Global, body: &[Piece]) -> Result<Vec<Piece>, NoMemory>
 
 impl NamesAt<'_> {
     /// The bytes of any value.
-    fn all(&self) -> ByteSet
+    pub fn all(&self) -> ByteSet
         ensures { (b : ℕ) → set_by result b ≡ (names_of self.now).all b }
     {
         *self.table.all()
     }
 
     /// The bytes of the caller's number.
-    fn caller(&self) -> ByteSet
+    pub fn caller(&self) -> ByteSet
         ensures { (b : ℕ) → set_by result b ≡ (names_of self.now).caller b }
     {
         *self.table.caller()
     }
 
-    /// The pieces of a variable. The channel's extension and context come before any other value of these names.
-    fn variable(&self, alloc: Global, name: &[u8]) -> Result<Vec<Piece>, NoMemory>
+    /// The pieces of a variable. The channel's extension and context come before any other value of these names. It fails only if memory
+    /// runs out.
+    pub fn variable(&self, alloc: Global, name: &[u8]) -> Result<Vec<Piece>, NoMemory>
         ensures { IfOk result (λ pieces. shown_all pieces.items ≡ names.variable_pieces (names_of self.now) name.now) }
     {
         if name == b"EXTEN".as_slice() {

@@ -41,12 +41,8 @@ fn part_ahead(
     }
 }
 
-/// The requested part of the pieces.
-pub(crate) fn part_of(
-    alloc: Global,
-    asked: Selection,
-    pieces: &[Piece],
-) -> Result<Vec<Piece>, NoMemory>
+/// The requested part of the pieces. It fails only if memory runs out.
+pub fn part_of(alloc: Global, asked: Selection, pieces: &[Piece]) -> Result<Vec<Piece>, NoMemory>
     ensures { IfOk result (λ part. shown_all part.items ≡ names.part_pieces asked (shown_all pieces.now)) }
 {
     match asked {

@@ -1,6 +1,6 @@
 //! Pieces of a text with unknown parts.
 ghost use Rattle.std.specs.Prelude.{◌≡◌, ◌||◌, ℕ, IfOk, MatchOption, None, Some};
-ghost use Rattle.dp_pieces.specs.Pieces.{byte_of, text_known, any_bytes_of, piece_set, pieces_set};
+ghost use Rattle.dp_pieces.specs.Pieces.{byte_of, bytes_in, text_known, any_bytes_of, piece_set, pieces_set};
 ghost use Rattle.dp_pieces.specs.Sets.{set_by};
 ghost use Rattle.dp_pieces.specs.Shown.{shown_piece, shown_all};
 
@@ -66,6 +66,17 @@ pub fn bytes_of(pieces: &[Piece]) -> ByteSet
     set
 }
 
+/// The bytes of a text.
+pub fn bytes_in(text: &[u8]) -> ByteSet
+    ensures { (b : ℕ) → set_by result b ≡ bytes_in text.now b }
+{
+    let mut set = ByteSet::none();
+    for byte in text {
+        set.put(*byte);
+    }
+    set
+}
+
 /// Whether a text of the pieces may contain the byte.
 #[tactic(auto, unfolding(crate::specs::Pieces::pieces_set))]
 pub(crate) fn may_have(pieces: &[Piece], byte: u8) -> bool
@@ -81,8 +92,8 @@ pub(crate) fn may_have(pieces: &[Piece], byte: u8) -> bool
     false
 }
 
-/// Any number of bytes of the set, as a single piece.
-pub(crate) fn any_bytes(alloc: Global, set: ByteSet) -> Result<Vec<Piece>, NoMemory>
+/// Any number of bytes of the set, as a single piece. It fails only if memory runs out.
+pub fn any_bytes(alloc: Global, set: ByteSet) -> Result<Vec<Piece>, NoMemory>
     ensures { IfOk result (λ all. shown_all all.items ≡ any_bytes_of (set_by set)) }
 {
     let mut all = Vec::new(alloc);

@@ -8,6 +8,7 @@ mod names;
 mod notation;
 mod shapes;
 mod texts;
+mod wide_texts;
 
 use crate::pieces::answers::{ANSWERS, Answers, HIDDEN_ANSWERS, HiddenAnswers};
 use crate::pieces::cuts::{CUTS, Cuts};
@@ -16,6 +17,7 @@ use crate::pieces::entries::{ENTRIES, Entries};
 use crate::pieces::names::{NAMES, Names};
 use crate::pieces::shapes::{SHAPES, Shapes};
 use crate::pieces::texts::{TEXTS, Texts};
+use crate::pieces::wide_texts::{WIDE_TEXTS, WideTexts};
 use dp_case_tables::check;
 use std::test::Fail;
 
@@ -41,6 +43,12 @@ fn bytes_that_values_may_have(rt: HostRuntime) -> Result<(), Fail> {
 #[test]
 fn texts_are_read_as_pieces(rt: HostRuntime) -> Result<(), Fail> {
     check::<Texts>(rt.alloc(), TEXTS)
+}
+
+/// The same over the functions of the wide table.
+#[test]
+fn wide_texts_are_read_as_pieces(rt: HostRuntime) -> Result<(), Fail> {
+    check::<WideTexts>(rt.alloc(), WIDE_TEXTS)
 }
 
 /// What each application owes because of the pieces of its arguments, which places a reach has, and what is found.

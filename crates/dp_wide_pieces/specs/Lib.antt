@@ -1,0 +1,3 @@
+pub mod FunctionBytes
+pub mod WideNames
+pub mod WideTexts
