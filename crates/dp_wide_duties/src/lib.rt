@@ -7,5 +7,7 @@ mod held;
 mod macros;
 mod rows;
 mod settings;
+mod table;
 
 pub use choices::duties;
+pub use table::WideDuties;
