@@ -23,8 +23,8 @@ pub enum Duty {
     Anything,
 }
 
-/// Adds that the reach has the area of these shapes.
-pub(crate) fn push_area(
+/// Adds the duty that the reach has the area of these shapes. It fails only if memory runs out.
+pub fn push_area(
     alloc: Global,
     context: &[Piece],
     exten: &[Piece],
@@ -43,8 +43,8 @@ pub(crate) fn push_area(
     Ok(())
 }
 
-/// Adds that a name may have these bytes.
-pub(crate) fn push_name(
+/// Adds the duty that a name may have these bytes. It fails only if memory runs out.
+pub fn push_name(
     alloc: Global,
     name: &[u8],
     set: ByteSet,

@@ -166,6 +166,20 @@ fn push_row(
     }
 }
 
+/// Adds the duties of an application, given its name in any ASCII case and the pieces of its arguments. It fails only if memory runs out.
+pub fn push_duties(
+    alloc: Global,
+    application: &[u8],
+    area: &Area,
+    pieces: &[Piece],
+    duties: &mut Vec<Duty>,
+) -> Result<(), NoMemory>
+    ensures { OnOk result (shown_duties duties.new.items
+        ≡ shown_duties duties.old.items ++ standard_duties application.now (shown_area area.now) (shown_all pieces.now)) }
+{
+    push_row(alloc, row_of(application), area, pieces, duties)
+}
+
 /// The duties of an application in an area, given its name in any ASCII case and the pieces of its arguments. It fails only if memory runs
 /// out.
 pub fn duties(
@@ -177,7 +191,7 @@ pub fn duties(
     ensures { IfOk result (λ duties. map shown_duty duties.items ≡ standard_duties application.now (shown_area area.now) (shown_all pieces.now)) }
 {
     let mut duties = Vec::new(alloc);
-    push_row(alloc, row_of(application), area, pieces, &mut duties)?;
+    push_duties(alloc, application, area, pieces, &mut duties)?;
     Ok(duties)
 }
 

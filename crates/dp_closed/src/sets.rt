@@ -8,7 +8,7 @@ ghost use Rattle.dp_machine.specs.Events.{is_digit};
 use dp_pieces::{ByteSet, Piece, add_pieces};
 
 /// The bytes of pieces.
-pub(crate) fn set_of(pieces: &[Piece]) -> ByteSet
+pub fn set_of(pieces: &[Piece]) -> ByteSet
     ensures { set_by result ≡ pieces_set (shown_all pieces.now) }
 {
     let mut set = ByteSet::none();
@@ -17,7 +17,7 @@ pub(crate) fn set_of(pieces: &[Piece]) -> ByteSet
 }
 
 /// The bytes of a text.
-pub(crate) fn bytes_in(text: &[u8]) -> ByteSet
+pub fn bytes_in(text: &[u8]) -> ByteSet
     ensures { set_by result ≡ bytes_in text.now }
 {
     let mut set = ByteSet::none();

@@ -61,8 +61,9 @@ fn push_arguments(
     Ok(())
 }
 
-/// Adds the duties for the arguments of a subroutine, given the text before its last `)`.
-fn push_inside(
+/// Adds the duties for the arguments of a subroutine, given the text before its last `)`, and the bytes of the whole text. It fails only if
+/// memory runs out.
+pub fn push_inside(
     alloc: Global,
     set: ByteSet,
     cutting: Cutting<'_>,
@@ -117,8 +118,8 @@ fn push_called(alloc: Global, pieces: &[Piece], duties: &mut Vec<Duty>) -> Resul
     Ok(())
 }
 
-/// Adds the duties of `Gosub`.
-pub(crate) fn push_gosub(
+/// Adds the duties of `Gosub`. It fails only if memory runs out.
+pub fn push_gosub(
     alloc: Global,
     area: &Area,
     pieces: &[Piece],

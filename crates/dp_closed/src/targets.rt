@@ -135,8 +135,8 @@ fn push_sides(
     }
 }
 
-/// Adds the duties of `GotoIf`.
-pub(crate) fn push_goto_if(
+/// Adds the duties of `GotoIf`. It fails only if memory runs out.
+pub fn push_goto_if(
     alloc: Global,
     area: &Area,
     pieces: &[Piece],

@@ -73,7 +73,7 @@ in-last plan own place area (c ∷ e ∷ p ∷ []) (a ∷ b ∷ d ∷ f ∷ part
 in-last plan own place area (c ∷ e ∷ p ∷ q ∷ shapes) (a ∷ b ∷ d ∷ []) last inside are some found = absurd are.1.1.1
 
 -- a place that is found is a requested one
-found-asked : (plan : PlanOf) (o : Option Place) (place : Place) → if_found plan o ≡ Some place → o ≡ Some place
+pub found-asked : (plan : PlanOf) (o : Option Place) (place : Place) → if_found plan o ≡ Some place → o ≡ Some place
 found-asked plan None place is = absurd cc
 found-asked plan (Some p) place is = by (is_found plan p.context p.exten p.priority) is
   where
@@ -100,7 +100,7 @@ last-part (pieces ∷ other ∷ more) (text ∷ next ∷ texts) part fit is =
     last-part (other ∷ more) (next ∷ texts) part fit.1 (ap (slice_get (trim text ∷ trim next ∷ map trim texts)) (sym at) ∙ is)
 
 -- locals with numbers
-locals-of : (claim : Claim) (number : ℕ) (shapes : List (List Piece)) (values : List (List ℕ)) → AllFit shapes values → MeetsAll claim (numbered_duties number shapes)
+pub locals-of : (claim : Claim) (number : ℕ) (shapes : List (List Piece)) (values : List (List ℕ)) → AllFit shapes values → MeetsAll claim (numbered_duties number shapes)
     → AreLocals claim.names (argument_locals number values)
 locals-of claim number [] [] are met = tt
 locals-of claim number [] (value ∷ values) are met = absurd are
@@ -108,7 +108,7 @@ locals-of claim number (shape ∷ shapes) [] are met = absurd are
 locals-of claim number (shape ∷ shapes) (value ∷ values) are met =
     (within-more (pieces_set shape) _ met.0 value (fits-set shape value are.0), locals-of claim (number + 1) shapes values are.1 met.1)
 
-locals-all : (claim : Claim) (set : Bytes) → Meets claim (HoldsAll set) → (number : ℕ) (values : List (List ℕ)) → AllByRecursion (Within set) values
+pub locals-all : (claim : Claim) (set : Bytes) → Meets claim (HoldsAll set) → (number : ℕ) (values : List (List ℕ)) → AllByRecursion (Within set) values
     → AreLocals claim.names (argument_locals number values)
 locals-all claim set met number [] all = tt
 locals-all claim set met number (value ∷ values) all =
@@ -235,7 +235,7 @@ module _ (claim : Claim) (area : Area) (pieces : List Piece) (text : List ℕ) (
     part-within : Within (pieces_set pieces) part
     part-within = each-get (Within (pieces_set pieces)) (arguments_of text) (length (arguments_of text) - 1) part parts-within at
 
-    enter_subroutine-locals : AreLocals claim.names (argument_locals 1 call.arguments)
+    pub enter_subroutine-locals : AreLocals claim.names (argument_locals 1 call.arguments)
     unfolding parts_of
     enter_subroutine-locals = by (are_clean 0 pieces) refl met-target
       where
@@ -249,7 +249,7 @@ module _ (claim : Claim) (area : Area) (pieces : List Piece) (text : List ℕ) (
             part-within is met
         by false clean met = locals-all claim (pieces_set pieces) met.0 1 call.arguments (call-within (pieces_set pieces) part call part-within is).arguments
 
-    enter_subroutine-covers : (place : Place) → parts_place claim.plan cell.place (with_last (arguments_of text) call.priority) ≡ Some place → Covers claim.plan claim.reach place
+    pub enter_subroutine-covers : (place : Place) → parts_place claim.plan cell.place (with_last (arguments_of text) call.priority) ≡ Some place → Covers claim.plan claim.reach place
     enter_subroutine-covers place found =
         covers-included claim.plan claim.reach (targets area pieces) place (includes-all claim (targets area pieces) met-leads) (by (are_clean 0 pieces) refl)
       where

@@ -31,7 +31,7 @@ present-is side [] result is = absurd cc
 present-is side (b ∷ bs) result is = cc
 
 -- a side of a choice fits one of the sides of its pieces
-side-fits : (text : List ℕ) (rest : List Piece) → Fits rest text → (cutting : Cutting) (cut : Option (List ℕ × List ℕ)) → IsCutAs cutting cut
+pub side-fits : (text : List ℕ) (rest : List Piece) → Fits rest text → (cutting : Cutting) (cut : Option (List ℕ × List ℕ)) → IsCutAs cutting cut
     → (sides : List (List Piece)) → sides_by rest cutting ≡ Some sides → (taken : Bool) (side result : List ℕ)
     → side_of taken text cut ≡ Some side → side ≡ result → FitsOne sides result
 side-fits text rest fits Nowhere (Some cut) are sides known taken side result is same = absurd cc
@@ -46,7 +46,7 @@ side-fits text rest fits (At first second) (Some cut) are sides known false side
     subst (λ s. FitsOne s result) (let e : first ∷ second ∷ [] ≡ sides = cc in e) (inr (inl (subst (Fits second) (let e : cut.1 ≡ result = cc in e) are.1)))
 
 -- the choice, given the side that is taken
-chosen_side-side : (o : Option (List ℕ)) (result : List ℕ) → option_and_then (λ side. present_by side (trim side)) o ≡ Some result → o ≡ Some result
+pub chosen_side-side : (o : Option (List ℕ)) (result : List ℕ) → option_and_then (λ side. present_by side (trim side)) o ≡ Some result → o ≡ Some result
 chosen_side-side None result is = absurd cc
 chosen_side-side (Some side) result is = ap (λ s. Some s) (present-is side (trim side) result is)
 
@@ -65,7 +65,7 @@ chosen_side-fits pieces text result fits sides known is = by (cut_pieces 63 piec
         (chosen_side-side (side_of (holds cut.0) cut.1 (cut_outside 58 cut.1)) result is) refl
 
 -- the choice is a part of the text
-cut-within : (set : Bytes) (mark : ℕ) (text before front rest : List ℕ) → Within set text → Within set before → cut_after (stands_outside mark) before text ≡ Some (front, rest)
+pub cut-within : (set : Bytes) (mark : ℕ) (text before front rest : List ℕ) → Within set text → Within set before → cut_after (stands_outside mark) before text ≡ Some (front, rest)
     → Within set front × Within set rest
 cut-within set mark [] before front rest is start cut = absurd cc
 cut-within set mark (b ∷ bs) before front rest is start cut =
@@ -96,7 +96,7 @@ chosen_side-within set text result within is = by (cut_once 63 text) refl is
         (chosen_side-side (side_of (holds cut.0) cut.1 (cut_outside 58 cut.1)) result same)
 
 -- the target of one of the sides
-in-one : (plan : PlanOf) (area : Area) (own place : Place) (text : List ℕ) → IsIn area own → parts_place plan own (arguments_of text) ≡ Some place
+pub in-one : (plan : PlanOf) (area : Area) (own place : Place) (text : List ℕ) → IsIn area own → parts_place plan own (arguments_of text) ≡ Some place
     → (sides : List (List Piece)) → FitsOne sides text → IsInOne (flat_map (targets area) sides) place
 in-one plan area own place text inside found [] fits = absurd fits
 in-one plan area own place text inside found (pieces ∷ more) (inl here) =

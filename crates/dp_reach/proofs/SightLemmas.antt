@@ -32,7 +32,7 @@ module _ (names : Names) where
   within-held set None held = tt
   within-held set (Some value) held = held
 
-  held-first : (maps : List Named) (name : List ℕ) → AllByRecursion (AreHeld names) maps → IsHeld (names.bytes name) (first_value maps name)
+  pub held-first : (maps : List Named) (name : List ℕ) → AllByRecursion (AreHeld names) maps → IsHeld (names.bytes name) (first_value maps name)
   held-first [] name all = tt
   held-first (m ∷ ms) name all = by (get m name) (all.0 name) (held-first ms name all.1)
     where
@@ -43,11 +43,11 @@ module _ (names : Names) where
   pub within-first : (maps : List Named) (name : List ℕ) → AllByRecursion (AreHeld names) maps → Within (names.bytes name) (value_or_empty maps name)
   within-first maps name all = within-held (names.bytes name) (first_value maps name) (held-first maps name all)
 
-each-reverse : {X : Type 0} (P : X → Type 0) (xs : List X) → AllByRecursion P xs → AllByRecursion P (reverse xs)
+pub each-reverse : {X : Type 0} (P : X → Type 0) (xs : List X) → AllByRecursion P xs → AllByRecursion P (reverse xs)
 each-reverse P [] all = tt
 each-reverse P (x ∷ xs) all = subst (AllByRecursion P) (sym (reverse-append (x ∷ []) xs)) (each-append P (reverse xs) (x ∷ []) (each-reverse P xs all.1) (all.0, tt))
 
-locals-held : (names : Names) (frames : List (Frame Place)) → AllByRecursion (λ (frame : Frame Place). AreHeld names frame.locals) frames
+pub locals-held : (names : Names) (frames : List (Frame Place)) → AllByRecursion (λ (frame : Frame Place). AreHeld names frame.locals) frames
     → AllByRecursion (AreHeld names) (map (λ (frame : Frame Place). frame.locals) frames)
 locals-held names [] all = tt
 locals-held names (frame ∷ frames) all = (all.0, locals-held names frames all.1)

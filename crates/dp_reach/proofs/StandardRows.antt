@@ -16,12 +16,12 @@ use Rattle.dp_reach.proofs.SetRow.{set-bounded}
 none-bounded : AreBounded no_names no_rows
 none-bounded name row is = absurd (none-some row is)
 
-bounded-by : (b : Bool) (own : Duties) (meaning : Row) (duties : Duties) (rows : Option Row) (row : Row) → IsBounded own meaning → ((r : Row) → rows ≡ Some r → IsBounded duties r)
+pub bounded-by : (b : Bool) (own : Duties) (meaning : Row) (duties : Duties) (rows : Option Row) (row : Row) → IsBounded own meaning → ((r : Row) → rows ≡ Some r → IsBounded duties r)
     → (if b then Some meaning else rows) ≡ Some row → IsBounded (if b then own else duties) row
 bounded-by true own meaning duties rows row here there is = subst (IsBounded own) (same_Some meaning row is) here
 bounded-by false own meaning duties rows row here there is = there row is
 
-row-bounded : (title : List ℕ) (own : Duties) (meaning : Row) (duties : List ℕ → Duties) (rows : Rows) → IsBounded own meaning → AreBounded duties rows
+pub row-bounded : (title : List ℕ) (own : Duties) (meaning : Row) (duties : List ℕ → Duties) (rows : Rows) → IsBounded own meaning → AreBounded duties rows
     → AreBounded (with_duties title own duties) (with_row title meaning rows)
 row-bounded title own meaning duties rows here there name row is = bounded-by (same_word name title) own meaning (duties name) (rows name) row here (there name) is
 

@@ -152,7 +152,7 @@ onto-within : (set : Bytes) (byte : ℕ) (parts : List (List ℕ)) → set byte 
 onto-within set byte [] here all = ((here, tt), tt)
 onto-within set byte (part ∷ parts) here all = ((here, all.0), all.1)
 
-split-within : (set : Bytes) (text before : List ℕ) → Within set text → AllByRecursion (Within set) (split_after parts_arguments before text)
+pub split-within : (set : Bytes) (text before : List ℕ) → Within set text → AllByRecursion (Within set) (split_after parts_arguments before text)
 split-within set [] before is = (tt, tt)
 split-within set (byte ∷ text) before is = by (parts_arguments before byte) (split-within set text (before ++ byte ∷ []) is.1)
   where

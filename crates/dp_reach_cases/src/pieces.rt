@@ -8,6 +8,7 @@ mod names;
 mod notation;
 mod shapes;
 mod texts;
+mod wide_duties;
 mod wide_texts;
 
 use crate::pieces::answers::{ANSWERS, Answers, HIDDEN_ANSWERS, HiddenAnswers};
@@ -17,6 +18,7 @@ use crate::pieces::entries::{ENTRIES, Entries};
 use crate::pieces::names::{NAMES, Names};
 use crate::pieces::shapes::{SHAPES, Shapes};
 use crate::pieces::texts::{TEXTS, Texts};
+use crate::pieces::wide_duties::{WIDE_OWED, WideOwed};
 use crate::pieces::wide_texts::{WIDE_TEXTS, WideTexts};
 use dp_case_tables::check;
 use std::test::Fail;
@@ -58,6 +60,12 @@ fn duties_reached_places_and_findings(rt: HostRuntime) -> Result<(), Fail> {
     check::<Reached>(rt.alloc(), REACHED)?;
     check::<Found>(rt.alloc(), FOUND)?;
     check::<Claimed>(rt.alloc(), CLAIMED)
+}
+
+/// What each application of the wide table owes because of the pieces of its arguments.
+#[test]
+fn duties_of_the_wide_table(rt: HostRuntime) -> Result<(), Fail> {
+    check::<WideOwed>(rt.alloc(), WIDE_OWED)
 }
 
 /// Which entries a call may run, or whether it may reach a context.

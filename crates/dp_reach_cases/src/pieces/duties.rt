@@ -14,21 +14,30 @@ pub(super) struct Duties;
 impl Question for Duties {
     fn answer(alloc: Global, asked: &str) -> Result<String, Fail> {
         let (application, notation) = asked.split_once('|').ok_or("no arguments")?;
-        let area = Area {
-            context: pieces_of(alloc, "from")?,
-            exten: pieces_of(alloc, "{0-9}*")?,
-        };
         let arguments = pieces_of(alloc, notation)?;
-        let owed = duties(alloc, application.as_bytes(), &area, &arguments)?;
-        let mut out = String::new(alloc);
-        for duty in &owed {
-            if !out.is_empty() {
-                out.push_str(" ; ")?;
-            }
-            push_duty(&mut out, duty)?;
-        }
-        Ok(out)
+        let owed = duties(alloc, application.as_bytes(), &area_of(alloc)?, &arguments)?;
+        told(alloc, &owed)
     }
+}
+
+/// The area in `from`, at an extension of digits.
+pub(super) fn area_of(alloc: Global) -> Result<Area, Fail> {
+    Ok(Area {
+        context: pieces_of(alloc, "from")?,
+        exten: pieces_of(alloc, "{0-9}*")?,
+    })
+}
+
+/// Duties as a line.
+pub(super) fn told(alloc: Global, owed: &[Duty]) -> Result<String, Fail> {
+    let mut out = String::new(alloc);
+    for duty in owed {
+        if !out.is_empty() {
+            out.push_str(" ; ")?;
+        }
+        push_duty(&mut out, duty)?;
+    }
+    Ok(out)
 }
 
 fn push_set(out: &mut String, of: &str, set: &ByteSet) -> Result<(), Fail> {

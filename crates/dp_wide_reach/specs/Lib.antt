@@ -1,0 +1,4 @@
+pub mod Choices
+pub mod Settings
+pub mod Subroutines
+pub mod Wide
