@@ -109,8 +109,12 @@ fn ask_from(context: &str) -> Ask<'_>
 fn filled_from(alloc: Global, files: &Files, context: &str) -> Result<IndexSet<EntryId>, NoMemory>
     ensures { IfOk result (λ filled. spec.Fills (record { plan = files.now.plan; queues = files.now.queues }) context.now filled.keys) }
 {
-    let ask = ask_from(context);
-    let entries = reached_entries::<StandardApps>(alloc, &files.plan, &files.queues, &ask)?;
+    let entries = reached_entries::<StandardApps>(
+        alloc,
+        &files.plan,
+        &files.queues,
+        &ask_from(context),
+    )?;
     let mut filled = IndexSet::new(alloc);
     add_entries(&mut filled, &entries)?;
     Ok(filled)
