@@ -1,6 +1,7 @@
 pub mod CommentsLemmas
 pub mod DirectivesLemmas
 pub mod FileMapsLemmas
+mod DigitsLemmas
 mod FolderFilesLemmas
 mod HeaderLemmas
 mod HistoryLemmas
@@ -12,5 +13,6 @@ mod PlainLemmas
 pub mod PlainFilesLemmas
 pub mod ReadingLemmas
 mod SectionLemmas
+mod SimpleLemmas
 pub mod WildcardsLemmas
 mod cases

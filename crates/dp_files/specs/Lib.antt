@@ -12,6 +12,9 @@ pub mod FolderFiles
 pub mod GeneralLines
 pub mod GeneralSteps
 pub mod Headers
+pub mod LineSteps
+pub mod LineTexts
+pub mod NameSteps
 pub mod Order
 pub mod PlainContexts
 pub mod PlainFiles

@@ -1,8 +1,12 @@
 //! Block comments, after the Asterisk documentation's page on its configuration files.
-ghost use Rattle.std.specs.Prelude.{◌≡◌, ◌<◌, ◌==◌, ◌&&◌, not, IfOk, ℕ, length};
+ghost use Rattle.std.specs.Prelude.{◌≡◌, ◌∷◌, ◌<◌, ◌≤◌, ◌==◌, ◌&&◌, [], false, true, not, IfOk, IfSome, ℕ, drop, length, slice_range};
+ghost use Rattle.dp_conf.specs.Blanks.{trim};
+ghost use Rattle.dp_conf.specs.Lines.{content_of, parts_of, without_mark};
 ghost use Rattle.dp_files.specs.Comments as spec;
+ghost use Rattle.dp_files.specs.LineSteps as steps;
 
-use dp_conf::{NoMemory, Text, first_part, opens_block, without_mark};
+use crate::line_text::{LineText, WholeText};
+use dp_conf::{NoMemory, Text, cut_once, opens_block};
 use std::alloc::Global;
 use std::marker::Model;
 
@@ -100,8 +104,32 @@ fn pass_covered<'a>(
     Ok(&text[1..])
 }
 
+/// Whether a line has no `;`. Then it has no comment, and its content is all of it, without blanks at its ends.
+fn is_plain(part: &[u8]) -> bool
+    ensures stands { (line : ℕ) → result ≡ true → spec.uncovered line [] part.now ≡ record { text = part.now; unclosed = [] } }
+    ensures content { result ≡ true → content_of part.now ≡ trim part.now }
+{
+    !part.contains(&b';')
+}
+
+/// Whether a block comment opens in a line outside block comments.
+fn begins_block(part: &[u8]) -> bool
+    ensures { (line : ℕ) → result ≡ false → spec.uncovered line [] part.now ≡ record { text = part.now; unclosed = [] } }
+{
+    let mut previous = b'\n';
+    let mut left = part;
+    while let Some((byte, rest)) = left.split_first() {
+        if begins_comment(previous, *byte) {
+            return opens_block(left);
+        }
+        previous = *byte;
+        left = rest;
+    }
+    false
+}
+
 /// The part of a line outside block comments. A comment of another kind ends the line, and stays in it.
-fn uncover_line(
+fn uncover_part(
     alloc: Global,
     line: usize,
     open: &mut OpenComments,
@@ -132,29 +160,92 @@ fn uncover_line(
     Ok(Text::new(kept))
 }
 
+/// A line of the text of a file: where it begins and ends, and where the next one begins, if there is one.
+#[derive(Clone, Copy)]
+struct LineRange {
+    start: usize,
+    end: usize,
+    next: Option<usize>,
+}
+
+/// The line that begins at a place of a text.
+fn line_from(text: &[u8], start: usize) -> LineRange
+    requires { start ≤ length text.now }
+    ensures start { result.start ≡ start }
+    ensures within { (result.start ≤ result.end) × (result.end ≤ length text.now) }
+    ensures next { IfSome result.next (λ next. (start < next) × (next ≤ length text.now)) }
+    ensures parts { parts_of (drop start text.now) ≡ slice_range text.now start result.end ∷ steps.parts_from text.now result.next }
+{
+    match cut_once(&text[start..], b'\n') {
+        None => LineRange {
+            start,
+            end: text.len(),
+            next: None,
+        },
+        Some((part, _)) => LineRange {
+            start,
+            end: start + part.len(),
+            next: Some(start + part.len() + 1),
+        },
+    }
+}
+
+/// The text of a line outside block comments. It shares the text of its file if no block comment is in it.
+fn uncover_line(
+    alloc: Global,
+    line: usize,
+    open: &mut OpenComments,
+    whole: &WholeText,
+    range: LineRange,
+) -> Result<LineText, NoMemory>
+    requires { (range.start ≤ range.end) × (range.end ≤ length whole.now) }
+    ensures { IfOk result (λ text. spec.uncovered line open.old (slice_range whole.now range.start range.end)
+        ≡ record { text = text; unclosed = open.new }) }
+{
+    let part = &whole.bytes()[range.start..range.end];
+    let is_plain = is_plain(part);
+    if open.is_empty() && (is_plain || !begins_block(part)) {
+        return whole.cut(range.start, range.end, is_plain);
+    }
+    let text = uncover_part(alloc, line, open, part)?;
+    Ok(LineText::new(text))
+}
+
 /// The lines of a file.
 #[derive(Drop)]
 pub(crate) struct FileLines {
     /// The lines in order, without their block comments.
-    pub(crate) texts: Vec<Text>,
+    pub(crate) texts: Vec<LineText>,
     /// The line of the innermost opening, counted from 1, if block comments are open at the end of the file.
     pub(crate) open_comment: Option<usize>,
 }
 
+/// The number of bytes of the byte order mark at the start of a text.
+fn mark_length(text: &[u8]) -> usize
+    ensures mark { without_mark text.now ≡ drop result text.now }
+    ensures within { result ≤ length text.now }
+{
+    if text.starts_with(b"\xEF\xBB\xBF") {
+        3
+    } else {
+        0
+    }
+}
+
 /// The lines of the text of a file without their block comments. A byte order mark at the start is left out.
-pub(crate) fn file_lines(alloc: Global, text: &[u8]) -> Result<FileLines, NoMemory>
+pub(crate) fn file_lines(alloc: Global, text: &WholeText) -> Result<FileLines, NoMemory>
     ensures { IfOk result (λ lines. spec.file_lines text.now ≡ record { texts = lines.texts.items; open_comment = lines.open_comment }) }
 {
     let mut texts = Vec::new(alloc);
     let mut open = OpenComments::new(alloc);
     let mut line: usize = 0;
-    let mut rest = Some(without_mark(text));
-    while let Some(left) = rest {
-        let (part, after) = first_part(left);
+    let mut next = Some(mark_length(text.bytes()));
+    while let Some(start) = next {
+        let range = line_from(text.bytes(), start);
         line += 1;
-        let kept = uncover_line(alloc, line, &mut open, part)?;
+        let kept = uncover_line(alloc, line, &mut open, text, range)?;
         texts.push(kept)?;
-        rest = after;
+        next = range.next;
     }
     Ok(FileLines {
         texts,

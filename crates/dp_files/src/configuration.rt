@@ -40,7 +40,7 @@ fn push_section(
         return Ok(());
     }
     push_header(alloc, made, lines, section.header)?;
-    push_all_standing(alloc, made, lines, section.lines.as_slice())
+    push_all_standing(made, lines, section.lines.as_slice())
 }
 
 /// The lines of all sections, without those of templates.

@@ -6,6 +6,7 @@ ghost use Rattle.dp_files.specs.PlainContexts.{PlainLinesStand};
 
 use crate::history::History;
 use crate::line_reading::make_line;
+use crate::line_text::LineText;
 use crate::made_text::MadeText;
 use crate::source_line::SourceLine;
 use dp_conf::NoMemory;
@@ -20,7 +21,7 @@ struct ContextReader {
 
 impl ContextReader {
     /// Reads a line.
-    fn read_line(&mut self, alloc: Global, place: usize, line: &[u8]) -> Result<(), NoMemory>
+    fn read_line(&mut self, alloc: Global, place: usize, line: &LineText) -> Result<(), NoMemory>
         ensures { OnOk result ((rest : List (ℕ × List ℕ)) → steps.told self.new rest
             ≡ steps.told self.old ((place, line.now) ∷ rest)) }
     {
@@ -40,7 +41,7 @@ impl ContextReader {
             ≡ steps.told self.old (spec.line_at place (slice_get lines.now place) ++ rest)) }
     {
         match lines.get(place) {
-            Some(line) => self.read_line(alloc, place, line.text.bytes()),
+            Some(line) => self.read_line(alloc, place, &line.text),
             None => Ok(()),
         }
     }

@@ -5,10 +5,11 @@ ghost use Rattle.dp_files.specs.DialplanText as spec;
 use crate::context_text::read_context;
 use crate::general_text::read_general;
 use crate::header::header_text;
+use crate::line_text::LineText;
 use crate::made_text::MadeText;
 use crate::sections::SourceSection;
 use crate::source_line::{MadeLine, SourceLine};
-use dp_conf::{NoMemory, Text, same_word};
+use dp_conf::{NoMemory, same_word};
 use std::alloc::Global;
 
 /// Whether a section has settings for the whole dialplan: `[general]`.
@@ -36,7 +37,7 @@ fn push_header_at(
 {
     match lines.get(source) {
         Some(line) => {
-            let text = header_text(alloc, line.text.bytes())?;
+            let text = LineText::new(header_text(alloc, line.text.bytes())?);
             made.push(MadeLine { source, text })?;
             Ok(())
         }
@@ -61,7 +62,6 @@ pub(crate) fn push_header(
 
 /// Adds the line at a place unchanged, if there is a line.
 fn push_standing(
-    alloc: Global,
     made: &mut Vec<MadeLine>,
     lines: &[SourceLine],
     source: usize,
@@ -70,7 +70,7 @@ fn push_standing(
 {
     match lines.get(source) {
         Some(line) => {
-            let text = Text::copy_of(alloc, line.text.bytes())?;
+            let text = line.text.clone()?;
             made.push(MadeLine { source, text })?;
             Ok(())
         }
@@ -80,7 +80,6 @@ fn push_standing(
 
 /// Adds the lines at some places unchanged.
 pub(crate) fn push_all_standing(
-    alloc: Global,
     made: &mut Vec<MadeLine>,
     lines: &[SourceLine],
     places: &[usize],
@@ -88,7 +87,7 @@ pub(crate) fn push_all_standing(
     ensures { OnOk result (made.new.items ≡ made.old.items ++ spec.standing lines.now places.now) }
 {
     for source in places {
-        push_standing(alloc, made, lines, *source)?;
+        push_standing(made, lines, *source)?;
     }
     Ok(())
 }
@@ -115,7 +114,7 @@ impl MadeText {
             return self.append(general);
         }
         if is_without_entries(section) {
-            return push_all_standing(alloc, &mut self.lines, lines, places);
+            return push_all_standing(&mut self.lines, lines, places);
         }
         let context = read_context(alloc, lines, places)?;
         self.append(context)

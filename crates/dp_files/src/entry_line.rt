@@ -6,6 +6,7 @@ ghost use Rattle.dp_files.specs.ContextSteps as steps;
 ghost use Rattle.dp_files.specs.PriorityView as view;
 
 use crate::extension::Extension;
+use crate::line_text::LineText;
 use crate::priority::{Base, Priority, Written};
 use dp_conf::{NoMemory, Text, escape};
 use itoa::Buffer;
@@ -128,15 +129,15 @@ impl NumberedLine<'_, '_> {
     }
 
     /// The text made from the line.
-    pub(crate) fn text(&self, alloc: Global, line: &[u8]) -> Result<Text, NoMemory>
+    pub(crate) fn text(&self, alloc: Global, line: &LineText) -> Result<LineText, NoMemory>
         ensures { IfOk result (λ text. text ≡ spec.entry_text self.now.is_after_hint line.now
             (steps.entry_now self.now.entry) self.now.number (option_map (λ label. label.now) self.now.label)) }
     {
         if self.needs_no_change() {
-            return Text::copy_of(alloc, line);
+            return line.clone();
         }
         let content = self.content(alloc)?;
         let text = escape(alloc, &content)?;
-        Ok(Text::new(text))
+        Ok(LineText::new(Text::new(text)))
     }
 }

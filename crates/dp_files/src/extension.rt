@@ -1,12 +1,16 @@
 //! The extension that a line names.
-ghost use Rattle.std.specs.Prelude.{◌≡◌, IfOk};
+ghost use Rattle.std.specs.Prelude.{◌≡◌, IfOk, Some, true};
+ghost use Rattle.std.specs.List.{list_all};
 ghost use Rattle.std.specs.Option.{is_some};
 ghost use Rattle.dp_conf.specs.Groups.{opening};
 ghost use Rattle.dp_files.specs.ContextHistory as spec;
+ghost use Rattle.dp_files.specs.NameSteps.{is_simple};
 ghost use Rattle.dp_pattern.specs.Name.{meaning_of};
+ghost use Rattle.dp_pattern.specs.Spelling.{spelling};
 
-use dp_conf::{NoMemory, Text};
-use dp_pattern::{Name, PatternFault};
+use crate::short_text::ShortText;
+use dp_conf::NoMemory;
+use dp_pattern::{Name, Parts, PatternFault};
 use std::alloc::Global;
 
 /// An extension: its name as written in a line, and the spelling that all names of the extension share.
@@ -15,8 +19,8 @@ use std::alloc::Global;
 /// is another.
 #[derive(Drop)]
 pub(crate) struct Extension {
-    pub(crate) name: Text,
-    pub(crate) spelling: Text,
+    pub(crate) name: ShortText,
+    pub(crate) spelling: ShortText,
 }
 
 /// Whether a byte opens a group, given the bytes after it.
@@ -47,7 +51,7 @@ pub fn has_group(text: &[u8]) -> bool
 pub(crate) fn has_caller(name: &[u8]) -> bool
     ensures { result ≡ spec.has_caller name.now }
 {
-    !has_group(name) && name.contains(&b'/')
+    name.contains(&b'/') && !has_group(name)
 }
 
 /// Whether only the text of the name is known: it has a group, or a caller's number.
@@ -57,22 +61,57 @@ fn is_known_by_text(name: &[u8]) -> bool
     has_group(name) || has_caller(name)
 }
 
+/// Whether a byte means itself wherever it stands in a name.
+fn is_simple_byte(byte: u8) -> bool
+    ensures { result ≡ is_simple byte }
+{
+    byte > b'/' && byte != b'\\' && byte != b'_' && byte != 127
+}
+
+/// Whether a text has only such bytes.
+fn has_simple_bytes(text: &[u8]) -> bool
+    ensures { result ≡ list_all is_simple text.now }
+{
+    text.iter().all(|byte| is_simple_byte(*byte))
+}
+
+/// Whether the text is a name that is its own spelling, as most names are: it has only bytes that mean themselves.
+fn is_spelled(name: &[u8]) -> bool
+    ensures { result ≡ true → spec.extension_of name.now ≡ Some (record { name = name.now; spelling = name.now }) }
+{
+    !name.is_empty() && has_simple_bytes(name)
+}
+
+/// The canonical spelling of a name.
+#[tactic(auto, unfolding(dp_pattern::specs::Spelling::spelling))]
+fn spelled(alloc: Global, name: &Name) -> Result<ShortText, NoMemory>
+    ensures { IfOk result (λ text. text ≡ spelling name.now) }
+{
+    match name.parts() {
+        Parts::Plain(text) => ShortText::copy_of(alloc, text),
+        Parts::Pattern(_, _) => {
+            let text = name.text(alloc)?;
+            ShortText::copy_of(alloc, &text)
+        }
+    }
+}
+
 impl Extension {
     /// A copy of the extension.
     pub(crate) fn copy(&self) -> Result<Self, NoMemory>
         ensures { IfOk result (λ copy. copy ≡ self.now) }
     {
-        let name = self.name.clone()?;
-        let spelling = self.spelling.clone()?;
+        let name = self.name.copy()?;
+        let spelling = self.spelling.copy()?;
         Ok(Extension { name, spelling })
     }
 
-    /// The extension of a name of which only the text is known.
+    /// The extension of a name that is spelled as it is written, or of which only the text is known.
     fn of_text(alloc: Global, name: &[u8]) -> Result<Self, NoMemory>
         ensures { IfOk result (λ extension. (extension.name ≡ name.now) × (extension.spelling ≡ name.now)) }
     {
-        let spelling = Text::copy_of(alloc, name)?;
-        let name = Text::copy_of(alloc, name)?;
+        let spelling = ShortText::copy_of(alloc, name)?;
+        let name = ShortText::copy_of(alloc, name)?;
         Ok(Extension { name, spelling })
     }
 
@@ -82,8 +121,8 @@ impl Extension {
     {
         match Name::read(alloc, text) {
             Ok(meaning) => {
-                let spelling = Text::new(meaning.text(alloc)?);
-                let name = Text::copy_of(alloc, text)?;
+                let spelling = spelled(alloc, &meaning)?;
+                let name = ShortText::copy_of(alloc, text)?;
                 Ok(Some(Extension { name, spelling }))
             }
             Err(PatternFault::Name(_)) => Ok(None),
@@ -92,8 +131,19 @@ impl Extension {
     }
 
     /// The extension of a name, if the text is one.
-    #[tactic(auto, unfolding(crate::specs::ContextHistory::extension_of))]
     pub(crate) fn read(alloc: Global, name: &[u8]) -> Result<Option<Self>, NoMemory>
+        ensures { IfOk result (λ extension. extension ≡ spec.extension_of name.now) }
+    {
+        if is_spelled(name) {
+            let extension = Extension::of_text(alloc, name)?;
+            return Ok(Some(extension));
+        }
+        Extension::read_any(alloc, name)
+    }
+
+    /// The extension of a name, if the text is one, however it is spelled.
+    #[tactic(auto, unfolding(crate::specs::ContextHistory::extension_of))]
+    fn read_any(alloc: Global, name: &[u8]) -> Result<Option<Self>, NoMemory>
         ensures { IfOk result (λ extension. extension ≡ spec.extension_of name.now) }
     {
         if is_known_by_text(name) {

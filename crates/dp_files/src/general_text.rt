@@ -7,10 +7,11 @@ ghost use Rattle.dp_files.specs.GeneralSteps as steps;
 
 use crate::context_line::after_sign;
 use crate::line_reading::Made;
+use crate::line_text::LineText;
 use crate::made_text::MadeText;
 use crate::remark::{Note, RemarkKind};
 use crate::source_line::SourceLine;
-use dp_conf::{NoMemory, cut_once, line_content, same_word, trim};
+use dp_conf::{NoMemory, cut_once, same_word, trim};
 use std::alloc::Global;
 
 /// Whether Asterisk takes the value as true.
@@ -37,18 +38,23 @@ fn turns_off(content: &[u8]) -> bool
 
 /// The result of a line.
 #[tactic(auto, unfolding(crate::specs::GeneralLines::general_made))]
-fn make_general(alloc: Global, line: &[u8]) -> Result<Made, NoMemory>
+fn make_general(alloc: Global, line: &LineText) -> Result<Made, NoMemory>
     ensures { IfOk result (λ made. made ≡ spec.general_made line.now) }
 {
-    let content = line_content(alloc, line)?;
+    let content = line.content(alloc)?;
     if turns_off(content.bytes()) {
         return Ok(Made::remark(RemarkKind::Note(Note::AutoFallThrough)));
     }
-    Made::standing(alloc, line)
+    Made::standing(line)
 }
 
 /// Adds the result of a line.
-fn read_line(alloc: Global, text: &mut MadeText, place: usize, line: &[u8]) -> Result<(), NoMemory>
+fn read_line(
+    alloc: Global,
+    text: &mut MadeText,
+    place: usize,
+    line: &LineText,
+) -> Result<(), NoMemory>
     ensures { OnOk result ((rest : List (ℕ × List ℕ)) → steps.told text.new rest
         ≡ steps.told text.old ((place, line.now) ∷ rest)) }
 {
@@ -68,7 +74,7 @@ fn read_place(
         ≡ steps.told text.old (line_at place (slice_get lines.now place) ++ rest)) }
 {
     match lines.get(place) {
-        Some(line) => read_line(alloc, text, place, line.text.bytes()),
+        Some(line) => read_line(alloc, text, place, &line.text),
         None => Ok(()),
     }
 }

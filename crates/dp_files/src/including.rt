@@ -6,11 +6,12 @@ ghost use Rattle.dp_files.specs.Sources.{Files, Telling};
 
 use crate::comments::{FileLines, file_lines};
 use crate::directive::{Directive, read_directive};
+use crate::line_text::{LineText, WholeText};
 use crate::reading::Reading;
 use crate::remark::{Fault, Note, RemarkKind};
 use crate::source::{FileText, Source};
 use crate::wildcard::is_wildcard;
-use dp_conf::{LineKind, NoMemory, Text, line_content};
+use dp_conf::{LineKind, NoMemory, Text};
 use std::alloc::Global;
 use std::marker::PhantomData;
 
@@ -30,7 +31,7 @@ pub(crate) struct FileRead<'a> {
     pub(crate) name: &'a [u8],
     /// The place of the line that includes the file.
     pub(crate) included_by: Option<usize>,
-    pub(crate) text: &'a [u8],
+    pub(crate) text: &'a WholeText,
 }
 
 /// A line of a file.
@@ -40,7 +41,7 @@ struct LineRead<'a> {
     line: usize,
     /// Whether it has the innermost opening of the block comments that are open at the end of the file.
     opens: bool,
-    text: &'a [u8],
+    text: &'a LineText,
 }
 
 /// How the files requested by a line are read. The type says how deep they may be nested.
@@ -178,10 +179,11 @@ fn include_name<S: Source, I: Including<S>>(
             return Ok(());
         }
     };
+    let text = WholeText::new(alloc, text)?;
     let file = FileRead {
         name,
         included_by: Some(request.place),
-        text: text.as_slice(),
+        text: &text,
     };
     include_file::<S, I>(alloc, source, reading, request.place, file)?;
     Ok(())
@@ -222,7 +224,7 @@ pub(crate) fn read_file<S: Source, I: Including<S>>(
     ensures kept { (has : Files) → S.agrees source.new has → S.agrees source.old has }
     ensures same { (told : Telling) → S.may_tell source.new told → S.may_tell source.old told }
 {
-    let number = reading.open_file(alloc, file.name, file.included_by, file.text.len())?;
+    let number = reading.open_file(alloc, file.name, file.included_by, file.text.bytes().len())?;
     let lines = file_lines(alloc, file.text)?;
     read_lines::<S, I>(alloc, source, reading, number, &lines)?;
     Ok(())
@@ -256,7 +258,7 @@ fn read_lines<S: Source, I: Including<S>>(
             file,
             line: at + 1,
             opens: is_open_at(lines.open_comment, at + 1),
-            text: text.bytes(),
+            text,
         };
         read_line::<S, I>(alloc, source, reading, line)?;
     }
@@ -276,9 +278,9 @@ fn read_line<S: Source, I: Including<S>>(
     ensures kept { (has : Files) → S.agrees source.new has → S.agrees source.old has }
     ensures same { (told : Telling) → S.may_tell source.new told → S.may_tell source.old told }
 {
-    let place = reading.add_line(alloc, line.file, line.line, line.text)?;
+    let place = reading.add_line(line.file, line.line, line.text)?;
     reading.note_comment(line.opens, place)?;
-    let content = line_content(alloc, line.text)?;
+    let content = line.text.content(alloc)?;
     follow_line::<S, I>(alloc, source, reading, place, content.bytes())?;
     Ok(())
 }

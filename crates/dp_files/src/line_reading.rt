@@ -10,16 +10,17 @@ use crate::context_line::{ContextLine, EntryText, is_old_form, read_context_line
 use crate::entry_line::{EntryLine, NumberedLine};
 use crate::extension::{Extension, has_caller};
 use crate::history::{History, Leaves};
+use crate::line_text::LineText;
 use crate::outcome::{Outcome, outcome_of};
 use crate::priority::read_priority;
 use crate::remark::{Fault, Note, RemarkKind};
-use dp_conf::{NoMemory, Text, beside, line_content};
+use dp_conf::{NoMemory, beside};
 use std::alloc::Global;
 
 /// The result of a line: a text, unless the line is left out, and a remark, if there is one.
 #[derive(Drop)]
 pub(crate) struct Made {
-    pub(crate) text: Option<Text>,
+    pub(crate) text: Option<LineText>,
     pub(crate) remark: Option<RemarkKind>,
 }
 
@@ -32,10 +33,10 @@ pub(crate) struct Reading<'a> {
 
 impl Made {
     /// The line unchanged.
-    pub(crate) fn standing(alloc: Global, line: &[u8]) -> Result<Self, NoMemory>
+    pub(crate) fn standing(line: &LineText) -> Result<Self, NoMemory>
         ensures { IfOk result (λ made. made ≡ (spec.stands line.now).made) }
     {
-        let text = Text::copy_of(alloc, line)?;
+        let text = line.clone()?;
         Ok(Made {
             text: Some(text),
             remark: None,
@@ -99,7 +100,7 @@ fn caller_leaves(outcome: Outcome, label: Option<&[u8]>) -> Leaves<'_>
 #[tactic(auto, unfolding(crate::specs::ContextLines::numbered_reading))]
 fn numbered_reading<'a>(
     alloc: Global,
-    line: &[u8],
+    line: &LineText,
     numbered: &NumberedLine<'a, '_>,
 ) -> Result<Reading<'a>, NoMemory>
     ensures { IfOk result (λ reading.
@@ -138,10 +139,10 @@ fn left_out<'a>(leaves: Leaves<'a>, note: Note) -> Reading<'a>
 }
 
 /// A line of an extension, unchanged.
-fn standing(alloc: Global, line: &[u8]) -> Result<Reading<'static>, NoMemory>
+fn standing(line: &LineText) -> Result<Reading<'static>, NoMemory>
     ensures { IfOk result (λ reading. (extension : Extension) → steps.reading_now extension reading ≡ spec.stands line.now) }
 {
-    let made = Made::standing(alloc, line)?;
+    let made = Made::standing(line)?;
     Ok(Reading {
         leaves: Leaves::Nothing,
         made,
@@ -159,7 +160,7 @@ struct KeptLine<'a, 'e> {
 /// The reading of an entry whose extension has no caller's number.
 fn plain_reading<'a>(
     alloc: Global,
-    line: &[u8],
+    line: &LineText,
     kept: &KeptLine<'a, '_>,
     outcome: Outcome,
 ) -> Result<Reading<'a>, NoMemory>
@@ -168,7 +169,7 @@ fn plain_reading<'a>(
         (option_map (λ label. label.now) kept.now.label) outcome) }
 {
     match outcome {
-        Outcome::Refused => standing(alloc, line),
+        Outcome::Refused => standing(line),
         Outcome::Hinted => Ok(left_out(Leaves::Hints, Note::Hint)),
         Outcome::AfterTheHint => Ok(left_out(Leaves::Names, Note::AfterHint)),
         Outcome::Numbered(number) => {
@@ -188,7 +189,7 @@ fn plain_reading<'a>(
 fn entry_reading<'a>(
     alloc: Global,
     history: &History,
-    line: &[u8],
+    line: &LineText,
     entry: EntryLine<'a, '_>,
 ) -> Result<Reading<'a>, NoMemory>
     ensures { IfOk result (λ reading. steps.reading_now entry.entry.extension.now reading
@@ -211,7 +212,7 @@ fn entry_reading<'a>(
 /// The line of an entry, given as its texts, whose extension may not be valid.
 #[derive(Clone, Copy)]
 struct EntrySource<'a> {
-    line: &'a [u8],
+    line: &'a LineText,
     is_same: bool,
     text: EntryText<'a>,
 }
@@ -250,19 +251,23 @@ fn make_known(
         (steps.source_reading (steps.history_in history.old) extension source.entry).said) }
 {
     match extension {
-        None => Made::standing(alloc, source.line),
+        None => Made::standing(source.line),
         Some(extension) => make_entry(alloc, history, extension, source),
     }
 }
 
 /// Makes a line of a context, and adds what it leaves for those after it.
 #[tactic(auto, unfolding(crate::specs::ContextLines::line_reading))]
-pub(crate) fn make_line(alloc: Global, history: &mut History, line: &[u8]) -> Result<Made, NoMemory>
+pub(crate) fn make_line(
+    alloc: Global,
+    history: &mut History,
+    line: &LineText,
+) -> Result<Made, NoMemory>
     ensures made { IfOk result (λ made. made ≡ (spec.line_reading (steps.history_in history.old) line.now).made) }
     ensures said { OnOk result (steps.history_in history.new ≡ steps.after (steps.history_in history.old)
         (spec.line_reading (steps.history_in history.old) line.now).said) }
 {
-    let content = line_content(alloc, line)?;
+    let content = line.content(alloc)?;
     match read_context_line(content.bytes()) {
         ContextLine::Exten { name, entry } => {
             let extension = Extension::read(alloc, name)?;
@@ -283,6 +288,6 @@ pub(crate) fn make_line(alloc: Global, history: &mut History, line: &[u8]) -> Re
             make_known(alloc, history, extension, source)
         }
         ContextLine::LeftOut(note) => Ok(Made::remark(RemarkKind::Note(note))),
-        ContextLine::Other => Made::standing(alloc, line),
+        ContextLine::Other => Made::standing(line),
     }
 }

@@ -4,9 +4,10 @@ ghost use Rattle.dp_files.specs.ContextLines as spec;
 ghost use Rattle.dp_files.specs.ToldSteps as steps;
 
 use crate::line_reading::Made;
+use crate::line_text::LineText;
 use crate::remark::{Remark, RemarkKind};
 use crate::source_line::MadeLine;
-use dp_conf::{NoMemory, Text};
+use dp_conf::NoMemory;
 use std::alloc::Global;
 
 /// Lines for the loader, made from those of one section or of all sections, and the remarks on these, both in order.
@@ -17,7 +18,11 @@ pub struct MadeText {
 }
 
 /// Adds the text of a line, if there is one.
-fn push_text(lines: &mut Vec<MadeLine>, source: usize, text: Option<Text>) -> Result<(), NoMemory>
+fn push_text(
+    lines: &mut Vec<MadeLine>,
+    source: usize,
+    text: Option<LineText>,
+) -> Result<(), NoMemory>
     ensures { OnOk result (lines.new.items ≡ lines.old.items ++ steps.line_of source text) }
 {
     match text {

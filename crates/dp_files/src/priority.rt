@@ -190,9 +190,33 @@ fn read_labelled<'a>(written: &'a [u8], label: &'a [u8]) -> Option<Priority<'a>>
     }
 }
 
+/// The priority that is a number alone.
+fn plain_priority(number: u64) -> Option<Priority<'static>>
+    ensures { option_map view.priority_now result ≡ option_map (λ base. record { written = spec.Counted base None; label = None }) (spec.number_base number) }
+{
+    match number_base(number) {
+        Some(base) => Some(Priority {
+            written: Written::Counted { base, more: None },
+            label: None,
+        }),
+        None => None,
+    }
+}
+
 /// The priority that the text writes, or None if it is malformed.
-#[tactic(auto, unfolding(crate::specs::Priorities::priority_of))]
 pub(crate) fn read_priority(text: &[u8]) -> Option<Priority<'_>>
+    ensures { option_map view.priority_now result ≡ spec.priority_of text.now }
+{
+    // Most priorities are numbers alone.
+    if let Some(number) = read_number(text) {
+        return plain_priority(number);
+    }
+    read_words(text)
+}
+
+/// The priority that the text writes, or None if it is malformed, however it is written.
+#[tactic(auto, unfolding(crate::specs::Priorities::priority_of))]
+fn read_words(text: &[u8]) -> Option<Priority<'_>>
     ensures { option_map view.priority_now result ≡ spec.priority_of text.now }
 {
     if let Some((written, label)) = cut_once(text, b'(') {

@@ -5,6 +5,7 @@ ghost use Rattle.dp_files.specs.Reading as spec;
 ghost use Rattle.dp_files.specs.Sources.{Files, Telling};
 
 use crate::including::{FileRead, First, read_file};
+use crate::line_text::{LineText, WholeText};
 use crate::remark::{Fault, Note, Remark, RemarkKind};
 use crate::source::{FileText, Source};
 use crate::source_line::{SourceFile, SourceLine};
@@ -135,16 +136,15 @@ impl Reading {
     /// Adds a line of a file, and returns its place.
     pub(crate) fn add_line(
         &mut self,
-        alloc: Global,
         file: usize,
         line: usize,
-        text: &[u8],
+        text: &LineText,
     ) -> Result<usize, NoMemory>
         ensures place { IfOk result (λ place. place ≡ length self.old.lines) }
         ensures line { OnOk result (self.new ≡ spec.with_line file line text.now self.old) }
     {
         let place = self.lines.len();
-        let text = Text::copy_of(alloc, text)?;
+        let text = text.clone()?;
         self.lines.push(SourceLine { file, line, text })?;
         Ok(place)
     }
@@ -190,7 +190,7 @@ fn read_first<S: Source>(
     alloc: Global,
     source: &mut S,
     name: &[u8],
-    text: &[u8],
+    text: &WholeText,
 ) -> Result<FilesRead, NoMemory>
     ensures read { IfOk result (λ read. (has : Files) → S.agrees source.new has
         → spec.files_read read ≡ spec.files_of (spec.after_file (spec.including_first has) name.now None text.now spec.nothing_read)) }
@@ -231,7 +231,8 @@ pub fn read_files<S: Source>(
 {
     match source.read(alloc, name, MOST_BYTES)? {
         FileText::Bytes(text) => {
-            let read = read_first(alloc, source, name, text.as_slice())?;
+            let text = WholeText::new(alloc, text)?;
+            let read = read_first(alloc, source, name, &text)?;
             Ok(read)
         }
         FileText::Absent => Err(ReadingFault::NotFound),

@@ -1,9 +1,9 @@
 //! The sections in the lines of files, after the Asterisk documentation's pages on configuration files: on their format, on includes and on
 //! templates.
-ghost use Rattle.std.specs.Prelude.{◌≡◌, ◌≤◌, ◌++◌, ◌∷◌, [], IfOk, OnOk, IfSome, Ok, Some, None, map, vec_len};
+ghost use Rattle.std.specs.Prelude.{◌≡◌, ◌≤◌, ◌++◌, ◌∷◌, [], IfOk, OnOk, IfSome, Ok, Some, None, is_ok, map, true, vec_len};
 ghost use Rattle.std.specs.Option.{option_map, option_zip};
 ghost use Rattle.dp_conf.specs.Changes.{changed_at};
-ghost use Rattle.dp_conf.specs.Lines.{content_of};
+ghost use Rattle.dp_conf.specs.Lines.{content_of, item_of};
 ghost use Rattle.dp_files.specs.Headers as headers;
 ghost use Rattle.dp_files.specs.SectionParts as parts;
 ghost use Rattle.dp_files.specs.Sections as spec;
@@ -11,7 +11,7 @@ ghost use Rattle.dp_files.specs.Sections as spec;
 use crate::header::{SectionHeader, parents_of, read_header};
 use crate::remark::{Fault, Remark, RemarkKind};
 use crate::source_line::{SourceFile, SourceLine};
-use dp_conf::{ConfFault, LineKind, NoMemory, Text, line_content, read_line, same_word};
+use dp_conf::{ConfFault, LineKind, NoMemory, Text, read_line, same_word};
 use std::alloc::Global;
 use std::marker::Model;
 
@@ -377,6 +377,16 @@ fn take_header_line(
     }
 }
 
+/// Whether a content is that of a pair: it begins with neither `[` nor `#`, and has a `=`.
+fn is_pair(content: &[u8]) -> bool
+    ensures { result ≡ true → is_ok (item_of true 0 content.now) ≡ true }
+{
+    match content.split_first() {
+        Some((byte, _)) => *byte != b'[' && *byte != b'#' && content.contains(&b'='),
+        None => false,
+    }
+}
+
 /// Takes a line that is neither a header nor a directive.
 #[tactic(auto, unfolding(crate::specs::Sections::after_item))]
 fn take_plain_line(
@@ -388,6 +398,10 @@ fn take_plain_line(
     ensures { OnOk result (spec.after_plain_line place current content.now (parts.reading_now reading.old)
         ≡ (parts.reading_now reading.new, current)) }
 {
+    // Most lines are pairs, and the search for a single byte is faster than reading one.
+    if current != 0 && is_pair(content) {
+        return add_lines(&mut reading.sections, current, &[place]);
+    }
     match read_line(0, current != 0, content) {
         Ok(_) => add_lines(&mut reading.sections, current, &[place])?,
         Err(ConfFault::At { line: _, kind }) => {
@@ -481,7 +495,7 @@ fn take_line(
     ensures { OnOk result (spec.with_open line.now.file
         (spec.after_content place current (content_of line.now.text) (parts.reading_now reading.old)) ≡ parts.reading_now reading.new) }
 {
-    let content = line_content(alloc, line.text.bytes())?;
+    let content = line.text.content(alloc)?;
     let after = take_content(alloc, reading, place, current, content.bytes())?;
     keep_open(&mut reading.open_in, line.file, after);
     Ok(())

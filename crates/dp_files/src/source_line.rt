@@ -1,5 +1,6 @@
 //! The lines of the files that were read, and the lines made from them.
 
+use crate::line_text::LineText;
 use dp_conf::Text;
 
 /// An opened file. Files are numbered from 0 in the order in which they are opened; one that is opened twice has two numbers.
@@ -19,7 +20,7 @@ pub struct SourceLine {
     /// Its number in the file, counted from 1.
     pub line: usize,
     /// Its bytes, without those in block comments.
-    pub text: Text,
+    pub text: LineText,
 }
 
 /// A line of the text that is made.
@@ -28,5 +29,5 @@ pub struct MadeLine {
     /// The place, among the lines of all files, of the line from which it is made.
     pub source: usize,
     /// Its bytes.
-    pub text: Text,
+    pub text: LineText,
 }

@@ -1,3 +1,4 @@
+mod GlanceLemmas
 mod LoadingLemmas
 mod MacroLemmas
 mod PlainLemmas

@@ -1,9 +1,10 @@
 //! Expands names with groups by the global variables, as Asterisk does when it reads the line of an entry or of an include.
-ghost use Rattle.std.specs.Prelude.{◌≡◌, ◌++◌, ◌∷◌, [], None, true, false, IfOk, OnOk};
+ghost use Rattle.std.specs.Prelude.{◌≡◌, ◌==◌, ◌&&◌, ◌++◌, ◌∷◌, [], None, true, false, not, IfOk, OnOk};
 ghost use Rattle.std.specs.FinMap.{empty};
+ghost use Rattle.std.specs.List.{list_any};
 ghost use Rattle.std.specs.Option.{option_map, option_to_list};
 ghost use Rattle.dp_conf.specs.Borrowed.{lines_now};
-ghost use Rattle.dp_conf.specs.Cut.{cut_once};
+ghost use Rattle.dp_conf.specs.Cut.{begins_with, cut_once};
 ghost use Rattle.dp_conf.specs.Lines.{item_of};
 ghost use Rattle.dp_plan.specs.Loaded.{plan_and_notes};
 ghost use Rattle.dp_notices.specs.GroupNames as spec;
@@ -11,10 +12,8 @@ ghost use Rattle.dp_notices.specs.GroupNames as spec;
 use crate::line_notices::NoticeAt;
 use crate::loading::copy_faultless;
 use crate::notice::{Notice, NoticeFault};
-use dp_conf::{
-    ConfFault, Line, NoMemory, Text, cut_once, escape, line_content, read_line, same_word, trim,
-};
-use dp_files::{MadeLine, Note, has_group, text_of};
+use dp_conf::{ConfFault, Line, NoMemory, Text, cut_once, escape, read_line, same_word, trim};
+use dp_files::{LineText, MadeLine, Note, has_group, text_of};
 use dp_machine::expand_by_globals;
 use dp_plan::{Dialplan, GlobalVariable, LoadFault, PlanKind, Word};
 use dp_vars::{Expanded, Globals};
@@ -27,7 +26,7 @@ pub(crate) enum Naming {
     /// The line has no name with a group.
     Stands,
     /// The line with the expanded name.
-    Renamed(Text),
+    Renamed(LineText),
     /// The line is left out, with this notice.
     LeftOut(Notice),
 }
@@ -125,17 +124,49 @@ struct Glance {
     within: bool,
 }
 
-/// What a line says to a pass over lines, given whether it belongs to a context.
-fn glance_at(alloc: Global, within: bool, text: &[u8]) -> Result<Glance, NoMemory>
-    ensures grouped { IfOk result (λ glance. glance.is_grouped ≡ spec.has_grouped within (spec.items_in text.now)) }
-    ensures within { IfOk result (λ glance. glance.within ≡ spec.within_after within (spec.items_in text.now)) }
+/// Whether a content begins as a header does.
+fn begins_header(content: &[u8]) -> bool
+    ensures { result ≡ begins_with 91 content.now }
 {
-    let content = line_content(alloc, text)?;
-    let item = read_item(content.bytes())?;
+    match content.first() {
+        Some(byte) => *byte == b'[',
+        None => false,
+    }
+}
+
+/// Whether a content is not that of a header and has no `$`. It says nothing to a pass over lines.
+fn is_passed(content: &[u8]) -> bool
+    ensures { result ≡ (not (begins_with 91 content.now) && not (list_any (λ b. b == 36) content.now)) }
+{
+    !begins_header(content) && !content.contains(&b'$')
+}
+
+/// What the content of a line says to a pass over lines, given whether the line belongs to a context.
+fn glance_in(within: bool, content: &[u8]) -> Result<Glance, NoMemory>
+    ensures grouped { IfOk result (λ glance. glance.is_grouped ≡ spec.has_grouped within (spec.items_of (item_of true 0 content.now))) }
+    ensures within { IfOk result (λ glance. glance.within ≡ spec.within_after within (spec.items_of (item_of true 0 content.now))) }
+{
+    // The search for a single byte is faster than reading the item.
+    if is_passed(content) {
+        return Ok(Glance {
+            is_grouped: false,
+            within,
+        });
+    }
+    let item = read_item(content)?;
     Ok(Glance {
         is_grouped: has_grouped(within, item),
         within: within_after(within, item),
     })
+}
+
+/// What a line says to a pass over lines, given whether it belongs to a context.
+fn glance_at(alloc: Global, within: bool, text: &LineText) -> Result<Glance, NoMemory>
+    ensures grouped { IfOk result (λ glance. glance.is_grouped ≡ spec.has_grouped within (spec.items_in text.now)) }
+    ensures within { IfOk result (λ glance. glance.within ≡ spec.within_after within (spec.items_in text.now)) }
+{
+    let content = text.content(alloc)?;
+    glance_in(within, content.bytes())
 }
 
 /// Whether one of the lines has a name with a group.
@@ -144,7 +175,7 @@ fn any_grouped(alloc: Global, lines: &[MadeLine]) -> Result<bool, NoMemory>
 {
     let mut within = false;
     for line in lines {
-        let glance = glance_at(alloc, within, line.text.bytes())?;
+        let glance = glance_at(alloc, within, &line.text)?;
         if glance.is_grouped {
             return Ok(true);
         }
@@ -221,7 +252,7 @@ fn named_text(
     key: &[u8],
     name: &[u8],
     after: Option<&[u8]>,
-) -> Result<Text, NoMemory>
+) -> Result<LineText, NoMemory>
     ensures { IfOk result (λ text. text
         ≡ spec.named_text key.now name.now (spec.comma_before (option_map (λ after. after.now) after.entry))) }
 {
@@ -230,7 +261,7 @@ fn named_text(
     content.extend_from_slice(name)?;
     push_after(&mut content, after)?;
     let text = escape(alloc, &content)?;
-    Ok(Text::new(text))
+    Ok(LineText::new(Text::new(text)))
 }
 
 /// The notice of a line that is left out because of its expanded name, if it is: no line can have the name, or there is a caller's number
@@ -377,14 +408,14 @@ fn naming_of_line(
     globals: &Option<Globals>,
     within: bool,
     extension: Option<Notice>,
-    text: &[u8],
+    text: &LineText,
 ) -> Result<LineNaming, NoMemory>
     ensures naming { IfOk result (λ line. line.naming ≡ spec.naming_of globals.now within extension (spec.items_in text.now)) }
     ensures within { IfOk result (λ line. line.within ≡ spec.within_after within (spec.items_in text.now)) }
     ensures extension { IfOk result (λ line. line.extension
         ≡ spec.extension_after extension (spec.naming_of globals.now within extension (spec.items_in text.now)) (spec.items_in text.now)) }
 {
-    let content = line_content(alloc, text)?;
+    let content = text.content(alloc)?;
     let item = read_item(content.bytes())?;
     let naming = naming_of(alloc, globals, within, extension, item)?;
     let extension = extension_after(extension, &naming, item);
@@ -423,7 +454,7 @@ fn line_by(alloc: Global, naming: Naming, line: MadeLine) -> Result<MadeLine, No
             let text = Text::copy_of(alloc, b"")?;
             Ok(MadeLine {
                 source: line.source,
-                text,
+                text: LineText::new(text),
             })
         }
     }
@@ -475,7 +506,7 @@ fn name_lines(
     let mut within = false;
     let mut extension = None;
     for line in lines {
-        let becomes = naming_of_line(alloc, globals, within, extension, line.text.bytes())?;
+        let becomes = naming_of_line(alloc, globals, within, extension, &line.text)?;
         within = becomes.within;
         extension = becomes.extension;
         push_line(alloc, &mut named, becomes.naming, line)?;

@@ -11,7 +11,7 @@ use crate::line_notices::NoticeAt;
 use crate::macro_ends::{AddedLine, macro_ends};
 use crate::notice::{Notice, NoticeFault};
 use dp_conf::{ConfFault, NoMemory, Text};
-use dp_files::{Fault, MadeLine, text_of};
+use dp_files::{Fault, LineText, MadeLine, text_of};
 use dp_plan::{
     Context, Dialplan, LoadFault, LoadedPlan, Note, PlanKind, Word, plan_faults,
     show_faults_decide_loading,
@@ -182,7 +182,7 @@ fn empty_line(alloc: Global, lines: &mut Vec<MadeLine>, place: usize) -> Result<
 {
     let empty = Text::copy_of(alloc, b"")?;
     if let Some(line) = lines.get_mut(place) {
-        line.text = empty;
+        line.text = LineText::new(empty);
     }
     Ok(())
 }
@@ -207,7 +207,7 @@ fn copy_lines(alloc: Global, lines: &[MadeLine]) -> Result<Vec<MadeLine>, NoMemo
 {
     let mut copies = Vec::new(alloc);
     for line in lines {
-        let text = Text::copy_of(alloc, line.text.bytes())?;
+        let text = line.text.clone()?;
         copies.push(MadeLine {
             source: line.source,
             text,

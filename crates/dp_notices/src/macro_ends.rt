@@ -9,7 +9,7 @@ ghost use Rattle.dp_notices.specs.MacroEnds as spec;
 
 use crate::loading::line_of_number;
 use dp_conf::{NoMemory, Text, push_escaped, same_word};
-use dp_files::MadeLine;
+use dp_files::{LineText, MadeLine};
 use dp_lookup::{SearchOrder, exists};
 use dp_pattern::Parts;
 use dp_plan::{Context, Dialplan, Entry, EntryId, LoadedPlan, MOST_PRIORITY};
@@ -278,7 +278,7 @@ fn push_made(made: &mut Vec<MadeLine>, lines: &[MadeLine], added: AddedLine) -> 
         Some(line) => {
             made.push(MadeLine {
                 source: line.source,
-                text,
+                text: LineText::new(text),
             })?;
             Ok(())
         }

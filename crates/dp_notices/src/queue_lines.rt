@@ -10,7 +10,7 @@ use crate::group_names::read_item;
 use crate::line_notices::NoticeAt;
 use crate::notice::{Notice, QueueNote};
 use dp_conf::{Line, NoMemory, Text, line_content, same_word};
-use dp_files::MadeLine;
+use dp_files::{LineText, MadeLine};
 use std::alloc::Global;
 
 /// The lines of a file of queues, and the notes on them.
@@ -209,7 +209,7 @@ fn with_text(text: Option<Text>, line: MadeLine) -> MadeLine
         None => line,
         Some(text) => MadeLine {
             source: line.source,
-            text,
+            text: LineText::new(text),
         },
     }
 }

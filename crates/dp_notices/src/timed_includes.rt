@@ -8,7 +8,7 @@ use crate::loading::NumberedNotice;
 use crate::notice::{Notice, NoticeFault};
 use dp_app::part;
 use dp_conf::{NoMemory, Text, cut_once, line_content, push_escaped, split_args, trim};
-use dp_files::{Fault, MadeLine};
+use dp_files::{Fault, LineText, MadeLine};
 use dp_wide::{Moment, lies_in};
 use std::alloc::Global;
 
@@ -90,7 +90,7 @@ fn set_line(
     ensures { OnOk result (lines.new.items ≡ changed_at (spec.line_at moment) place lines.old.items) }
 {
     if let Some(line) = lines.get_mut(place) {
-        line.text = text_at(alloc, moment, line.text.bytes())?;
+        line.text = LineText::new(text_at(alloc, moment, line.text.bytes())?);
     }
     Ok(())
 }

@@ -2,7 +2,7 @@ use Rattle.std.proofs.Common.{◌≡◌, true, false, ◌&&◌, not, eqb, length
 use Rattle.dp_conf.specs.Lines.{opens_block}
 use Rattle.dp_files.specs.Comments.{Uncovered, uncovered}
 use Rattle.dp_files.proofs.CommentsLemmas.{uncovered_from-over, uncovered_from-ended}
-use Rattle.dp_files.proofs.comments.uncover_line.Goals as goal
+use Rattle.dp_files.proofs.comments.uncover_part.Goals as goal
 
 -- the rest of the line is a comment
 pub returns-else-opens_block : goal.returns-else-opens_block
