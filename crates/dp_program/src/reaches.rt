@@ -13,7 +13,6 @@ ghost use Rattle.dp_program.specs.Reaches.{ReachesFiles};
 ghost use Rattle.dp_program.specs.Meanings.{wide_meanings};
 ghost use Rattle.dp_table.specs.Standard.{standard_meanings};
 ghost use Rattle.dp_program.specs.Requests.{options_of, question_of};
-ghost use Rattle.dp_program.proofs.ServesLemmas.{reaches_files_lack};
 
 use crate::dialplans::PlanUse;
 use crate::faulted::Faulted;
@@ -232,8 +231,6 @@ struct WideReach<'r, 'a> {
 impl<'a> PlanQuestion<'a> for WideReach<'_, 'a> {
     ghost serves = { λ asked files. ReachesFiles wide_meanings files (question_of asked.question.now) asked.explains };
 
-    ghost lacks = { λ asked files old. reaches_files_lack wide_meanings files (question_of asked.question.now) asked.explains old };
-
     fn answer<F: ReadFiles, W: WriteTold>(
         &self,
         files: &F,
@@ -242,6 +239,9 @@ impl<'a> PlanQuestion<'a> for WideReach<'_, 'a> {
     ) -> Result<Served, Faulted<'a>> {
         serve_reach_over::<WideApps, F, W>(files, alloc, self.question, self.explains, output)
     }
+
+    #[tactic(auto, using(crate::proofs::ServesLemmas::reaches_files_lack))]
+    fn may_lack_memory(&self) {}
 }
 
 /// Reports what a phone call that comes in at a context may run, after reading the files of a question with those that they include. The
