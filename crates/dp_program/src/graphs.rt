@@ -31,7 +31,7 @@ use dp_graph::{GraphFault, QueueExit, write_graph};
 use dp_plan::{Dialplan, EntryId, NoMemory, Text};
 use dp_queue::Queue;
 use dp_table::StandardApps;
-use dp_wide::WideApps;
+use dp_wide_duties::WideDuties;
 use indexmap::IndexSet;
 use std::alloc::Global;
 
@@ -253,7 +253,7 @@ impl<'a> PlanQuestion<'a> for WideDrawing<'_, 'a> {
         alloc: Global,
         output: &mut W,
     ) -> Result<Served, Faulted<'a>> {
-        serve_graph_over::<WideApps, F, W>(files, alloc, self.question, self.explains, output)
+        serve_graph_over::<WideDuties, F, W>(files, alloc, self.question, self.explains, output)
     }
 
     #[tactic(auto, using(crate::proofs::ServesLemmas::graphs_lack))]

@@ -29,7 +29,7 @@ use dp_commands::{Files, PbxFault};
 use dp_conf::{WriteTold, split_args};
 use dp_plan::NoMemory;
 use dp_table::StandardApps;
-use dp_wide::WideApps;
+use dp_wide_duties::WideDuties;
 use std::alloc::Global;
 
 /// The bytes of an optional word.
@@ -237,7 +237,7 @@ impl<'a> PlanQuestion<'a> for WideReach<'_, 'a> {
         alloc: Global,
         output: &mut W,
     ) -> Result<Served, Faulted<'a>> {
-        serve_reach_over::<WideApps, F, W>(files, alloc, self.question, self.explains, output)
+        serve_reach_over::<WideDuties, F, W>(files, alloc, self.question, self.explains, output)
     }
 
     #[tactic(auto, using(crate::proofs::ServesLemmas::reaches_files_lack))]
