@@ -12,7 +12,6 @@ ghost use Rattle.dp_program.specs.Graphs as spec;
 ghost use Rattle.dp_program.specs.Meanings.{wide_meanings};
 ghost use Rattle.dp_table.specs.Standard.{standard_meanings};
 ghost use Rattle.dp_program.specs.Requests.{drawing_of, options_of};
-ghost use Rattle.dp_program.proofs.ServesLemmas.{graphs_lack};
 
 use crate::dialplans::PlanUse;
 use crate::faulted::Faulted;
@@ -32,7 +31,7 @@ use dp_graph::{GraphFault, QueueExit, write_graph};
 use dp_plan::{Dialplan, EntryId, NoMemory, Text};
 use dp_queue::Queue;
 use dp_table::StandardApps;
-use dp_wide::WideApps;
+use dp_wide_duties::WideDuties;
 use indexmap::IndexSet;
 use std::alloc::Global;
 
@@ -248,16 +247,17 @@ struct WideDrawing<'r, 'a> {
 impl<'a> PlanQuestion<'a> for WideDrawing<'_, 'a> {
     ghost serves = { λ asked files. spec.GraphsFiles wide_meanings files (drawing_of asked.question.now) asked.explains };
 
-    ghost lacks = { λ asked files old. graphs_lack wide_meanings files (drawing_of asked.question.now) asked.explains old };
-
     fn answer<F: ReadFiles, W: WriteTold>(
         &self,
         files: &F,
         alloc: Global,
         output: &mut W,
     ) -> Result<Served, Faulted<'a>> {
-        serve_graph_over::<WideApps, F, W>(files, alloc, self.question, self.explains, output)
+        serve_graph_over::<WideDuties, F, W>(files, alloc, self.question, self.explains, output)
     }
+
+    #[tactic(auto, using(crate::proofs::ServesLemmas::graphs_lack))]
+    fn may_lack_memory(&self) {}
 }
 
 /// Writes the picture of the dialplan of a file and of those that it includes, with the ways out of the queues of another file and of those

@@ -23,9 +23,6 @@ pub(crate) trait PlanQuestion<'a> {
     // The output and result, given the files, and the contents of the output before and after.
     ghost serves: { Self → spec.Serving };
 
-    // Memory may run out before anything is done.
-    ghost lacks: { (question : Self) (files : List ℕ → Source) (old : Option (List ℕ)) → serves question files old old (Err (nowhere faults.NoMemory)) };
-
     /// Answers the question from the files.
     fn answer<F: ReadFiles, W: WriteTold>(
         &self,
@@ -35,6 +32,10 @@ pub(crate) trait PlanQuestion<'a> {
     ) -> Result<Served, Faulted<'a>>
         ensures serves { serves self.now (F.source_at files.now) (W.contents output.old) (W.contents output.new) result }
         ensures told { W.has_failed output.new ≡ (W.has_failed output.old || is_write_failed (without_place result)) };
+
+    /// States that memory may run out before anything is done. It does nothing.
+    fn may_lack_memory(&self)
+        ensures { (files : List ℕ → Source) (old : Option (List ℕ)) → serves self.now files old old (Err (nowhere faults.NoMemory)) };
 }
 
 /// How a question is asked of files that include others.
@@ -95,7 +96,10 @@ fn answer_after_queues<'a, Q: PlanQuestion<'a>, F: ReadFiles, W: WriteTold>(
         }
         Ok(ReadQueues::Given(None)) => answer_plan(files, alloc, asking, queued.plan, output),
         Ok(ReadQueues::Unread(told)) => Ok(faulty(told)),
-        Err(unread) => Err(Faulted::from(unread)),
+        Err(unread) => {
+            asking.question.may_lack_memory();
+            Err(Faulted::from(unread))
+        }
     }
 }
 
@@ -141,6 +145,9 @@ pub(crate) fn answer_including<'a, Q: PlanQuestion<'a>, F: ReadFiles, W: WriteTo
     ) {
         Ok(ReadDialplan::Loads(plan)) => answer_with_queues(files, alloc, asking, &plan, output),
         Ok(ReadDialplan::Faulty(told)) => Ok(faulty(told)),
-        Err(unread) => Err(Faulted::from(unread)),
+        Err(unread) => {
+            asking.question.may_lack_memory();
+            Err(Faulted::from(unread))
+        }
     }
 }

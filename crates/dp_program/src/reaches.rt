@@ -13,7 +13,6 @@ ghost use Rattle.dp_program.specs.Reaches.{ReachesFiles};
 ghost use Rattle.dp_program.specs.Meanings.{wide_meanings};
 ghost use Rattle.dp_table.specs.Standard.{standard_meanings};
 ghost use Rattle.dp_program.specs.Requests.{options_of, question_of};
-ghost use Rattle.dp_program.proofs.ServesLemmas.{reaches_files_lack};
 
 use crate::dialplans::PlanUse;
 use crate::faulted::Faulted;
@@ -30,7 +29,7 @@ use dp_commands::{Files, PbxFault};
 use dp_conf::{WriteTold, split_args};
 use dp_plan::NoMemory;
 use dp_table::StandardApps;
-use dp_wide::WideApps;
+use dp_wide_duties::WideDuties;
 use std::alloc::Global;
 
 /// The bytes of an optional word.
@@ -232,16 +231,17 @@ struct WideReach<'r, 'a> {
 impl<'a> PlanQuestion<'a> for WideReach<'_, 'a> {
     ghost serves = { λ asked files. ReachesFiles wide_meanings files (question_of asked.question.now) asked.explains };
 
-    ghost lacks = { λ asked files old. reaches_files_lack wide_meanings files (question_of asked.question.now) asked.explains old };
-
     fn answer<F: ReadFiles, W: WriteTold>(
         &self,
         files: &F,
         alloc: Global,
         output: &mut W,
     ) -> Result<Served, Faulted<'a>> {
-        serve_reach_over::<WideApps, F, W>(files, alloc, self.question, self.explains, output)
+        serve_reach_over::<WideDuties, F, W>(files, alloc, self.question, self.explains, output)
     }
+
+    #[tactic(auto, using(crate::proofs::ServesLemmas::reaches_files_lack))]
+    fn may_lack_memory(&self) {}
 }
 
 /// Reports what a phone call that comes in at a context may run, after reading the files of a question with those that they include. The

@@ -63,14 +63,15 @@ Macro| m →MACRO_EXTEN {0123456789} ; MACRO_CONTEXT {fmor} ; MACRO_PRIORITY {01
 Macro|m,a→MACRO_EXTEN {0123456789} ; MACRO_CONTEXT {fmor} ; MACRO_PRIORITY {0123456789} ; ARGC {0123456789} ; to macro-m,s ; ARG1 {a}
 Macro|{,}→MACRO_EXTEN {0123456789} ; MACRO_CONTEXT {fmor} ; MACRO_PRIORITY {0123456789} ; ARGC {0123456789} ; to macro-{,}*,s ; each {,}
 MacroExit|→
-# The application of a side, up to eight inside each other; one that is not known may do anything.
+# The application of a side, up to eight inside each other; one that is not known may do anything. Where a parenthesis may stand in a part
+# that is not known, so may the end of a side.
 ExecIf|a?Set(X=1)→X {1}
 ExecIf|a?Goto(2):Set(X=1)→to from,{0123456789}* ; X {1}
 ExecIf|a?: Hangup →
 ExecIf|a?Nothing→anything
 ExecIf|a?ExecIf(b?Set(X=1))→X {1}
 ExecIf|a?Set(X={)}*→anything
-ExecIf|a?Set(X={)}*)→X {)}
+ExecIf|a?Set(X={)}*)→anything
 ExecIf|a?{ab}*→anything
 ExecIf|a?{:}→anything
 ExecIf|{?}a→anything

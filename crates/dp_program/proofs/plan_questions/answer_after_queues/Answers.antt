@@ -20,7 +20,7 @@ returns-in-Err-clause-serves g c =
     let plan = text_now c.args.queued.plan.now in
     subst (λ (faulted : Faulted). ReadsQueues files queues (λ (files : List ℕ → Source). OverPlan serves files path old old plan) old old (Err faulted)) (sym c.from.ensures)
     (queues_refused files queues (λ (files : List ℕ → Source). OverPlan serves files path old old plan) old
-    (λ files. over_plan_lacks serves old (λ files. g.Q.PlanQuestion.lacks c.args.asking.now.question.now files old) files path plan) _
+    (λ files. over_plan_lacks serves old (λ files. c.may_lack_memory.ensures files old) files path plan) _
     c.in-Err.ensures.path c.in-Err.ensures.read)
 
 -- the queues have the text that was made

@@ -32,5 +32,5 @@ returns-in-Err-clause-serves g c =
     let old = g.W.WriteTold.contents c.args.output.now in
     subst (λ (faulted : Faulted). ReadsDialplan c.args.asking.now.purpose clock files path (λ plan. WithQueues serves files path old old plan queues) old old (Err faulted)) (sym c.from.ensures)
     (dialplan_refused (λ plan. WithQueues serves files path old old plan queues) path old
-    (λ plan. with_queues_lack serves old (λ files. g.Q.PlanQuestion.lacks c.args.asking.now.question.now files old) files path plan queues)
+    (λ plan. with_queues_lack serves old (λ files. c.may_lack_memory.ensures files old) files path plan queues)
     c.args.asking.now.purpose clock files _ c.in-Err.ensures.path c.in-Err.ensures.read)
