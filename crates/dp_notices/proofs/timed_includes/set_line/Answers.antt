@@ -5,12 +5,12 @@ use Rattle.dp_files.specs.declared.source_line.MadeLine.{MadeLine}
 use Rattle.dp_notices.specs.TimedIncludes.{line_at, text_at}
 use Rattle.dp_notices.proofs.timed_includes.set_line.Goals as goal
 
-pub returns-in_ok-line : goal.returns-in_ok-line
-returns-in_ok-line c =
+pub returns-in_ok-text_at : goal.returns-in_ok-text_at
+returns-in_ok-text_at c =
     let within : c.args.place < length c.args.lines.now.items = omega (arith, c.in-Some.ensures.variant.0 refl, c.args.lines.now.ok) in
     changed_at-set (line_at c.args.moment) c.args.place c.args.lines.now.items c.in-Some.line.now _ within c.in-Some.ensures.value
     (ap (λ (text : List ℕ). let line : MadeLine = record { source = c.in-Some.line.now.source; text = text } in line)
-    (c.in_ok-line.ensures ∙ ap (text_at c.args.moment) c.bytes.ensures))
+    (c.new.ensures ∙ (c.in_ok-text_at.ensures ∙ ap (text_at c.args.moment) c.bytes.ensures)))
 
 pub returns-in_default : goal.returns-in_default
 returns-in_default c = sym (changed_at-past (line_at c.args.moment) c.args.place c.args.lines.now.items (⊎_elim within (λ past. past) (cases_lt c.args.place (length c.args.lines.now.items))))
