@@ -39,6 +39,7 @@ pub(crate) trait PlanQuestion<'a> {
 }
 
 /// How a question is asked of files that include others.
+#[derive(Drop)]
 pub(crate) struct Asking<'r, 'a, Q> {
     /// The question.
     pub(crate) question: &'r Q,

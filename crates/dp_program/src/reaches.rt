@@ -197,7 +197,7 @@ fn serve_reach_over<'a, T: DutyTable, F: ReadFiles, W: WriteTold>(
 
 /// The paths of the files of a question.
 fn paths_of<'a>(question: &ReachQuestion<'a>) -> PlanPaths<'a>
-    ensures { result.plan.now ≡ question.now.file.now }
+    ensures plan { result.plan.now ≡ question.now.file.now }
     ensures queues { option_map (λ path. path.now) result.queues ≡ option_map (λ path. path.now) question.now.queues }
 {
     PlanPaths {
