@@ -256,7 +256,6 @@ impl<'a> PlanQuestion<'a> for WideDrawing<'_, 'a> {
         serve_graph_over::<WideDuties, F, W>(files, alloc, self.question, self.explains, output)
     }
 
-    #[tactic(auto, using(crate::proofs::ServesLemmas::graphs_lack))]
     fn may_lack_memory(&self) {}
 }
 

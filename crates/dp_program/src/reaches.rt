@@ -192,18 +192,11 @@ fn serve_reach_over<'a, T: DutyTable, F: ReadFiles, W: WriteTold>(
     let queues = read_named(files, alloc, question.queues)?;
     let texts = PlanAndQueues { plan, queues };
     let answered = reach_told::<T, W>(alloc, question, explains, &texts, output);
-    placed_over(paths_of(question), texts, answered)
-}
-
-/// The paths of the files of a question.
-fn paths_of<'a>(question: &ReachQuestion<'a>) -> PlanPaths<'a>
-    ensures plan { result.plan.now ≡ question.now.file.now }
-    ensures queues { option_map (λ path. path.now) result.queues ≡ option_map (λ path. path.now) question.now.queues }
-{
-    PlanPaths {
+    let paths = PlanPaths {
         plan: question.file,
         queues: question.queues,
-    }
+    };
+    placed_over(paths, texts, answered)
 }
 
 /// Reports what a phone call that comes in at a context may run, given the files of a question.
@@ -240,7 +233,6 @@ impl<'a> PlanQuestion<'a> for WideReach<'_, 'a> {
         serve_reach_over::<WideDuties, F, W>(files, alloc, self.question, self.explains, output)
     }
 
-    #[tactic(auto, using(crate::proofs::ServesLemmas::reaches_files_lack))]
     fn may_lack_memory(&self) {}
 }
 
@@ -263,7 +255,10 @@ pub(crate) fn serve_reach_including<'a, F: ReadFiles, W: WriteTold>(
     };
     let asking = Asking {
         question: &asked,
-        paths: paths_of(question),
+        paths: PlanPaths {
+            plan: question.file,
+            queues: question.queues,
+        },
         purpose: PlanUse::LookUp,
         clock: options.clock,
     };
