@@ -135,18 +135,21 @@ test_app =
     with_explain (with_rule (with_rule (with_rule (new_app (codes "test")) (flag (codes "trace") (codes "trace"))) (flag (codes "cover") (codes "cover")))
     (required_words (codes "FILE")))
 
--- a command with the words for what may come in: the contexts at which calls do, and the bytes of extensions, of callers' numbers and of what
--- names are set to
+-- a command with the words for what may come in: the contexts at which calls do, and the bytes of extensions and of callers' numbers
 abbrev pub with_outside : App → App
 with_outside app =
-    with_rule (with_rule (with_rule (with_rule app (named_word (codes "CONTEXTS") (codes "start"))) (named_word (codes "BYTES") (codes "exten")))
-    (named_word (codes "NUMBERS") (codes "caller"))) (named_word (codes "VALUES") (codes "facts"))
+    with_rule (with_rule (with_rule app (named_word (codes "CONTEXTS") (codes "start"))) (named_word (codes "BYTES") (codes "exten")))
+    (named_word (codes "NUMBERS") (codes "caller"))
+
+-- a command with the word for the bytes of what names are set to from outside
+abbrev pub with_facts : App → App
+with_facts app = with_rule app (named_word (codes "VALUES") (codes "facts"))
 
 -- `reach [--asterisk [--clock MOMENT]] [--queues QUEUES] [--start CONTEXTS] [--exten BYTES] [--caller NUMBERS] [--facts VALUES] [--to TARGET]
 -- [--explain] FILE CONTEXT`
 abbrev pub reach_app : App
 reach_app =
-    with_explain (with_rule (with_rule (with_rule (with_outside (with_queues (with_asterisk (new_app (codes "reach"))))) (named_word (codes "TARGET") (codes "to")))
+    with_explain (with_rule (with_rule (with_rule (with_facts (with_outside (with_queues (with_asterisk (new_app (codes "reach")))))) (named_word (codes "TARGET") (codes "to")))
     file_word) (required_word (codes "CONTEXT")))
 
 -- a command that prints its version for `--version` and `-V`

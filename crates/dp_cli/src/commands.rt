@@ -579,14 +579,23 @@ fn with_outside<'a>(
         "caller",
         "The bytes of a caller's number; by default 0-9+",
     );
-    let with = with_word(with, caller);
+    with_word(with, caller)
+}
+
+/// The command with the word for what is set from outside.
+fn with_facts<'a>(
+    alloc: Global,
+    command: Result<Command<'a>, NoMemory>,
+) -> Result<Command<'a>, NoMemory>
+    ensures { (app : App) → Makes app command.entry → Makes (spec.with_facts app) result }
+{
     let facts = named_word(
         alloc,
         "VALUES",
         "facts",
         "The bytes of what variables are set to from outside; by default 0-9A-Za-z_./ - with --asterisk, else none is set",
     );
-    with_word(with, facts)
+    with_word(command, facts)
 }
 
 /// The command `reach`.
@@ -610,6 +619,7 @@ fn reach_command<'a>(alloc: Global) -> Result<Command<'a>, NoMemory>
         "The queues, such as queues.conf; by default there are none",
     );
     let reach = with_outside(alloc, reach);
+    let reach = with_facts(alloc, reach);
     let target = named_word(
         alloc,
         "TARGET",
