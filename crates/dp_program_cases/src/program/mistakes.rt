@@ -316,10 +316,13 @@ Arguments:
   <CONTEXT>  The context where the call comes in
 
 Options:
+      --asterisk          Know the applications and functions that people use, and read included files, templates and block comments
+      --clock <MOMENT>    With --asterisk: the moment by which includes with times are read, like 'fri 2026-11-27 09:30'
       --queues <QUEUES>   The queues, such as queues.conf; by default there are none
       --start <CONTEXTS>  The contexts where other calls come in, separated by commas; by default every context
       --exten <BYTES>     The bytes that may be dialled, such as 0-9*#; by default 0-9A-Za-z*#+_.
       --caller <NUMBERS>  The bytes of a caller's number; by default 0-9+
+      --facts <VALUES>    The bytes of what variables are set to from outside; by default 0-9A-Za-z_./ - with --asterisk, else none is set
       --to <TARGET>       Report only whether the call may reach this context
       --explain           Print below each fault, and below each note of `check`, where it is and what the manual says about it
   -h, --help              Print help
@@ -330,6 +333,10 @@ an entry that is printed may never run.
 
 With --to, prints `unreachable: TARGET` with status 0, or `may reach: ENTRY` with the way there and each jump that lets a call in,
 with status 1.
+
+With --asterisk the applications and functions are those that people use, and included files, templates and block comments are read too.
+Scripts and other programs may then set variables to any text of the bytes after --facts. If lines have faults, or have what this
+program cannot follow, each is printed on standard error with its file and line, and the status is 1.
 
 Example:
   $ pbx reach extensions.conf from-carrier --to international
@@ -538,7 +545,7 @@ Arguments:
   <FILE>  The dialplan, such as extensions.conf
 
 Options:
-      --asterisk         Read included files, templates and block comments
+      --asterisk         Know the applications and functions that people use, and read included files, templates and block comments
       --clock <MOMENT>   With --asterisk: the moment by which includes with times are read, like 'fri 2026-11-27 09:30'
       --queues <QUEUES>  The queues, such as queues.conf, whose ways out are drawn
       --from <CONTEXT>   A context where calls come in: what they can reach is filled, and the rest is grey
@@ -549,8 +556,7 @@ Prints a picture in the DOT language, which `dot` of Graphviz makes into an imag
 in which a look-up tries them, and what each does first. Arrows are dashed for includes, solid for jumps, double for subroutines, and
 dotted for the ways out of queues, which --queues names. A target that only the call decides is a diamond; one that does not exist is red.
 
-With --from CONTEXT the entries that a call from CONTEXT may run are filled, as `pbx reach` finds them, and all others are grey. This cannot
-be used with --asterisk yet.
+With --from CONTEXT the entries that a call from CONTEXT may run are filled, as `pbx reach` finds them, and all others are grey.
 
 With --asterisk included files, templates and block comments are read too. If lines have faults, each fault is printed on standard
 error with its file and line, and the status is 1.
