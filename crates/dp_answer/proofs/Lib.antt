@@ -1,5 +1,6 @@
 mod AnswerLemmas
 mod HeadLemmas
 mod RangeLemmas
+mod ReachAnswerLemmas
 mod ReachedLemmas
 mod ReportLemmas

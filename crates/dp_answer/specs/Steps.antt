@@ -1,10 +1,12 @@
 -- The steps of private functions. No public clause depends on them.
-use Rattle.std.specs.Prelude.{◌≡◌, ℕ, Bool, true, false, List, ◌++◌, Option, Some, None}
+use Rattle.std.specs.Prelude.{◌≡◌, ℕ, Bool, true, false, List, ◌++◌, Option, Some, None, is_some}
 use Rattle.std.specs.Global.{Vec}
 use Rattle.dp_app.specs.Rows.{Meanings}
 use Rattle.dp_answer.specs.Asks.{AskOf, is_lacking, outside_of}
+use Rattle.dp_answer.specs.ReachAnswers.{Finds}
 use Rattle.dp_answer.specs.Reports.{ReportOf, Told, answer_status, answer_text}
 use Rattle.dp_answer.specs.declared.answer.OutsideQuestion.{OutsideQuestion}
+use Rattle.dp_answer.specs.declared.reach_answer.ToldAnswer.{ToldAnswer}
 use Rattle.dp_answer.specs.declared.report.Report.{Report}
 use Rattle.dp_answer.specs.declared.terms.Terms.{Terms}
 use Rattle.dp_answer.specs.declared.trails.Found.{Found}
@@ -51,3 +53,18 @@ pub record IsTold (plan : PlanOf) (head : List ℕ) (marks : Option (List (Vec B
   pub told : Told
   pub text : report.text ≡ head ++ answer_text plan (answers_in marks) target told
   pub status : report.status ≡ answer_status plan (answers_in marks) target
+
+-- the finding and the status are those of the answer that was found
+pub record IsToldBy (plan : PlanOf) (found : Found) (target : Option (List ℕ)) (told : ToldAnswer) : Type 0 where
+  pub proved : told.is_proved ≡ found.is_proved
+  pub finding : Finds plan (answers_in (answers_of found)) target told.finding
+  pub status : told.status ≡ answer_status plan (answers_in (answers_of found)) target
+
+-- the same for what was found on the terms of a question, with any queues that have the ways out
+pub record IsToldOn (meanings : Meanings) (plan : PlanOf) (ask : AskOf) (terms : Terms) (told : ToldAnswer) : Type 0 where
+  pub marks : Option (List (Vec Bool))
+  pub runs : (settings : List Settings) → AreWays settings terms.ways.items
+      → RunsOnly meanings (shown_outside terms.outside) ask.context plan settings (answers_in marks)
+  pub proved : told.is_proved ≡ is_some marks
+  pub finding : Finds plan (answers_in marks) ask.target told.finding
+  pub status : told.status ≡ answer_status plan (answers_in marks) ask.target

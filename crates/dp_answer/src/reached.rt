@@ -30,7 +30,7 @@ fn push_answer(
 
 /// Adds the entries of the context with a number that are among the answers.
 #[tactic(auto, using(crate::proofs::ReachedLemmas::kept_next))]
-fn push_answers_at(
+pub(crate) fn push_answers_at(
     entries: &mut Vec<EntryId>,
     plan: &Dialplan,
     answers: Option<&Marks>,

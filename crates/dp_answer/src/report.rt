@@ -81,7 +81,7 @@ fn push_lines(
 }
 
 /// How a call gets to the context with a number.
-fn chain_at(chains: &[Vec<u8>], number: usize) -> &[u8]
+pub(crate) fn chain_at(chains: &[Vec<u8>], number: usize) -> &[u8]
     ensures { result.now ≡ spec.chain_at chains.now number }
 {
     match chains.get(number) {
@@ -137,7 +137,7 @@ fn push_verdict(out: &mut Vec<u8>, name: &[u8], may_reach: bool) -> Result<(), N
 }
 
 /// Whether an entry of the context with a number is among the answers, if there is such a context.
-fn may_reach(plan: &Dialplan, answers: Option<&Marks>, number: Option<usize>) -> bool
+pub(crate) fn may_reach(plan: &Dialplan, answers: Option<&Marks>, number: Option<usize>) -> bool
     ensures { result ≡ option_map_or (spec.has_answer plan.now (answers_in (option_map (λ marks. marks.now) answers.entry))) number false }
 {
     match number {

@@ -7,7 +7,7 @@ use crate::jumps::jumps_to;
 use crate::search::{First, Search};
 use crate::text::{context_name, example, push_entry, push_number};
 use dp_closed::{DutyTable, Marks, found_shape};
-use dp_conf::NoMemory;
+use dp_conf::{NoMemory, same_word};
 use dp_plan::{Dialplan, Entry, EntryId};
 use std::alloc::Global;
 
@@ -161,10 +161,58 @@ fn push_marked(
     Ok(())
 }
 
-/// Adds the line of each entry of a context that a call may run and whose application the table lacks.
-fn push_lacking_of<T: DutyTable>(
+/// What is remarked of an entry because of its application.
+#[derive(Clone, Copy)]
+enum Remark {
+    /// The table lacks the application.
+    Lacking,
+    /// The application hands the call to a program, which may send it to any place.
+    Program,
+}
+
+/// Whether an application hands a call to a program.
+fn is_program(application: &[u8]) -> bool {
+    same_word(application, b"AGI")
+        || same_word(application, b"DeadAGI")
+        || same_word(application, b"EAGI")
+        || same_word(application, b"ExternalIVR")
+        || same_word(application, b"Stasis")
+}
+
+impl Remark {
+    /// Whether it applies to an application.
+    fn holds<T: DutyTable>(self, application: &[u8]) -> bool {
+        let is_known = T::number_of(application).is_some();
+        match self {
+            Remark::Lacking => !is_known,
+            Remark::Program => is_known && is_program(application),
+        }
+    }
+
+    /// The text before an entry.
+    fn before(self) -> &'static [u8] {
+        match self {
+            Remark::Lacking => b"no such application: ",
+            Remark::Program => b"handed to a program: ",
+        }
+    }
+
+    /// The line behind the entries.
+    fn after(self) -> &'static [u8] {
+        match self {
+            Remark::Lacking => {
+                b"of what an exchange does that has this application, nothing is claimed\n"
+            }
+            Remark::Program => b"of where such a program sends the call, nothing is claimed\n",
+        }
+    }
+}
+
+/// Adds the line of each entry of a context that a call may run and to which a remark applies.
+fn push_remarked_of<T: DutyTable>(
     out: &mut Vec<u8>,
     found: &Found<'_>,
+    remark: Remark,
     context: usize,
     entries: &[Entry],
 ) -> Result<(), NoMemory> {
@@ -173,29 +221,31 @@ fn push_lacking_of<T: DutyTable>(
             context,
             entry: number,
         };
-        if found.has(id) && T::number_of(entry.application.bytes()).is_none() {
-            push_line(out, b"no such application: ", found.plan(), id)?;
+        if found.has(id) && remark.holds::<T>(entry.application.bytes()) {
+            push_line(out, remark.before(), found.plan(), id)?;
         }
     }
     Ok(())
 }
 
-/// Adds the line of each entry that a call may run and whose application the table lacks, and that nothing is claimed of these.
-fn push_lacking<T: DutyTable>(out: &mut Vec<u8>, found: &Found<'_>) -> Result<(), NoMemory> {
+/// Adds the line of each entry that a call may run and to which a remark applies, and what is not claimed of these.
+fn push_remarked<T: DutyTable>(
+    out: &mut Vec<u8>,
+    found: &Found<'_>,
+    remark: Remark,
+) -> Result<(), NoMemory> {
     let before = out.len();
     for (number, context) in found.plan().contexts().iter().enumerate() {
-        push_lacking_of::<T>(out, found, number, context.entries())?;
+        push_remarked_of::<T>(out, found, remark, number, context.entries())?;
     }
     if out.len() > before {
-        out.extend_from_slice(
-            b"of what an exchange does that has this application, nothing is claimed\n",
-        )?;
+        out.extend_from_slice(remark.after())?;
     }
     Ok(())
 }
 
-/// Adds what an engineer may have to fix: jumps to an unknown context, entries of which nothing is known, and applications that the table
-/// lacks.
+/// Adds what an engineer may have to fix or to look at: jumps to an unknown context, entries of which nothing is known, applications that the
+/// table lacks, and programs that calls are handed to.
 fn push_remarks<T: DutyTable>(out: &mut Vec<u8>, found: &Found<'_>) -> Result<(), NoMemory> {
     let search = &found.search;
     push_marked(
@@ -205,7 +255,19 @@ fn push_remarks<T: DutyTable>(out: &mut Vec<u8>, found: &Found<'_>) -> Result<()
         b"may lead to any context: ",
     )?;
     push_marked(out, search.plan, &search.unknown, b"may do anything: ")?;
-    push_lacking::<T>(out, found)
+    push_remarked::<T>(out, found, Remark::Lacking)?;
+    push_remarked::<T>(out, found, Remark::Program)
+}
+
+/// The further text on all entries that a call may run, without how many there are.
+pub(crate) fn ways_of_all<T: DutyTable>(
+    alloc: Global,
+    found: &Found<'_>,
+) -> Result<Trails, NoMemory> {
+    let chains = chains_of(alloc, &found.search)?;
+    let mut tail = Vec::new(alloc);
+    push_remarks::<T>(&mut tail, found)?;
+    Ok(Trails { chains, tail })
 }
 
 /// The further text on all entries that a call may run.
@@ -213,11 +275,9 @@ pub(crate) fn told_of_all<T: DutyTable>(
     alloc: Global,
     found: &Found<'_>,
 ) -> Result<Trails, NoMemory> {
-    let chains = chains_of(alloc, &found.search)?;
-    let mut tail = Vec::new(alloc);
-    push_remarks::<T>(&mut tail, found)?;
-    push_counts(&mut tail, found)?;
-    Ok(Trails { chains, tail })
+    let mut told = ways_of_all::<T>(alloc, found)?;
+    push_counts(&mut told.tail, found)?;
+    Ok(told)
 }
 
 /// Adds an extension with which an entry is found from an area, if the area gives one.

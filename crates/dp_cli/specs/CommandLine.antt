@@ -10,7 +10,7 @@ use Rattle.dp_conf.specs.Words.{same_text}
 use Rattle.dp_commands.specs.Script.{number_within}
 use Rattle.dp_conf.specs.Numbers.{most_priority}
 use Rattle.dp_program.specs.Entries.{fault_named, fault_numbered}
-use Rattle.dp_program.specs.Requests.{OptionsOf, RequestOf, joined, check, check_files, check_queue_files, check_both_files, check_queues, check_both, listing, listing_files, auditing, auditing_by, matching, matching_files, explaining, run, run_wide, debug, debug_wide, testing, comparing, comparing_files, drawing, drawing_files, reaching, reaching_files, DrawingOf, LookupOf, QuestionOf}
+use Rattle.dp_program.specs.Requests.{OptionsOf, ReachDiffOf, RequestOf, joined, check, check_files, check_queue_files, check_both_files, check_queues, check_both, listing, listing_files, auditing, auditing_by, matching, matching_files, explaining, run, run_wide, debug, debug_wide, testing, comparing, comparing_files, comparing_reach, comparing_reach_files, drawing, drawing_files, reaching, reaching_files, DrawingOf, LookupOf, QuestionOf}
 use Rattle.dp_program.specs.Texts.{OfRun}
 use Rattle.dp_wide.specs.Times.{moment_of}
 use Rattle.dp_wide_runs.specs.Kinds.{KindsTold, all, only, except, are_kinds}
@@ -74,6 +74,10 @@ with_lookup app =
 abbrev pub with_asterisk : App → App
 with_asterisk app = with_rule (with_rule app (flag (codes "asterisk") (codes "asterisk"))) (named_word (codes "MOMENT") (codes "clock"))
 
+-- a command with the names of notes, for lines that are assumed to have no effect
+abbrev pub with_assume : App → App
+with_assume app = with_rule app (named_word (codes "NOTES") (codes "assume"))
+
 -- a command with the flag `--json`, for output to other tools
 abbrev pub with_json : App → App
 with_json app = with_rule app (flag (codes "json") (codes "json"))
@@ -86,10 +90,11 @@ check_app = with_explain (with_rule (with_json (with_queues (with_asterisk (new_
 abbrev pub list_app : App
 list_app = with_explain (with_rule (with_asterisk (new_app (codes "list"))) file_word)
 
--- `match [--asterisk [--clock MOMENT]] [--all] [--json] [--explain] FILE CONTEXT TEXT [PRIORITY]`
+-- `match [--asterisk [--clock MOMENT] [--assume NOTES]] [--all] [--json] [--explain] FILE CONTEXT TEXT [PRIORITY]`
 abbrev pub match_app : App
 match_app =
-    with_explain (with_lookup (with_rule (with_json (with_rule (with_asterisk (new_app (codes "match"))) (flag (codes "all") (codes "all")))) file_word))
+    with_explain (with_lookup (with_rule (with_json (with_rule (with_assume (with_asterisk (new_app (codes "match")))) (flag (codes "all") (codes "all"))))
+    file_word))
 
 -- `explain [--explain] CODE`
 abbrev pub explain_app : App
@@ -108,15 +113,19 @@ with_kinds app =
 abbrev pub audit_app : App
 audit_app = with_explain (with_rule (with_json (with_kinds (with_asterisk (new_app (codes "audit"))))) file_word)
 
--- `diff [--asterisk [--clock MOMENT]] [--explain] OLD NEW`
+-- a command with the word for a context where calls come in
+abbrev pub with_from : App → App
+with_from app = with_rule app (named_word (codes "CONTEXT") (codes "from"))
+
+-- `diff [--asterisk [--clock MOMENT]] [--from CONTEXT] [--explain] OLD NEW`
 abbrev pub diff_app : App
 diff_app =
-    with_explain (with_rule (with_rule (with_asterisk (new_app (codes "diff"))) (required_word (codes "OLD"))) (required_word (codes "NEW")))
+    with_explain (with_rule (with_rule (with_from (with_asterisk (new_app (codes "diff")))) (required_word (codes "OLD"))) (required_word (codes "NEW")))
 
 -- `graph [--asterisk [--clock MOMENT]] [--queues QUEUES] [--from CONTEXT] [--explain] FILE`
 abbrev pub graph_app : App
 graph_app =
-    with_explain (with_rule (with_rule (with_queues (with_asterisk (new_app (codes "graph")))) (named_word (codes "CONTEXT") (codes "from"))) file_word)
+    with_explain (with_rule (with_from (with_queues (with_asterisk (new_app (codes "graph"))))) file_word)
 
 -- `run [--asterisk [--clock MOMENT]] [--queues QUEUES] [--reload DIALPLAN] [--threads N] [--verbose] [--explain] FILE SCRIPT`
 abbrev pub run_app : App
@@ -129,11 +138,15 @@ debug_app =
     with_explain (with_files (with_verbose (with_rule (with_more_files (with_asterisk (new_app (codes "debug"))))
     (required_named_word (codes "CONTEXT,EXTEN,PRIORITY") (codes "break")))))
 
--- `test [--trace] [--cover] [--explain] FILE..`
+-- a command with the flag `--graph`, for a picture in place of results
+abbrev pub with_graph : App → App
+with_graph app = with_rule app (flag (codes "graph") (codes "graph"))
+
+-- `test [--trace] [--cover] [--graph] [--json] [--explain] FILE..`
 abbrev pub test_app : App
 test_app =
-    with_explain (with_rule (with_rule (with_rule (new_app (codes "test")) (flag (codes "trace") (codes "trace"))) (flag (codes "cover") (codes "cover")))
-    (required_words (codes "FILE")))
+    with_explain (with_rule (with_json (with_graph (with_rule (with_rule (new_app (codes "test")) (flag (codes "trace") (codes "trace")))
+    (flag (codes "cover") (codes "cover"))))) (required_words (codes "FILE")))
 
 -- a command with the words for what may come in: the contexts at which calls do, and the bytes of extensions and of callers' numbers
 abbrev pub with_outside : App → App
@@ -145,12 +158,12 @@ with_outside app =
 abbrev pub with_facts : App → App
 with_facts app = with_rule app (named_word (codes "VALUES") (codes "facts"))
 
--- `reach [--asterisk [--clock MOMENT]] [--queues QUEUES] [--start CONTEXTS] [--exten BYTES] [--caller NUMBERS] [--facts VALUES] [--to TARGET]
--- [--explain] FILE CONTEXT`
+-- `reach [--asterisk [--clock MOMENT] [--assume NOTES]] [--queues QUEUES] [--start CONTEXTS] [--exten BYTES] [--caller NUMBERS] [--facts VALUES] [--to TARGET]
+-- [--json] [--explain] FILE CONTEXT`
 abbrev pub reach_app : App
 reach_app =
-    with_explain (with_rule (with_rule (with_rule (with_facts (with_outside (with_queues (with_asterisk (new_app (codes "reach")))))) (named_word (codes "TARGET") (codes "to")))
-    file_word) (required_word (codes "CONTEXT")))
+    with_explain (with_rule (with_rule (with_json (with_rule (with_facts (with_outside (with_queues (with_assume (with_asterisk (new_app (codes "reach")))))))
+    (named_word (codes "TARGET") (codes "to")))) file_word) (required_word (codes "CONTEXT")))
 
 -- a command that prints its version for `--version` and `-V`
 abbrev pub with_version : App → App
@@ -330,21 +343,11 @@ debug_asked words =
 
 -- the request of `test` on these files, given its other words
 abbrev pub test_of : List Row → List (List ℕ) → RequestOf
-test_of words files = testing files (is_set (codes "trace") words) (is_set (codes "cover") words)
+test_of words files = testing files (is_set (codes "trace") words) (is_set (codes "cover") words) (is_set (codes "graph") words)
 
 -- the request of `test`
 abbrev pub test_asked : List Row → Option RequestOf
 test_asked words = option_map (test_of words) (all_of (codes "FILE") words)
-
--- the request of `diff` on two files, given whether it reads the files that the dialplans include
-abbrev pub diff_of : Bool → List ℕ → List ℕ → RequestOf
-diff_of false before after = comparing before after
-diff_of true before after = comparing_files before after
-
--- the request of `diff`
-abbrev pub diff_asked : List Row → Option RequestOf
-diff_asked words =
-    option_and_then (λ before. option_map (diff_of (is_set (codes "asterisk") words) before) (first_of (codes "NEW") words)) (first_of (codes "OLD") words)
 
 -- the bytes of what names are set to from outside, if no others are given: only with `--asterisk` is something set
 abbrev pub usual_facts : List ℕ
@@ -358,6 +361,32 @@ facts_by false None = None
 
 abbrev pub facts_in : List Row → Option (List ℕ)
 facts_in words = facts_by (is_set (codes "asterisk") words) (first_of (codes "VALUES") words)
+
+-- the request of `diff` on two files, given whether it reads the files that the dialplans include
+abbrev pub diff_of : Bool → List ℕ → List ℕ → RequestOf
+diff_of false before after = comparing before after
+diff_of true before after = comparing_files before after
+
+-- the same for what a call reaches
+abbrev pub reach_diff_of : Bool → ReachDiffOf → RequestOf
+reach_diff_of false question = comparing_reach question
+reach_diff_of true question = comparing_reach_files question
+
+-- the question about what a call from a context reaches in two files, given the other words of `diff`
+abbrev pub reach_diff_at : List Row → List ℕ → List ℕ → List ℕ → ReachDiffOf
+reach_diff_at words before after from = record { before = before; after = after; from = from; facts = facts_in words }
+
+-- the request of `diff` on two files, given its other words and the context where calls come in, if one is named
+abbrev pub diff_by : List Row → List ℕ → List ℕ → Option (List ℕ) → RequestOf
+diff_by words before after None = diff_of (is_set (codes "asterisk") words) before after
+diff_by words before after (Some from) = reach_diff_of (is_set (codes "asterisk") words) (reach_diff_at words before after from)
+
+abbrev pub diff_at : List Row → List ℕ → List ℕ → RequestOf
+diff_at words before after = diff_by words before after (first_of (codes "CONTEXT") words)
+
+-- the request of `diff`
+abbrev pub diff_asked : List Row → Option RequestOf
+diff_asked words = option_and_then (λ before. option_map (diff_at words before) (first_of (codes "NEW") words)) (first_of (codes "OLD") words)
 
 -- what a picture shows of a file, given the other words of `graph`
 abbrev pub drawing_at : List Row → List ℕ → DrawingOf
@@ -425,6 +454,11 @@ abbrev pub clock_by : Option (List ℕ × List Row) → Option (List ℕ)
 clock_by None = None
 clock_by (Some command) = first_of (codes "MOMENT") command.1
 
+-- the word of `--assume`, by the words of a command; without a command there is none
+abbrev pub assumed_by : Option (List ℕ × List Row) → Option (List ℕ)
+assumed_by None = None
+assumed_by (Some command) = first_of (codes "NOTES") command.1
+
 -- whether a command takes the word of `--clock`: the word writes a moment and stands beside `--asterisk`
 abbrev pub takes_clock : Bool → Option (List ℕ) → Bool
 takes_clock is_wide None = true
@@ -459,7 +493,8 @@ json_by (Some command) = is_set (codes "json") command.1
 
 -- the options of a command
 abbrev pub options_by : Option (List ℕ × List Row) → OptionsOf
-options_by command = record { explains = explains_by command; clock = clock_by command; is_json = json_by command }
+options_by command =
+    record { explains = explains_by command; clock = clock_by command; assumed = assumed_by command; is_json = json_by command }
 
 -- the same, given all words of a command line
 unfoldable pub options_of : List (List ℕ) → OptionsOf

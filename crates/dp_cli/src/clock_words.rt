@@ -13,7 +13,7 @@ ghost use Rattle.dp_cli.specs.Refusals as refusals;
 use crate::command_line::{is_set, refuse, word_of};
 use crate::commands::{
     audit_command, check_command, debug_command, diff_command, graph_command, list_command,
-    match_command, run_command,
+    match_command, reach_command, run_command,
 };
 use clap::error::ErrorKind;
 use clap::{ArgMatches, Error};
@@ -48,6 +48,7 @@ fn refuse_for(
         "diff" => refuse(diff_command(alloc), "pbx diff", kind, message),
         "graph" => refuse(graph_command(alloc), "pbx graph", kind, message),
         "debug" => refuse(debug_command(alloc), "pbx debug", kind, message),
+        "reach" => refuse(reach_command(alloc), "pbx reach", kind, message),
         _ => refuse(run_command(alloc), "pbx run", kind, message),
     }
 }

@@ -11,7 +11,7 @@ ghost use Rattle.clap.specs.Walk.{all_of, first_of, rows_of};
 ghost use Rattle.clap.specs.declared.error.kind.ErrorKind.TheVariants.{ArgumentConflict, MissingRequiredArgument, OutOfMemory, ValueValidation};
 ghost use Rattle.dp_commands.specs.Script.{number_within};
 ghost use Rattle.dp_program.specs.Entries.{fault_numbered};
-ghost use Rattle.dp_program.specs.Requests.{drawing_of, options_of, question_of, request_asked};
+ghost use Rattle.dp_program.specs.Requests.{drawing_of, options_of, question_of, reach_diff_of as question_texts, request_asked};
 ghost use Rattle.dp_program.specs.Texts.{paths_of};
 ghost use Rattle.dp_cli.specs.CommandLine as spec;
 ghost use Rattle.dp_cli.specs.Refusals as refusals;
@@ -27,7 +27,8 @@ use clap::{ArgMatches, Command, Error};
 use dp_commands::number_within;
 use dp_plan::{MOST_PRIORITY, NoMemory, Priority};
 use dp_program::{
-    DiffFiles, FaultNumber, GraphQuestion, Lookup, Options, ReachQuestion, Request, RunFiles,
+    DiffFiles, FaultNumber, GraphQuestion, Lookup, Options, ReachDiffQuestion, ReachQuestion,
+    Request, RunFiles,
 };
 use std::alloc::Global;
 
@@ -36,7 +37,7 @@ use std::alloc::Global;
 pub struct Invocation<'a> {
     /// What the program does.
     pub request: Request<'a>,
-    /// The options that many commands have: `--explain`, `--clock` and `--json`.
+    /// The options that many commands have: `--explain`, `--clock`, `--assume` and `--json`.
     pub options: Options<'a>,
 }
 
@@ -394,6 +395,7 @@ fn test_of<'a>(given: &ArgMatches<'_>, files: Vec<&'a str>) -> Request<'a>
         files,
         is_traced: is_set(given, "trace"),
         is_covered: is_set(given, "cover"),
+        is_drawn: is_set(given, "graph"),
     }
 }
 
@@ -419,14 +421,47 @@ fn diff_of<'a>(includes: bool, files: DiffFiles<'a>) -> Request<'a>
     }
 }
 
+/// The request of `diff` on what a call reaches, given whether it reads the files that the dialplans include.
+fn reach_diff_of<'a>(includes: bool, question: ReachDiffQuestion<'a>) -> Request<'a>
+    ensures { request_asked result ≡ spec.reach_diff_of includes (question_texts question.entry) }
+{
+    if includes {
+        Request::ReachDiffIncluding { question }
+    } else {
+        Request::ReachDiff { question }
+    }
+}
+
+/// The request of `diff` on what a call from a context reaches in two files.
+fn reach_diff_at<'a>(given: &ArgMatches<'a>, files: DiffFiles<'a>, from: &'a str) -> Request<'a>
+    ensures { request_asked result ≡ spec.reach_diff_of (spec.is_set (codes "asterisk") (rows_of (found_of given.now)))
+        (spec.reach_diff_at (rows_of (found_of given.now)) files.entry.before.now files.entry.after.now from.now) }
+{
+    let question = ReachDiffQuestion {
+        files,
+        from,
+        facts: facts_of(given),
+    };
+    reach_diff_of(is_set(given, "asterisk"), question)
+}
+
+/// The request of `diff` on two files.
+fn diff_at<'a>(given: &ArgMatches<'a>, files: DiffFiles<'a>) -> Request<'a>
+    ensures { request_asked result ≡ spec.diff_at (rows_of (found_of given.now)) files.entry.before.now files.entry.after.now }
+{
+    match word_of(given, "CONTEXT") {
+        None => diff_of(is_set(given, "asterisk"), files),
+        Some(from) => reach_diff_at(given, files, from),
+    }
+}
+
 /// The request of `diff`.
 fn diff_request<'a>(given: &ArgMatches<'a>) -> Option<Request<'a>>
     ensures { option_map request_asked result ≡ spec.diff_asked (rows_of (found_of given.now)) }
 {
     let before = word_of(given, "OLD")?;
     let after = word_of(given, "NEW")?;
-    let files = DiffFiles { before, after };
-    Some(diff_of(is_set(given, "asterisk"), files))
+    Some(diff_at(given, DiffFiles { before, after }))
 }
 
 /// The request of `graph`, given whether it reads the files that the dialplan and its queues include.
@@ -542,6 +577,16 @@ fn is_json(matches: &ArgMatches<'_>) -> bool
     }
 }
 
+/// The word of `--assume` in the words of a command, if it is there.
+fn assumed_of<'a>(matches: &ArgMatches<'a>) -> Option<&'a str>
+    ensures { option_map (λ word. word.now) result ≡ spec.assumed_by (subcommand_rows_of matches.now) }
+{
+    match matches.subcommand() {
+        Some((_, given)) => word_of(given, "NOTES"),
+        None => None,
+    }
+}
+
 /// The options of the program's commands.
 fn options_in<'a>(matches: &ArgMatches<'a>) -> Options<'a>
     ensures { options_of result ≡ spec.options_by (subcommand_rows_of matches.now) }
@@ -550,6 +595,7 @@ fn options_in<'a>(matches: &ArgMatches<'a>) -> Options<'a>
     Options {
         explains: explains(matches),
         clock,
+        assumed: assumed_of(matches),
         is_json: is_json(matches),
     }
 }

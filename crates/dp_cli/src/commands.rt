@@ -179,6 +179,22 @@ fn with_asterisk<'a>(
     with_word(with, clock)
 }
 
+/// The command with the names of notes, for lines that are assumed to have no effect.
+fn with_assume<'a>(
+    alloc: Global,
+    command: Result<Command<'a>, NoMemory>,
+) -> Result<Command<'a>, NoMemory>
+    ensures { (app : App) → Makes app command.entry → Makes (spec.with_assume app) result }
+{
+    let notes = named_word(
+        alloc,
+        "NOTES",
+        "assume",
+        "With --asterisk: assume that lines with these notes have no effect, like Switch,CallerId",
+    );
+    with_word(command, notes)
+}
+
 /// The command with the words for the files that every run has: its dialplan and its script.
 fn with_files<'a>(
     alloc: Global,
@@ -333,6 +349,18 @@ pub(crate) fn audit_command<'a>(alloc: Global) -> Result<Command<'a>, NoMemory>
     with_explain(alloc, audit)
 }
 
+/// The command with the word for a context where calls come in.
+fn with_from<'a>(
+    alloc: Global,
+    command: Result<Command<'a>, NoMemory>,
+    help: &'a str,
+) -> Result<Command<'a>, NoMemory>
+    ensures { (app : App) → Makes app command.entry → Makes (spec.with_from app) result }
+{
+    let from = named_word(alloc, "CONTEXT", "from", help);
+    with_word(command, from)
+}
+
 /// The command `diff`.
 pub(crate) fn diff_command<'a>(alloc: Global) -> Result<Command<'a>, NoMemory>
     ensures { Makes spec.diff_app result }
@@ -347,6 +375,11 @@ pub(crate) fn diff_command<'a>(alloc: Global) -> Result<Command<'a>, NoMemory>
         alloc,
         diff,
         "Read included files, templates and block comments",
+    );
+    let diff = with_from(
+        alloc,
+        diff,
+        "A context where calls come in: print which contexts they can reach only in OLD or only in NEW",
     );
     let before = required_word(alloc, "OLD", "The dialplan before a change");
     let diff = with_word(diff, before);
@@ -375,13 +408,11 @@ pub(crate) fn graph_command<'a>(alloc: Global) -> Result<Command<'a>, NoMemory>
         graph,
         "The queues, such as queues.conf, whose ways out are drawn",
     );
-    let from = named_word(
+    let graph = with_from(
         alloc,
-        "CONTEXT",
-        "from",
+        graph,
         "A context where calls come in: what they can reach is filled, and the rest is grey",
     );
-    let graph = with_word(graph, from);
     let graph = with_dialplan(alloc, graph);
     with_explain(alloc, graph)
 }
@@ -440,6 +471,7 @@ pub(crate) fn match_command<'a>(alloc: Global) -> Result<Command<'a>, NoMemory>
         matching,
         "Read included files, templates and block comments",
     );
+    let matching = with_assume(alloc, matching);
     let all = flag(
         alloc,
         "all",
@@ -528,6 +560,22 @@ pub(crate) fn debug_command<'a>(alloc: Global) -> Result<Command<'a>, NoMemory>
     with_explain(alloc, debug)
 }
 
+/// The command with the flag `--graph`.
+fn with_graph<'a>(
+    alloc: Global,
+    command: Result<Command<'a>, NoMemory>,
+) -> Result<Command<'a>, NoMemory>
+    ensures { (app : App) → Makes app command.entry → Makes (spec.with_graph app) result }
+{
+    let graph = flag(
+        alloc,
+        "graph",
+        "graph",
+        "Draw the dialplan for Graphviz by what ran, in place of the results",
+    );
+    with_word(command, graph)
+}
+
 /// The command `test`.
 fn test_command<'a>(alloc: Global) -> Result<Command<'a>, NoMemory>
     ensures { Makes spec.test_app result }
@@ -547,6 +595,8 @@ fn test_command<'a>(alloc: Global) -> Result<Command<'a>, NoMemory>
         "Print at the end how many entries of each dialplan ran in a test, and each entry that did not",
     );
     let test = with_word(test, cover);
+    let test = with_graph(alloc, test);
+    let test = with_json(alloc, test);
     let files = required_words(alloc, "FILE", "The test files, such as office.test");
     let test = with_word(test, files);
     with_explain(alloc, test)
@@ -599,7 +649,7 @@ fn with_facts<'a>(
 }
 
 /// The command `reach`.
-fn reach_command<'a>(alloc: Global) -> Result<Command<'a>, NoMemory>
+pub(crate) fn reach_command<'a>(alloc: Global) -> Result<Command<'a>, NoMemory>
     ensures { Makes spec.reach_app result }
 {
     let reach = command_of(
@@ -613,6 +663,7 @@ fn reach_command<'a>(alloc: Global) -> Result<Command<'a>, NoMemory>
         reach,
         "Know the applications and functions that people use, and read included files, templates and block comments",
     );
+    let reach = with_assume(alloc, reach);
     let reach = with_queues(
         alloc,
         reach,
@@ -627,6 +678,7 @@ fn reach_command<'a>(alloc: Global) -> Result<Command<'a>, NoMemory>
         "Report only whether the call may reach this context",
     );
     let reach = with_word(reach, target);
+    let reach = with_json(alloc, reach);
     let reach = with_dialplan(alloc, reach);
     let context = required_word(alloc, "CONTEXT", "The context where the call comes in");
     let reach = with_word(reach, context);

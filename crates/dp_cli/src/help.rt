@@ -69,6 +69,7 @@ With --all a line follows for each extension that matches, in the order in which
 
 With --asterisk the files that the dialplan includes are read. If a line has a fault, or something that this program cannot follow
 (`switch`, an extension for one caller, `autofallthrough=no`, `#exec`), each such line is printed on standard error, with status 1.
+With --assume such lines have no effect: Switch, CallerId, AutoFallThrough and Exec, separated by commas.
 
 With --json each line on standard output is a JSON object: of type `match`, `none` or `candidate`.
 
@@ -83,6 +84,12 @@ Each event is followed by all steps that are possible. A test passes if no event
 `expect` line comes true. The results of all files are one list in the Test Anything Protocol, version 14. A test that fails has its
 line, what was expected, what came instead, and the last entries that ran. If a test file or a file that it names has faults, those of
 all files are printed on standard error with their files and lines, no test runs, and the status is 1.
+
+With --graph a picture of the dialplan of the first file is printed in place of the results, as `pbx graph` draws it. Its extensions are
+green if all of their entries ran in a test, yellow if some did, and white if none did.
+
+With --json each result is a JSON object of type `test`, and the last one is of type `count`; with --cover objects of the types
+`covered` and `never` follow. With --json nothing of --trace is printed.
 
 Example:
   $ cat office.test
@@ -131,6 +138,9 @@ Prints what answers differently in NEW than in OLD: for each context, name and p
 after `+`, as `CONTEXT,NAME,PRIORITY APPLICATION(ARGUMENTS)`. A context answers with its own entries and then with those of its
 includes. The spelling of a name and a label make no difference. The status is 1 if there is a difference.
 
+With --from CONTEXT it prints instead `- reaches NAME` for each context that a call from CONTEXT may reach in OLD but not in NEW, as
+`pbx reach` finds it without queues, and `+ reaches NAME` for each that it may reach in NEW but not in OLD.
+
 With --asterisk included files, templates and block comments are read too. If lines have faults, each fault is printed on standard
 error with its file and line, and the status is 1.
 
@@ -146,6 +156,7 @@ in which a look-up tries them, and what each does first. Arrows are dashed for i
 dotted for the ways out of queues, which --queues names. A target that only the call decides is a diamond; one that does not exist is red.
 
 With --from CONTEXT the entries that a call from CONTEXT may run are filled, as `pbx reach` finds them, and all others are grey.
+`pbx test --graph` colours the dialplan of tests by what they ran.
 
 With --asterisk included files, templates and block comments are read too. If lines have faults, each fault is printed on standard
 error with its file and line, and the status is 1.
@@ -164,7 +175,10 @@ with status 1.
 
 With --asterisk the applications and functions are those that people use, and included files, templates and block comments are read too.
 Scripts and other programs may then set variables to any text of the bytes after --facts. If lines have faults, or have what this
-program cannot follow, each is printed on standard error with its file and line, and the status is 1.
+program cannot follow, each is printed on standard error with its file and line, and the status is 1. With --assume Switch, for
+example, lines with this note have no effect.
+
+With --json each line is a JSON object: of type `assumed`, `note`, `entry`, `way`, `verdict` or `count`.
 
 Example:
   $ pbx reach extensions.conf from-carrier --to international
@@ -212,7 +226,8 @@ this program cannot follow (`switch`, an extension for one caller, `autofallthro
 such line is printed on standard error, with status 1. These lines of a script say what would otherwise be unknown, or show it:
   let CHANNEL NAME=VALUE         a variable of the channel, or what `Set` would set
   global NAME=VALUE              a global variable
-  assume NAME ..                 values that nothing has set in these functions, such as DB, are empty
+  assume NAME ..                 values that nothing has set in these functions, such as DB, are empty; with the names Switch, CallerId,
+                                 AutoFallThrough and Exec: lines with these notes have no effect
   clock DAY YYYY-MM-DD HH:MM     the time
   go CHANNEL                     what the channel waits for ends
   redirect CHANNEL CONTEXT EXTEN [PRIORITY]   the channel goes to a place

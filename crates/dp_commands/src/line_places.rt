@@ -29,7 +29,7 @@ impl<'a> SourceLines<'a> {
     ghost use Rattle.dp_commands.specs.LinePlaces as spec;
 
     /// The position from which a line of the text comes, if there is such a line.
-    fn position(&self, line: Option<usize>) -> Option<LinePosition>
+    pub fn position(&self, line: Option<usize>) -> Option<LinePosition>
         ensures { result ≡ spec.position_of self.now.lines.now line }
     {
         match line {
@@ -39,7 +39,7 @@ impl<'a> SourceLines<'a> {
     }
 
     /// The name of the file with the number, or an empty text.
-    fn file_name(&self, file: usize) -> &'a [u8]
+    pub fn file_name(&self, file: usize) -> &'a [u8]
         ensures { result.now ≡ spec.file_name self.now.files.now file }
     {
         match self.files.get(file) {

@@ -220,7 +220,7 @@ none_among f (name ∷ names) none context there =
       by later false other is = later is
 
 -- a name that passes a test is among those that pass it
-among_filtered : (test : List ℕ → Bool) (context : List ℕ) → test context ≡ true → (names : List (List ℕ)) → list_any (same_text context) names ≡ true → list_any (same_text context) (filter test names) ≡ true
+pub among_filtered : (test : List ℕ → Bool) (context : List ℕ) → test context ≡ true → (names : List (List ℕ)) → list_any (same_text context) names ≡ true → list_any (same_text context) (filter test names) ≡ true
 among_filtered test context passes [] there = there
 among_filtered test context passes (name ∷ names) there =
     by (among_filtered test context passes names) (test name) refl (same_text context name) refl there where

@@ -2,6 +2,7 @@ mod AlikeLemmas
 mod AnsweringLemmas
 mod ContextsLemmas
 mod FlowLemmas
+mod ReachLemmas
 mod TellingLemmas
 mod UnchangedLemmas
 mod WritingLemmas

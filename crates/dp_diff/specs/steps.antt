@@ -1,3 +1,4 @@
 -- The steps of private functions. No public clause depends on them.
 pub mod Places
+pub mod Reaching
 pub mod Telling

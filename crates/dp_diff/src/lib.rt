@@ -6,10 +6,12 @@ mod diff;
 mod fault;
 pub mod laws;
 mod place;
+mod reaches;
 mod searcher;
 mod sheet;
 mod telling;
 
 pub use diff::write_differences;
-pub use dp_plan::{Dialplan, NoMemory};
+pub use dp_plan::{Dialplan, EntryId, NoMemory};
 pub use fault::DiffFault;
+pub use reaches::{Reach, write_reach_changes};

@@ -1,6 +1,6 @@
 -- The boxes of a picture: one for each context of the dialplan, with a row for each of its extensions.
-use Rattle.std.specs.Prelude.{ℕ, Bool, List, [], ◌∷◌, ◌++◌, map, Option, Some, None, codes, if◌then◌else◌}
-use Rattle.std.specs.List.{flat_map, list_any, range_with_len}
+use Rattle.std.specs.Prelude.{ℕ, Bool, not, List, [], ◌∷◌, ◌++◌, map, codes, if◌then◌else◌}
+use Rattle.std.specs.List.{flat_map, list_all, list_any, range_with_len}
 use Rattle.std.specs.Option.{option_map, option_to_list}
 use Rattle.dp_pattern.specs.Spelling.{spelling}
 use Rattle.dp_plan.specs.Lookup.{entry_at}
@@ -10,19 +10,37 @@ use Rattle.dp_plan.specs.declared.entry.EntryId.{EntryId}
 use Rattle.dp_lookup.specs.SearchOrder.{context_count}
 use Rattle.dp_audit.specs.Candidates.{extensions, ranked_of, same_id}
 use Rattle.dp_audit.specs.Findings.{context_name}
+use Rattle.dp_graph.specs.Shading.{ShadingOf, Unshaded, ByCall, ByTests}
 use Rattle.dp_graph.specs.declared.shade.Shade.{Shade}
-use Rattle.dp_graph.specs.declared.shade.Shade.TheVariants.{Plain, Reached, Unreached}
+use Rattle.dp_graph.specs.declared.shade.Shade.TheVariants.{Plain, Reached, Unreached, AllRan, SomeRan, NoneRan}
 
--- whether one of the entries is among those that a call reaches
-abbrev pub is_reached : List EntryId → List EntryId → Bool
-is_reached reached ids = list_any (λ id. list_any (same_id id) reached) ids
+-- whether an entry is among others
+abbrev pub is_among : List EntryId → EntryId → Bool
+is_among others id = list_any (same_id id) others
 
--- how entries are shown, given those that a call reaches, if anything is known of them
-abbrev pub shade_of : Option (List EntryId) → List EntryId → Shade
-shade_of None ids = Plain
-shade_of (Some reached) ids = if is_reached reached ids then Reached else Unreached
+-- whether one of some entries is among others
+abbrev pub some_among : List EntryId → List EntryId → Bool
+some_among others ids = list_any (is_among others) ids
 
--- a row: the name of an extension, what its first entry does, and whether a call reaches one of its entries
+-- whether all of some entries are among others
+abbrev pub all_among : List EntryId → List EntryId → Bool
+all_among others ids = list_all (is_among others) ids
+
+-- how entries are shown, given those that a call reaches
+abbrev pub shade_by_call : List EntryId → List EntryId → Shade
+shade_by_call reached ids = if some_among reached ids then Reached else Unreached
+
+-- how entries are shown, given those that tests ran; of no entries none ran
+abbrev pub shade_by_tests : List EntryId → List EntryId → Shade
+shade_by_tests ran ids = if not (some_among ran ids) then NoneRan else if all_among ran ids then AllRan else SomeRan
+
+-- how entries are shown
+abbrev pub shade_of : ShadingOf → List EntryId → Shade
+shade_of Unshaded ids = Plain
+shade_of (ByCall reached) ids = shade_by_call reached ids
+shade_of (ByTests ran) ids = shade_by_tests ran ids
+
+-- a row: the name of an extension, what its first entry does, and what is known of its entries
 pub record Row : Type 0 where
   pub name : List ℕ
   pub action : List ℕ
@@ -37,11 +55,11 @@ abbrev pub row_by : Shade → Entry → Row
 row_by shade entry = record { name = spelling entry.name; action = action_of entry; shade = shade }
 
 -- the row of an extension, whose entries are ranked, so that the first has the least priority
-abbrev pub rows_of : PlanOf → Option (List EntryId) → List EntryId → List Row
-rows_of plan reached [] = []
-rows_of plan reached (first ∷ ids) = option_to_list (option_map (row_by (shade_of reached (first ∷ ids))) (entry_at plan first))
+abbrev pub rows_of : PlanOf → ShadingOf → List EntryId → List Row
+rows_of plan shading [] = []
+rows_of plan shading (first ∷ ids) = option_to_list (option_map (row_by (shade_of shading (first ∷ ids))) (entry_at plan first))
 
--- a box: the number and the name of a context, whether a call reaches one of its entries, and its rows
+-- a box: the number and the name of a context, what is known of its entries, and its rows
 pub record Box : Type 0 where
   pub number : ℕ
   pub name : List ℕ
@@ -49,14 +67,14 @@ pub record Box : Type 0 where
   pub rows : List Row
 
 -- the box of the context with a number, with its extensions in the order in which a look-up tries them
-abbrev pub box_at : PlanOf → Option (List EntryId) → ℕ → Box
-box_at plan reached number = record {
+abbrev pub box_at : PlanOf → ShadingOf → ℕ → Box
+box_at plan shading number = record {
   number = number;
   name = context_name plan number;
-  shade = shade_of reached (ranked_of plan number);
-  rows = flat_map (rows_of plan reached) (extensions plan (ranked_of plan number));
+  shade = shade_of shading (ranked_of plan number);
+  rows = flat_map (rows_of plan shading) (extensions plan (ranked_of plan number));
 }
 
 -- the boxes of all contexts, in their order
-abbrev pub boxes_of : PlanOf → Option (List EntryId) → List Box
-boxes_of plan reached = map (box_at plan reached) (range_with_len 0 (context_count plan))
+abbrev pub boxes_of : PlanOf → ShadingOf → List Box
+boxes_of plan shading = map (box_at plan shading) (range_with_len 0 (context_count plan))

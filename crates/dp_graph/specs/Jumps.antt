@@ -1,4 +1,5 @@
--- The arrows of an extension: where the jumps of its entries lead, and the ways out of the queues in which its entries let a caller wait.
+-- The arrows of an extension: where the jumps of its entries lead, and the ways out of the queues in which its entries let a caller wait. An
+-- entry runs its own application or, with `ExecIf`, one of two others.
 use Rattle.std.specs.Prelude.{ℕ, true, false, ◌&&◌, ◌==◌, List, [], ◌∷◌, ◌++◌, Option, Some, None, codes, if◌then◌else◌}
 use Rattle.std.specs.List.{filter_map, find, flat_map}
 use Rattle.std.specs.Option.{option_and_then, option_map, option_map_or, option_to_list}
@@ -17,6 +18,7 @@ use Rattle.dp_audit.specs.Loops.{priority_of}
 use Rattle.dp_audit.specs.Targets.{PartsOf, exten_of, jump_of as plain_jump_of, part_or, parts_of, parts_stand, targets_in}
 use Rattle.dp_audit.specs.declared.jump.Jump.{Jump}
 use Rattle.dp_graph.specs.Arrows.{each_once}
+use Rattle.dp_graph.specs.ExecIf.{CallOf, call_of, exec_if_calls}
 use Rattle.dp_graph.specs.declared.arrow.Arrow.{Arrow}
 use Rattle.dp_graph.specs.declared.arrow.ArrowKind.{ArrowKind}
 use Rattle.dp_graph.specs.declared.arrow.ArrowKind.TheVariants.{Jump as ToExtension, Subroutine, WayOut}
@@ -83,10 +85,10 @@ arrow_to kind destination = record { kind = kind; destination = destination }
 abbrev pub target_arrow : PlanOf → List ℕ → EntryId → Entry → Jump → List ℕ → Option Arrow
 target_arrow plan context own entry jump target = option_map (arrow_to (kind_of jump)) (destination_of plan context own entry jump target)
 
--- the arrows of the targets of an entry, in the order of its arguments
-abbrev pub jump_arrows : PlanOf → List ℕ → EntryId → Entry → Option Jump → List Arrow
-jump_arrows plan context own entry None = []
-jump_arrows plan context own entry (Some jump) = filter_map (target_arrow plan context own entry jump) (targets_in jump entry.arguments)
+-- the arrows of the targets in the arguments of an application that an entry may run, in their order, given how it jumps, if it does
+abbrev pub jump_arrows : PlanOf → List ℕ → EntryId → Entry → List ℕ → Option Jump → List Arrow
+jump_arrows plan context own entry arguments None = []
+jump_arrows plan context own entry arguments (Some jump) = filter_map (target_arrow plan context own entry jump) (targets_in jump arguments)
 
 -- the first of some arguments
 abbrev pub first_of : List (List ℕ) → List ℕ
@@ -108,17 +110,27 @@ exit_arrow plan exit = arrow_to WayOut (exit_to plan exit)
 abbrev pub exit_of : List QueueExit → List ℕ → Option QueueExit
 exit_of exits queue = find (λ exit. same_text exit.queue queue) exits
 
--- the arrows of the way out of the queue in which an entry lets a caller wait
-abbrev pub exit_arrows : PlanOf → List QueueExit → Entry → List Arrow
-exit_arrows plan exits entry =
-    if same_word entry.application (codes "Queue")
-    then option_to_list (option_map (exit_arrow plan) (exit_of exits (queue_in entry.arguments)))
+-- the arrows of the way out of the queue in which an application lets a caller wait
+abbrev pub exit_arrows : PlanOf → List QueueExit → CallOf → List Arrow
+exit_arrows plan exits call =
+    if same_word call.name (codes "Queue")
+    then option_to_list (option_map (exit_arrow plan) (exit_of exits (queue_in call.arguments)))
     else []
+
+-- the arrows of an application that an entry may run
+abbrev pub call_arrows : PlanOf → List QueueExit → List ℕ → EntryId → Entry → CallOf → List Arrow
+call_arrows plan exits context own entry call =
+    jump_arrows plan context own entry call.arguments (jump_of call.name) ++ exit_arrows plan exits call
+
+-- the applications that an entry may run: those that an `ExecIf` names, and else its own
+abbrev pub calls_of : Entry → List CallOf
+calls_of entry =
+    if same_word entry.application (codes "ExecIf") then exec_if_calls entry.arguments
+    else call_of entry.application entry.arguments ∷ []
 
 -- the arrows of an entry in a context with this name
 abbrev pub entry_arrows : PlanOf → List QueueExit → List ℕ → EntryId → Entry → List Arrow
-entry_arrows plan exits context own entry =
-    jump_arrows plan context own entry (jump_of entry.application) ++ exit_arrows plan exits entry
+entry_arrows plan exits context own entry = flat_map (call_arrows plan exits context own entry) (calls_of entry)
 
 -- the arrows of the entry with these numbers; none if there is no such entry
 abbrev pub arrows_at : PlanOf → List QueueExit → EntryId → List Arrow

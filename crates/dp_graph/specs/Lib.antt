@@ -1,7 +1,9 @@
 pub mod Arrows
 pub mod Boxes
+pub mod ExecIf
 pub mod Faults
 pub mod Jumps
 pub mod Labels
 pub mod Picture
 pub mod Printing
+pub mod Shading

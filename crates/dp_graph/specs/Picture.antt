@@ -12,6 +12,7 @@ use Rattle.dp_audit.specs.Candidates.{extensions, ranked_of}
 use Rattle.dp_audit.specs.Findings.{context_name}
 use Rattle.dp_graph.specs.Boxes.{Box, boxes_of}
 use Rattle.dp_graph.specs.Jumps.{arrows_of}
+use Rattle.dp_graph.specs.Shading.{ShadingOf}
 use Rattle.dp_graph.specs.declared.arrow.Arrow.{Arrow}
 use Rattle.dp_graph.specs.declared.arrows.Origin.{Origin as HeldOrigin}
 use Rattle.dp_graph.specs.declared.exit.QueueExit.{QueueExit}
@@ -89,7 +90,7 @@ pub record Picture : Type 0 where
   pub inclusions : List Inclusion
   pub arrows : List DrawnArrow
 
--- the picture of a dialplan, given the entries that a call reaches, if they are known, and the ways out of queues
-unfoldable pub picture_of : PlanOf → Option (List EntryId) → List QueueExit → Picture
-picture_of plan reached exits =
-    record { boxes = boxes_of plan reached; inclusions = inclusions_of plan; arrows = all_arrows plan exits }
+-- the picture of a dialplan, given what its fills say, and the ways out of queues
+unfoldable pub picture_of : PlanOf → ShadingOf → List QueueExit → Picture
+picture_of plan shading exits =
+    record { boxes = boxes_of plan shading; inclusions = inclusions_of plan; arrows = all_arrows plan exits }

@@ -11,7 +11,7 @@ use Rattle.dp_graph.specs.declared.arrow.ArrowKind.TheVariants.{Jump, Subroutine
 use Rattle.dp_graph.specs.declared.arrow.Destination.{Destination}
 use Rattle.dp_graph.specs.declared.arrow.Destination.TheVariants.{Extension, Context, Computed, Missing}
 use Rattle.dp_graph.specs.declared.shade.Shade.{Shade}
-use Rattle.dp_graph.specs.declared.shade.Shade.TheVariants.{Plain, Reached, Unreached}
+use Rattle.dp_graph.specs.declared.shade.Shade.TheVariants.{Plain, Reached, Unreached, AllRan, SomeRan, NoneRan}
 
 -- ---- names of nodes and rows
 
@@ -29,16 +29,22 @@ box_node number = codes "c" ++ decimal number
 
 -- ---- boxes
 
--- the colours of headings and of rows
+-- the colours of headings and of rows; in grey print, the more entries tests ran, the darker is the fill
 unfoldable pub heading_colour : Shade → List ℕ
 heading_colour Plain = codes "#dce6f2"
 heading_colour Reached = codes "#a9d6a9"
 heading_colour Unreached = codes "#c8c8c8"
+heading_colour AllRan = codes "#6fb36f"
+heading_colour SomeRan = codes "#e0c050"
+heading_colour NoneRan = codes "#e6e6e6"
 
 unfoldable pub row_colour : Shade → List ℕ
 row_colour Plain = codes "#ffffff"
 row_colour Reached = codes "#e2f3e2"
 row_colour Unreached = codes "#e6e6e6"
+row_colour AllRan = codes "#8cc98c"
+row_colour SomeRan = codes "#f0dc82"
+row_colour NoneRan = codes "#ffffff"
 
 -- the start of a cell of a row, up to the sign for its side
 unfoldable pub port_start : List ℕ → List ℕ

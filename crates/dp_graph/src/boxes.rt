@@ -1,18 +1,18 @@
 //! The boxes of a picture.
 ghost use Rattle.std.specs.Prelude.{◌≡◌, ◌++◌, IfOk, OnOk};
 ghost use Rattle.std.specs.List.{flat_map};
-ghost use Rattle.std.specs.Option.{option_map};
 ghost use Rattle.dp_audit.specs.Candidates.{extensions, ranked_of};
 ghost use Rattle.dp_audit.specs.Findings.{context_name};
 ghost use Rattle.dp_graph.specs.Boxes as boxes;
 ghost use Rattle.dp_graph.specs.Printing as spec;
+ghost use Rattle.dp_graph.specs.Shading.{shading_now};
 
 use crate::extensions::{name_of, ranked_of, split_first};
 use crate::label::{push_label, push_short};
 use crate::names::{push_box_node, push_name};
 use crate::shade::{Shade, shade_of};
+use crate::shading::Shading;
 use dp_plan::{Dialplan, Entry, EntryId, NoMemory};
-use indexmap::IndexSet;
 use std::alloc::Global;
 
 /// Adds the colour of a heading.
@@ -24,6 +24,9 @@ fn push_heading_colour(out: &mut Vec<u8>, shade: Shade) -> Result<(), NoMemory>
         Shade::Plain => out.extend_from_slice(b"#dce6f2"),
         Shade::Reached => out.extend_from_slice(b"#a9d6a9"),
         Shade::Unreached => out.extend_from_slice(b"#c8c8c8"),
+        Shade::AllRan => out.extend_from_slice(b"#6fb36f"),
+        Shade::SomeRan => out.extend_from_slice(b"#e0c050"),
+        Shade::NoneRan => out.extend_from_slice(b"#e6e6e6"),
     }
 }
 
@@ -36,6 +39,9 @@ fn push_row_colour(out: &mut Vec<u8>, shade: Shade) -> Result<(), NoMemory>
         Shade::Plain => out.extend_from_slice(b"#ffffff"),
         Shade::Reached => out.extend_from_slice(b"#e2f3e2"),
         Shade::Unreached => out.extend_from_slice(b"#e6e6e6"),
+        Shade::AllRan => out.extend_from_slice(b"#8cc98c"),
+        Shade::SomeRan => out.extend_from_slice(b"#f0dc82"),
+        Shade::NoneRan => out.extend_from_slice(b"#ffffff"),
     }
 }
 
@@ -140,17 +146,17 @@ fn push_extension(
     alloc: Global,
     out: &mut Vec<u8>,
     plan: &Dialplan,
-    reached: Option<&IndexSet<EntryId>>,
+    shading: Shading<'_>,
     ids: &[EntryId],
 ) -> Result<(), NoMemory>
     ensures { OnOk result (out.new.items ≡ out.old.items
-        ++ flat_map spec.row_text (boxes.rows_of plan.now (option_map (λ set. set.now.keys) reached.entry) ids.now)) }
+        ++ flat_map spec.row_text (boxes.rows_of plan.now (shading_now shading.entry) ids.now)) }
 {
     let Some(first) = ids.first() else {
         return Ok(());
     };
     match plan.entry(*first) {
-        Some(entry) => push_row(alloc, out, entry, shade_of(reached, ids)),
+        Some(entry) => push_row(alloc, out, entry, shade_of(shading, ids)),
         None => Ok(()),
     }
 }
@@ -160,16 +166,16 @@ fn push_extensions(
     alloc: Global,
     out: &mut Vec<u8>,
     plan: &Dialplan,
-    reached: Option<&IndexSet<EntryId>>,
+    shading: Shading<'_>,
     ids: &[EntryId],
 ) -> Result<(), NoMemory>
     ensures { OnOk result (out.new.items ≡ out.old.items ++ flat_map spec.row_text
-        (flat_map (boxes.rows_of plan.now (option_map (λ set. set.now.keys) reached.entry)) (extensions plan.now ids.now))) }
+        (flat_map (boxes.rows_of plan.now (shading_now shading.entry)) (extensions plan.now ids.now))) }
 {
     let mut rest = ids;
     while !rest.is_empty() {
         let (extension, after) = split_first(plan, rest);
-        push_extension(alloc, out, plan, reached, extension)?;
+        push_extension(alloc, out, plan, shading, extension)?;
         rest = after;
     }
     Ok(())
@@ -207,10 +213,10 @@ fn push_box_start(out: &mut Vec<u8>, number: usize) -> Result<(), NoMemory>
 }
 
 /// How the box of the context with this number is shown.
-fn box_shade(plan: &Dialplan, reached: Option<&IndexSet<EntryId>>, number: usize) -> Shade
-    ensures { result ≡ boxes.shade_of (option_map (λ set. set.now.keys) reached.entry) (ranked_of plan.now number) }
+fn box_shade(plan: &Dialplan, shading: Shading<'_>, number: usize) -> Shade
+    ensures { result ≡ boxes.shade_of (shading_now shading.entry) (ranked_of plan.now number) }
 {
-    shade_of(reached, ranked_of(plan, number))
+    shade_of(shading, ranked_of(plan, number))
 }
 
 /// Adds the rows of the context with this number.
@@ -218,13 +224,13 @@ fn push_rows(
     alloc: Global,
     out: &mut Vec<u8>,
     plan: &Dialplan,
-    reached: Option<&IndexSet<EntryId>>,
+    shading: Shading<'_>,
     number: usize,
 ) -> Result<(), NoMemory>
     ensures { OnOk result (out.new.items ≡ out.old.items ++ flat_map spec.row_text
-        (flat_map (boxes.rows_of plan.now (option_map (λ set. set.now.keys) reached.entry)) (extensions plan.now (ranked_of plan.now number)))) }
+        (flat_map (boxes.rows_of plan.now (shading_now shading.entry)) (extensions plan.now (ranked_of plan.now number)))) }
 {
-    push_extensions(alloc, out, plan, reached, ranked_of(plan, number))
+    push_extensions(alloc, out, plan, shading, ranked_of(plan, number))
 }
 
 /// Adds the start of the box of the context with this number, with the row that has its name.
@@ -233,13 +239,13 @@ fn push_box_top(
     alloc: Global,
     out: &mut Vec<u8>,
     plan: &Dialplan,
-    reached: Option<&IndexSet<EntryId>>,
+    shading: Shading<'_>,
     number: usize,
 ) -> Result<(), NoMemory>
     ensures { OnOk result (out.new.items ≡ out.old.items ++ spec.box_top number
-        (boxes.shade_of (option_map (λ set. set.now.keys) reached.entry) (ranked_of plan.now number)) (context_name plan.now number)) }
+        (boxes.shade_of (shading_now shading.entry) (ranked_of plan.now number)) (context_name plan.now number)) }
 {
-    let shade = box_shade(plan, reached, number);
+    let shade = box_shade(plan, shading, number);
     push_box_start(out, number)?;
     push_heading(alloc, out, name_of(plan, number), shade)
 }
@@ -250,14 +256,14 @@ fn push_box(
     alloc: Global,
     out: &mut Vec<u8>,
     plan: &Dialplan,
-    reached: Option<&IndexSet<EntryId>>,
+    shading: Shading<'_>,
     number: usize,
 ) -> Result<(), NoMemory>
     ensures { OnOk result (out.new.items ≡ out.old.items
-        ++ spec.box_text (boxes.box_at plan.now (option_map (λ set. set.now.keys) reached.entry) number)) }
+        ++ spec.box_text (boxes.box_at plan.now (shading_now shading.entry) number)) }
 {
-    push_box_top(alloc, out, plan, reached, number)?;
-    push_rows(alloc, out, plan, reached, number)?;
+    push_box_top(alloc, out, plan, shading, number)?;
+    push_rows(alloc, out, plan, shading, number)?;
     out.extend_from_slice(b"</table>>];\n")
 }
 
@@ -266,13 +272,13 @@ pub(crate) fn push_boxes(
     alloc: Global,
     out: &mut Vec<u8>,
     plan: &Dialplan,
-    reached: Option<&IndexSet<EntryId>>,
+    shading: Shading<'_>,
 ) -> Result<(), NoMemory>
     ensures { OnOk result (out.new.items ≡ out.old.items
-        ++ spec.boxes_text (boxes.boxes_of plan.now (option_map (λ set. set.now.keys) reached.entry))) }
+        ++ spec.boxes_text (boxes.boxes_of plan.now (shading_now shading.entry))) }
 {
     for number in 0..plan.contexts().len() {
-        push_box(alloc, out, plan, reached, number)?;
+        push_box(alloc, out, plan, shading, number)?;
     }
     Ok(())
 }

@@ -1,13 +1,15 @@
 //! Where the jumps of entries lead, and the ways out of the queues in which they let a caller wait, after the Asterisk documentation's pages
-//! on the applications `Goto`, `GotoIf`, `GotoIfTime`, `Gosub`, `GosubIf` and `Queue`.
+//! on the applications `Goto`, `GotoIf`, `GotoIfTime`, `Gosub`, `GosubIf`, `Queue` and `ExecIf`.
 ghost use Rattle.std.specs.Prelude.{◌≡◌, [], fold, map, IfOk, OnOk};
-ghost use Rattle.std.specs.List.{filter_map};
+ghost use Rattle.std.specs.List.{filter_map, flat_map};
 ghost use Rattle.std.specs.Option.{option_copied, option_map, option_to_list};
 ghost use Rattle.dp_audit.specs.Targets as targets;
 ghost use Rattle.dp_graph.specs.Arrows.{with_arrow};
+ghost use Rattle.dp_graph.specs.ExecIf as calls;
 ghost use Rattle.dp_graph.specs.Jumps as spec;
 
 use crate::arrow::{Arrow, ArrowKind, Destination, insert};
+use crate::exec_if::{Call, Calls, exec_if_calls};
 use crate::exit::QueueExit;
 use dp_audit::{
     Jump, JumpParts, PlanFinder, Targets, exten_of, jump_of as plain_jump_of, parts_of,
@@ -244,20 +246,22 @@ fn insert_targets(
     insert_target(arrows, finder, from, jump, found.second)
 }
 
-/// Adds the arrows of the jumps of an entry.
+/// Adds the arrows of the jumps of an application.
 fn insert_jumps(
     arrows: &mut IndexSet<Arrow>,
     finder: &mut PlanFinder<'_>,
     from: Source<'_>,
+    call: Call<'_>,
 ) -> Result<(), NoMemory>
     ensures arrows { OnOk result (arrows.new.keys ≡ fold with_arrow arrows.old.keys
-        (spec.jump_arrows finder.old from.entry.context.now from.entry.id from.entry.held.now (spec.jump_of from.entry.held.now.application))) }
+        (spec.jump_arrows finder.old from.entry.context.now from.entry.id from.entry.held.now call.entry.arguments.now
+        (spec.jump_of call.entry.name.now))) }
     ensures same { finder.new ≡ finder.old }
 {
-    let Some(jump) = jump_of(from.held.application.bytes()) else {
+    let Some(jump) = jump_of(call.name) else {
         return Ok(());
     };
-    let found = targets_in(jump, from.held.arguments.text().bytes());
+    let found = targets_in(jump, call.arguments);
     insert_targets(arrows, finder, from, jump, found)
 }
 
@@ -310,25 +314,77 @@ fn insert_exit(
     insert(arrows, Arrow { kind, destination })
 }
 
-/// Adds the arrow of the way out of the queue in which an entry lets a caller wait.
+/// Adds the arrow of the way out of the queue in which an application lets a caller wait.
 fn insert_exits(
     arrows: &mut IndexSet<Arrow>,
     alloc: Global,
     plan: &Dialplan,
     exits: &[QueueExit],
-    entry: &Entry,
+    call: Call<'_>,
 ) -> Result<(), NoMemory>
-    ensures { OnOk result (arrows.new.keys ≡ fold with_arrow arrows.old.keys (spec.exit_arrows plan.now exits.now entry.now)) }
+    ensures { OnOk result (arrows.new.keys ≡ fold with_arrow arrows.old.keys
+        (spec.exit_arrows plan.now exits.now (calls.call_now call.entry))) }
 {
-    if !same_word(entry.application.bytes(), b"Queue") {
+    if !same_word(call.name, b"Queue") {
         return Ok(());
     }
-    let exit = exit_of(exits, queue_in(entry.arguments.text().bytes()));
+    let exit = exit_of(exits, queue_in(call.arguments));
     insert_exit(arrows, alloc, plan, exit)
 }
 
-/// Adds the arrows of an entry.
+/// Adds the arrows of an application.
 #[tactic(auto, using(crate::proofs::JumpsLemmas::added_append))]
+fn insert_of_call(
+    arrows: &mut IndexSet<Arrow>,
+    finder: &mut PlanFinder<'_>,
+    exits: &[QueueExit],
+    from: Source<'_>,
+    call: Call<'_>,
+) -> Result<(), NoMemory>
+    ensures arrows { OnOk result (arrows.new.keys ≡ fold with_arrow arrows.old.keys
+        (spec.call_arrows finder.old exits.now from.entry.context.now from.entry.id from.entry.held.now (calls.call_now call.entry))) }
+    ensures same { finder.new ≡ finder.old }
+{
+    insert_jumps(arrows, finder, from, call)?;
+    insert_exits(arrows, finder.alloc(), finder.plan(), exits, call)
+}
+
+/// Adds the arrows of an application, if there is one.
+fn insert_call(
+    arrows: &mut IndexSet<Arrow>,
+    finder: &mut PlanFinder<'_>,
+    exits: &[QueueExit],
+    from: Source<'_>,
+    call: Option<Call<'_>>,
+) -> Result<(), NoMemory>
+    ensures arrows { OnOk result (arrows.new.keys ≡ fold with_arrow arrows.old.keys
+        (flat_map (spec.call_arrows finder.old exits.now from.entry.context.now from.entry.id from.entry.held.now)
+        (option_to_list (option_map calls.call_now call.entry)))) }
+    ensures same { finder.new ≡ finder.old }
+{
+    match call {
+        Some(call) => insert_of_call(arrows, finder, exits, from, call),
+        None => Ok(()),
+    }
+}
+
+/// The applications that an entry may run: those that an `ExecIf` names, and else its own. An `ExecIf` inside another one is not followed.
+fn calls_of(entry: &Entry) -> Calls<'_>
+    ensures { calls.calls_now result ≡ spec.calls_of entry.now }
+{
+    let arguments = entry.arguments.text().bytes();
+    let name = entry.application.bytes();
+    if same_word(name, b"ExecIf") {
+        return exec_if_calls(arguments);
+    }
+    Calls {
+        first: Some(Call { name, arguments }),
+        second: None,
+    }
+}
+
+/// Adds the arrows of an entry.
+#[tactic(auto, using(crate::proofs::JumpsLemmas::added_calls))]
 fn insert_entry(
     arrows: &mut IndexSet<Arrow>,
     finder: &mut PlanFinder<'_>,
@@ -339,8 +395,9 @@ fn insert_entry(
         (spec.entry_arrows finder.old exits.now from.entry.context.now from.entry.id from.entry.held.now)) }
     ensures same { finder.new ≡ finder.old }
 {
-    insert_jumps(arrows, finder, from)?;
-    insert_exits(arrows, finder.alloc(), finder.plan(), exits, from.held)
+    let calls = calls_of(from.held);
+    insert_call(arrows, finder, exits, from, calls.first)?;
+    insert_call(arrows, finder, exits, from, calls.second)
 }
 
 /// Adds the arrows of the entry with these numbers.

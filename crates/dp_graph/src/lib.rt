@@ -5,6 +5,7 @@
 mod arrow;
 mod arrows;
 mod boxes;
+mod exec_if;
 mod exit;
 mod extensions;
 mod fault;
@@ -15,8 +16,10 @@ mod label;
 pub mod laws;
 mod names;
 mod shade;
+mod shading;
 
 pub use dp_plan::{Dialplan, EntryId, NoMemory, Text};
 pub use exit::QueueExit;
 pub use fault::GraphFault;
-pub use graph::write_graph;
+pub use graph::{picture_text, write_graph};
+pub use shading::Shading;

@@ -1,5 +1,6 @@
 mod LinesLemmas
 mod NoticesLemmas
+mod ReachesLemmas
 mod ReadingLemmas
 mod StringLemmas
 mod Utf8Lemmas

@@ -1,10 +1,13 @@
 pub mod Entries
 pub mod Findings
+pub mod Joined
 pub mod Lines
 pub mod Matches
 pub mod Notes
 pub mod Notices
 pub mod Objects
+pub mod Reaches
 pub mod Reading
 pub mod Strings
+pub mod Tests
 pub mod WideFindings

@@ -45,7 +45,7 @@ fn push_label(out: &mut Vec<u8>, label: Option<&SharedText>) -> Result<(), NoMem
 
 /// Adds the field of the application that an entry runs.
 #[tactic(auto, unfolding(crate::specs::Entries::application_field))]
-fn push_application(out: &mut Vec<u8>, application: &[u8]) -> Result<(), NoMemory>
+pub(crate) fn push_application(out: &mut Vec<u8>, application: &[u8]) -> Result<(), NoMemory>
     ensures { OnOk result (out.new.items ≡ out.old.items ++ more_text (spec.application_field application.now)) }
 {
     push_text(out, b"application", application)

@@ -3,6 +3,8 @@ ghost use Rattle.std.specs.Prelude.{◌≡◌, ℕ, List, Some, filter, length, 
 ghost use Rattle.std.specs.List.{AllByRecursion};
 ghost use Rattle.std.specs.Str.{IsUtf8};
 ghost use Rattle.json.specs.Json.{document, object};
+ghost use Rattle.dp_answer.specs.Asks.{AskOf};
+ghost use Rattle.dp_answer.specs.declared.reach_answer.ReachAnswer.{ReachAnswer};
 ghost use Rattle.dp_audit.specs.declared.candidate.Candidate.{Candidate};
 ghost use Rattle.dp_audit.specs.declared.finding.Finding.{Finding};
 ghost use Rattle.dp_files.specs.declared.source_line.SourceLine.{SourceLine};
@@ -17,6 +19,7 @@ ghost use Rattle.dp_json.specs.Matches.{candidates_text};
 ghost use Rattle.dp_json.specs.Notes.{notes_text};
 ghost use Rattle.dp_json.specs.Notices.{notice_lines};
 ghost use Rattle.dp_json.specs.Objects.{Field, object_text};
+ghost use Rattle.dp_json.specs.Reaches.{lines_on_answer, reach_text};
 ghost use Rattle.dp_json.specs.Reading.{IsField, members_read};
 ghost use Rattle.dp_json.specs.WideFindings.{wide_text};
 ghost use Rattle.dp_wide_runs.specs.declared.wide_finding.WideFinding.{WideFinding};
@@ -35,6 +38,12 @@ pub fn each_finding_has_one_line()
         → line_count (notice_lines shown file line notices) ≡ length (filter (is_shown shown) notices) }
     ensures candidates { (plan : PlanOf) (priority : ℕ) (candidates : List Candidate)
         → line_count (candidates_text plan priority candidates) ≡ length candidates }
+{}
+
+/// An answer to a question about phone calls has a line for what is assumed, one if no proof was found, one for each entry and for each line on
+/// how a call gets there, and one for the counts or for the target. This function does nothing.
+pub fn each_part_of_an_answer_has_one_line()
+    ensures { (plan : PlanOf) (ask : AskOf) (answer : ReachAnswer) → line_count (reach_text plan ask answer) ≡ lines_on_answer answer }
 {}
 
 /// The line of an object is UTF-8, whatever its texts. This function does nothing.

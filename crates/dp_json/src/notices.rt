@@ -2,11 +2,11 @@
 ghost use Rattle.std.specs.Prelude.{◌≡◌, ◌++◌, OnOk};
 ghost use Rattle.dp_json.specs.Notices as spec;
 ghost use Rattle.dp_json.specs.Objects.{fields_text, more_text, object_text};
-ghost use Rattle.dp_notices.specs.Printing.{file_name, is_missing_file, is_shown, is_unfollowed};
+ghost use Rattle.dp_notices.specs.Printing.{file_name, is_missing_file};
 
 use crate::object::{begin_object, end_object, push_number, push_text};
 use dp_conf::line_content;
-use dp_files::{Fault, Note, SourceFile, SourceLine, included_name, path_of};
+use dp_files::{Fault, SourceFile, SourceLine, included_name, path_of};
 use dp_notices::{NotedLine, Notice, NoticeFault, Shown};
 use dp_plan::NoMemory;
 use std::alloc::Global;
@@ -115,27 +115,6 @@ fn push_notice(
     end_object(out)
 }
 
-/// Whether the notice is a note on a line that is left out although calls may depend on it.
-fn is_unfollowed(notice: Notice) -> bool
-    ensures { result ≡ is_unfollowed notice }
-{
-    match notice {
-        Notice::Read(Note::Exec | Note::Switch | Note::AutoFallThrough | Note::CallerId) => true,
-        _ => false,
-    }
-}
-
-/// Whether a notice is shown.
-fn is_shown(shown: Shown, notice: Notice) -> bool
-    ensures { result ≡ is_shown shown notice }
-{
-    match shown {
-        Shown::All => true,
-        Shown::Faults => notice.is_fault(),
-        Shown::Unfollowed => notice.is_fault() || is_unfollowed(notice),
-    }
-}
-
 /// Adds the lines of the notices on a line, without those that are not shown.
 fn push_line(
     alloc: Global,
@@ -148,7 +127,7 @@ fn push_line(
         ≡ out.old.items ++ spec.notice_lines shown named.entry.file.now named.entry.line.now notices.now) }
 {
     for notice in notices {
-        if is_shown(shown, *notice) {
+        if shown.shows(*notice) {
             push_notice(alloc, out, named, *notice)?;
         }
     }

@@ -78,10 +78,10 @@ const MANY: u32 = 20_000;
 
 /// A writer whose write with the number `fails_at`, counted from 0, returns an error.
 #[derive(Drop)]
-struct Sink {
-    held: Vec<u8>,
-    writes: usize,
-    fails_at: Option<usize>,
+pub(crate) struct Sink {
+    pub(crate) held: Vec<u8>,
+    pub(crate) writes: usize,
+    pub(crate) fails_at: Option<usize>,
 }
 
 impl Write for Sink {
@@ -137,7 +137,7 @@ fn outcome_of(
 }
 
 /// The dialplan of a text.
-fn load(alloc: Global, text: &str) -> Result<Dialplan, Fail> {
+pub(crate) fn load(alloc: Global, text: &str) -> Result<Dialplan, Fail> {
     match Dialplan::load(alloc, text.as_bytes()) {
         Ok((plan, _)) => Ok(plan),
         Err(_) => Err("the dialplan is faulty".into()),
@@ -154,7 +154,7 @@ fn push_line(text: &mut String, line: &str) -> Result<(), NoMemory> {
 }
 
 /// The dialplan with these lines.
-fn plan_of(alloc: Global, lines: &str) -> Result<Dialplan, Fail> {
+pub(crate) fn plan_of(alloc: Global, lines: &str) -> Result<Dialplan, Fail> {
     let lines = bytes_of(alloc, lines)?;
     let lines = str::from_utf8(&lines)?;
     let mut text = String::new(alloc);
@@ -168,7 +168,10 @@ fn plan_of(alloc: Global, lines: &str) -> Result<Dialplan, Fail> {
 }
 
 /// Adds what was returned.
-fn push_result(out: &mut String, returned: Result<u64, DiffFault>) -> Result<(), NoMemory> {
+pub(crate) fn push_result(
+    out: &mut String,
+    returned: Result<u64, DiffFault>,
+) -> Result<(), NoMemory> {
     match returned {
         Ok(count) => write!(out, "{count}"),
         Err(DiffFault::WriteFailed) => out.push_str("a write failed"),

@@ -1,7 +1,7 @@
 //! Pictures of small dialplans, worked out by hand from the rules.
 use dp_case_tables::{Question, bytes_of, check, check_same, check_that, push_bytes};
 use dp_conf::Told;
-use dp_graph::{Dialplan, EntryId, GraphFault, NoMemory, QueueExit, Text, write_graph};
+use dp_graph::{Dialplan, EntryId, GraphFault, NoMemory, QueueExit, Shading, Text, write_graph};
 use indexmap::IndexSet;
 use std::alloc::Global;
 use std::io::{ErrorKind, Write};
@@ -143,7 +143,7 @@ struct Outcome {
 }
 
 /// The dialplan of the lines after `[a]`.
-fn plan_of(alloc: Global, lines: &str) -> Result<Dialplan, Fail> {
+pub(crate) fn plan_of(alloc: Global, lines: &str) -> Result<Dialplan, Fail> {
     let lines = bytes_of(alloc, lines)?;
     let mut text = Vec::new(alloc);
     text.extend_from_slice(b"[a]\n")?;
@@ -174,7 +174,7 @@ fn exits_of(alloc: Global) -> Result<Vec<QueueExit>, NoMemory> {
 fn outcome_of(
     alloc: Global,
     plan: &Dialplan,
-    reached: Option<&IndexSet<EntryId>>,
+    shading: Shading<'_>,
     most: usize,
     fails_at: usize,
 ) -> Result<Outcome, Fail> {
@@ -185,7 +185,7 @@ fn outcome_of(
         writes: 0,
         fails_at,
     });
-    let result = write_graph(alloc, plan, reached, &exits, &mut writer);
+    let result = write_graph(alloc, plan, shading, &exits, &mut writer);
     let has_failed = writer.has_failed();
     let Sink {
         held,
@@ -201,12 +201,12 @@ fn outcome_of(
 }
 
 /// The picture of a dialplan.
-fn picture_of(
+pub(crate) fn picture_of(
     alloc: Global,
     plan: &Dialplan,
-    reached: Option<&IndexSet<EntryId>>,
+    shading: Shading<'_>,
 ) -> Result<String, Fail> {
-    let outcome = outcome_of(alloc, plan, reached, usize::MAX, usize::MAX)?;
+    let outcome = outcome_of(alloc, plan, shading, usize::MAX, usize::MAX)?;
     check_that(
         outcome.result == Ok(()) && !outcome.has_failed,
         "the picture is written",
@@ -227,18 +227,18 @@ fn copy_of(alloc: Global, part: Option<&str>) -> Result<String, Fail> {
 }
 
 /// What stands between the first lines and the last.
-fn inner(picture: &str) -> Option<&str> {
+pub(crate) fn inner(picture: &str) -> Option<&str> {
     let rest = picture.strip_prefix(OPENING)?;
     rest.strip_suffix("}\n")
 }
 
 /// The lines after the boxes.
-struct Arrows;
+pub(crate) struct Arrows;
 
 impl Question for Arrows {
     fn answer(alloc: Global, asked: &str) -> Result<String, Fail> {
         let plan = plan_of(alloc, asked)?;
-        let picture = picture_of(alloc, &plan, None)?;
+        let picture = picture_of(alloc, &plan, Shading::Plain)?;
         let Some(inner) = inner(&picture) else {
             return Err("the first or last lines differ".into());
         };
@@ -253,7 +253,7 @@ struct Rows;
 impl Question for Rows {
     fn answer(alloc: Global, asked: &str) -> Result<String, Fail> {
         let plan = plan_of(alloc, asked)?;
-        let picture = picture_of(alloc, &plan, None)?;
+        let picture = picture_of(alloc, &plan, Shading::Plain)?;
         let Some((_, rest)) = picture.split_once("</b></td></tr>\n") else {
             return Err("there is no heading".into());
         };
@@ -263,23 +263,23 @@ impl Question for Rows {
 }
 
 /// Adds the entry with these numbers.
-fn insert_reached(reached: &mut IndexSet<EntryId>, numbers: &str) -> Result<(), Fail> {
+fn insert_entry(entries: &mut IndexSet<EntryId>, numbers: &str) -> Result<(), Fail> {
     let Some((context, entry)) = numbers.split_once('.') else {
         return Err("an entry has no two numbers".into());
     };
     let context = context.parse::<usize>()?;
     let entry = entry.parse::<usize>()?;
-    reached.insert(EntryId { context, entry })?;
+    entries.insert(EntryId { context, entry })?;
     Ok(())
 }
 
 /// The entries with these numbers.
-fn reached_of(alloc: Global, list: &str) -> Result<IndexSet<EntryId>, Fail> {
-    let mut reached = IndexSet::new(alloc);
+pub(crate) fn entries_of(alloc: Global, list: &str) -> Result<IndexSet<EntryId>, Fail> {
+    let mut entries = IndexSet::new(alloc);
     for numbers in list.split_whitespace() {
-        insert_reached(&mut reached, numbers)?;
+        insert_entry(&mut entries, numbers)?;
     }
-    Ok(reached)
+    Ok(entries)
 }
 
 /// The picture between the first lines and the last, given the entries that a call reaches.
@@ -292,11 +292,11 @@ impl Question for Pictures {
         };
         let plan = plan_of(alloc, lines)?;
         if list == "-" {
-            let picture = picture_of(alloc, &plan, None)?;
+            let picture = picture_of(alloc, &plan, Shading::Plain)?;
             return copy_of(alloc, inner(&picture));
         }
-        let reached = reached_of(alloc, list)?;
-        let picture = picture_of(alloc, &plan, Some(&reached))?;
+        let reached = entries_of(alloc, list)?;
+        let picture = picture_of(alloc, &plan, Shading::Reached(&reached))?;
         copy_of(alloc, inner(&picture))
     }
 }
@@ -308,7 +308,7 @@ fn check_failure(
     whole: &[u8],
     fails_at: usize,
 ) -> Result<(), Fail> {
-    let outcome = outcome_of(alloc, plan, None, 10, fails_at)?;
+    let outcome = outcome_of(alloc, plan, Shading::Plain, 10, fails_at)?;
     check_that(
         outcome.result == Err(GraphFault::WriteFailed) && outcome.has_failed,
         "the failed write is told",
@@ -322,7 +322,7 @@ fn check_failure(
 /// The first write fails, and a later one.
 fn check_failures(alloc: Global) -> Result<(), Fail> {
     let plan = plan_of(alloc, r"exten=>1,1,Goto(2,1)")?;
-    let whole = picture_of(alloc, &plan, None)?;
+    let whole = picture_of(alloc, &plan, Shading::Plain)?;
     check_failure(alloc, &plan, whole.as_bytes(), 0)?;
     check_failure(alloc, &plan, whole.as_bytes(), 7)
 }
@@ -331,7 +331,7 @@ fn check_failures(alloc: Global) -> Result<(), Fail> {
 fn check_empty(alloc: Global) -> Result<(), Fail> {
     match Dialplan::load(alloc, b"") {
         Ok((plan, _)) => {
-            let picture = picture_of(alloc, &plan, None)?;
+            let picture = picture_of(alloc, &plan, Shading::Plain)?;
             check_same("no context", inner(&picture).unwrap_or("nothing"), "")
         }
         Err(_) => Err("the empty dialplan is faulty".into()),

@@ -1,8 +1,9 @@
 -- The printed lines of notices, in the order of the lines that they are on.
-use Rattle.std.specs.Prelude.{ℕ, Bool, true, false, ◌||◌, List, [], ◌++◌, Option, Some, None, slice_get, codes, decimal, if◌then◌else◌}
+use Rattle.std.specs.Prelude.{ℕ, Bool, true, false, ◌&&◌, ◌||◌, not, List, [], ◌++◌, Option, Some, None, slice_get, codes, decimal, if◌then◌else◌}
 use Rattle.std.specs.List.{flat_map}
 use Rattle.std.specs.Option.{option_map_or}
 use Rattle.dp_conf.specs.Lines.{content_of}
+use Rattle.dp_conf.specs.Words.{same_word}
 use Rattle.dp_files.specs.Directives.{directive_of, included_name}
 use Rattle.dp_files.specs.FolderFiles.{path_of}
 use Rattle.dp_files.specs.declared.remark.Fault.{Fault}
@@ -18,8 +19,9 @@ use Rattle.dp_notices.specs.declared.notice.Notice.{Notice}
 use Rattle.dp_notices.specs.declared.notice.Notice.TheVariants.{Read, Loaded, Queue as queue_note, Fault as fault_notice}
 use Rattle.dp_notices.specs.declared.notice.NoticeFault.{NoticeFault}
 use Rattle.dp_notices.specs.declared.notice.NoticeFault.TheVariants.{Reading, Name, Plan, Queue as queue_fault}
+use Rattle.dp_notices.specs.declared.printing.Assumptions.{Assumptions}
 use Rattle.dp_notices.specs.declared.printing.Shown.{Shown}
-use Rattle.dp_notices.specs.declared.printing.Shown.TheVariants.{All, Faults, Unfollowed}
+use Rattle.dp_notices.specs.declared.printing.Shown.TheVariants.{All, Faults, Unfollowed, Notes, Followed}
 
 -- the name of the file with a number
 abbrev pub file_name : List SourceFile → ℕ → List ℕ
@@ -82,30 +84,45 @@ abbrev pub notice_line : List ℕ → SourceLine → Notice → List ℕ
 notice_line file line notice =
     place_text file line.line ++ notice_text notice ++ missing_name line.text notice ++ codes "\n"
 
--- whether a note is on a line that is left out although calls may depend on it
-abbrev pub is_unfollowed_note : Note → Bool
-is_unfollowed_note OpenComment = false
-is_unfollowed_note Exec = true
-is_unfollowed_note AfterHint = false
-is_unfollowed_note DoubleLabel = false
-is_unfollowed_note Hint = false
-is_unfollowed_note IgnorePat = false
-is_unfollowed_note Switch = true
-is_unfollowed_note AutoFallThrough = true
-is_unfollowed_note CallerId = true
+-- nothing is assumed of lines that are left out although calls may depend on them
+abbrev pub no_assumptions : Assumptions
+no_assumptions = record { exec = false; switch = false; auto_fall_through = false; caller_id = false }
+
+-- what is assumed if the lines that get the note with a name have no effect either
+abbrev pub with_assumed : Assumptions → List ℕ → Assumptions
+with_assumed assumed name = record {
+  exec = assumed.exec || same_word name (codes "Exec");
+  switch = assumed.switch || same_word name (codes "Switch");
+  auto_fall_through = assumed.auto_fall_through || same_word name (codes "AutoFallThrough");
+  caller_id = assumed.caller_id || same_word name (codes "CallerId");
+}
+
+-- whether a note is on a line that is left out although calls may depend on it, and that may have an effect by what is assumed
+abbrev pub is_unfollowed_note : Assumptions → Note → Bool
+is_unfollowed_note assumed OpenComment = false
+is_unfollowed_note assumed Exec = not assumed.exec
+is_unfollowed_note assumed AfterHint = false
+is_unfollowed_note assumed DoubleLabel = false
+is_unfollowed_note assumed Hint = false
+is_unfollowed_note assumed IgnorePat = false
+is_unfollowed_note assumed Switch = not assumed.switch
+is_unfollowed_note assumed AutoFallThrough = not assumed.auto_fall_through
+is_unfollowed_note assumed CallerId = not assumed.caller_id
 
 -- the same for a notice
-abbrev pub is_unfollowed : Notice → Bool
-is_unfollowed (Read note) = is_unfollowed_note note
-is_unfollowed (Loaded kind) = false
-is_unfollowed (queue_note note) = false
-is_unfollowed (fault_notice fault) = false
+abbrev pub is_unfollowed : Assumptions → Notice → Bool
+is_unfollowed assumed (Read note) = is_unfollowed_note assumed note
+is_unfollowed assumed (Loaded kind) = false
+is_unfollowed assumed (queue_note note) = false
+is_unfollowed assumed (fault_notice fault) = false
 
 -- whether a notice is printed
 abbrev pub is_shown : Shown → Notice → Bool
 is_shown All notice = true
 is_shown Faults notice = is_fault notice
-is_shown Unfollowed notice = is_fault notice || is_unfollowed notice
+is_shown (Unfollowed assumed) notice = is_fault notice || is_unfollowed assumed notice
+is_shown Notes notice = not (is_fault notice)
+is_shown Followed notice = not (is_fault notice) && not (is_unfollowed no_assumptions notice)
 
 -- the printed lines of the notices on a line, without those that are not shown
 abbrev pub notice_lines : Shown → List ℕ → SourceLine → List Notice → List ℕ

@@ -23,5 +23,5 @@ pub use loading::PlanCounts;
 pub use notice::{Notice, NoticeFault, QueueNote};
 pub use plan_files::{PlanFiles, read_folder_plan, read_plan};
 pub use preparation::show_plain_lines_stand;
-pub use printing::{Shown, print_notices, print_queue_notices};
+pub use printing::{Assumptions, Shown, print_notices, print_queue_notices};
 pub use queue_files::{QueueFiles, read_folder_queues, read_queues};

@@ -8,7 +8,7 @@ use crate::line_notices::NotedLine;
 use crate::notice::{Notice, NoticeFault};
 use crate::plan_files::PlanFiles;
 use crate::queue_files::QueueFiles;
-use dp_conf::{NoMemory, line_content};
+use dp_conf::{NoMemory, line_content, same_word};
 use dp_files::{Fault, Note, SourceFile, SourceLine, included_name, path_of};
 use itoa::Buffer;
 use std::alloc::Global;
@@ -123,6 +123,50 @@ fn push_notice(
     Ok(())
 }
 
+/// What is assumed of lines that this program leaves out although calls may depend on them: lines of a kind have no effect if its flag is
+/// set.
+#[derive(Clone, Copy, Debug, PartialEq, Eq)]
+pub struct Assumptions {
+    /// `#exec`, which takes lines from a program.
+    pub exec: bool,
+    /// `switch`, which asks another dialplan for a name.
+    pub switch: bool,
+    /// `autofallthrough=no`, with which a call waits where it finds no entry.
+    pub auto_fall_through: bool,
+    /// An extension for one caller.
+    pub caller_id: bool,
+}
+
+impl Assumptions {
+    ghost use Rattle.std.specs.Prelude.{◌≡◌};
+    ghost use Rattle.dp_notices.specs.Printing as spec;
+
+    /// Nothing is assumed.
+    pub fn none() -> Self
+        ensures { result ≡ spec.no_assumptions }
+    {
+        Assumptions {
+            exec: false,
+            switch: false,
+            auto_fall_through: false,
+            caller_id: false,
+        }
+    }
+
+    /// What is assumed if the lines that get the note with a name, in any ASCII case, have no effect either: `Exec`, `Switch`,
+    /// `AutoFallThrough` or `CallerId`. Any other name changes nothing.
+    pub fn assume(self, name: &[u8]) -> Self
+        ensures { result ≡ spec.with_assumed self name.now }
+    {
+        Assumptions {
+            exec: self.exec || same_word(name, b"Exec"),
+            switch: self.switch || same_word(name, b"Switch"),
+            auto_fall_through: self.auto_fall_through || same_word(name, b"AutoFallThrough"),
+            caller_id: self.caller_id || same_word(name, b"CallerId"),
+        }
+    }
+}
+
 /// Which notices are printed.
 #[derive(Clone, Copy, Debug, PartialEq, Eq)]
 pub enum Shown {
@@ -130,29 +174,43 @@ pub enum Shown {
     All,
     /// Only faults.
     Faults,
-    /// Faults, and notes on lines that this program leaves out although calls may depend on them: `#exec`, which takes lines from a
-    /// program; `switch`, which asks another dialplan for a name; an extension for one caller; and `autofallthrough=no`.
-    Unfollowed,
+    /// Faults, and notes on lines that this program leaves out although calls may depend on them, unless it is assumed that they have no
+    /// effect.
+    Unfollowed(Assumptions),
+    /// Only notes.
+    Notes,
+    /// Only notes, without those on lines that this program leaves out although calls may depend on them.
+    Followed,
 }
 
-/// Whether the notice is a note on a line that is left out although calls may depend on it.
-fn is_unfollowed(notice: Notice) -> bool
-    ensures { result ≡ spec.is_unfollowed notice }
+/// Whether the notice is a note on a line that is left out although calls may depend on it, and that may have an effect by what is assumed.
+fn is_unfollowed(assumed: Assumptions, notice: Notice) -> bool
+    ensures { result ≡ spec.is_unfollowed assumed notice }
 {
     match notice {
-        Notice::Read(Note::Exec | Note::Switch | Note::AutoFallThrough | Note::CallerId) => true,
+        Notice::Read(Note::Exec) => !assumed.exec,
+        Notice::Read(Note::Switch) => !assumed.switch,
+        Notice::Read(Note::AutoFallThrough) => !assumed.auto_fall_through,
+        Notice::Read(Note::CallerId) => !assumed.caller_id,
         _ => false,
     }
 }
 
-/// Whether a notice is printed.
-fn is_shown(shown: Shown, notice: Notice) -> bool
-    ensures { result ≡ spec.is_shown shown notice }
-{
-    match shown {
-        Shown::All => true,
-        Shown::Faults => notice.is_fault(),
-        Shown::Unfollowed => notice.is_fault() || is_unfollowed(notice),
+impl Shown {
+    ghost use Rattle.std.specs.Prelude.{◌≡◌};
+    ghost use Rattle.dp_notices.specs.Printing as spec;
+
+    /// Whether a notice is printed.
+    pub fn shows(self, notice: Notice) -> bool
+        ensures { result ≡ spec.is_shown self notice }
+    {
+        match self {
+            Shown::All => true,
+            Shown::Faults => notice.is_fault(),
+            Shown::Unfollowed(assumed) => notice.is_fault() || is_unfollowed(assumed, notice),
+            Shown::Notes => !notice.is_fault(),
+            Shown::Followed => !notice.is_fault() && !is_unfollowed(Assumptions::none(), notice),
+        }
     }
 }
 
@@ -168,7 +226,7 @@ fn push_line(
         ≡ out.old.items ++ spec.notice_lines shown named.entry.file.now named.entry.line.now notices.now) }
 {
     for notice in notices {
-        if is_shown(shown, *notice) {
+        if shown.shows(*notice) {
             push_notice(alloc, out, named, *notice)?;
         }
     }

@@ -2,7 +2,9 @@
 use dp_case_tables::{Question, bytes_of, check, push_bytes, text_of};
 use dp_conf::Text;
 use dp_files::{FileMap, MadeLine, NamedText};
-use dp_notices::{Moment, PlanFiles, Shown, check_plan, print_notices, read_moment, read_plan};
+use dp_notices::{
+    Assumptions, Moment, PlanFiles, Shown, check_plan, print_notices, read_moment, read_plan,
+};
 use std::alloc::Global;
 use std::fmt::Write;
 use std::test::Fail;
@@ -45,6 +47,22 @@ const UNFOLLOWED: &str = r"
 a:[m]\n#exec /bin/date\nswitch => x\nexten => 1,hint,S\nexten => 1,1,A()→a:2: note Exec\na:3: note Switch\n
 a:[general]\nautofallthrough=no\n[m]\nexten => 1/20,1,A()\nexten => 1,0,A()→a:2: note AutoFallThrough\na:4: note CallerId\na:5: fault 20 BadPriority\n
 a:[globals]\nX=1/2\n[m]\nexten => ${X},1,A()\nexten => ${X:0:1}/2,1,A()\n same => n,B()→a:4: note CallerId\na:5: note CallerId\na:6: note CallerId\n
+";
+
+/// Names of notes that are assumed to have no effect, each followed by a blank, then a `¦` and files, and what is printed as in `UNFOLLOWED`.
+const ASSUMED: &str = r"
+Switch ¦a:[m]\n#exec /bin/date\nswitch => x\nexten => 1/2,1,A()→a:2: note Exec\na:4: note CallerId\n
+exec CALLERID ¦a:[m]\n#exec /bin/date\nswitch => x\nexten => 1/2,1,A()→a:3: note Switch\n
+Exec Switch CallerId ¦a:[m]\n#exec /bin/date\nswitch => x\nexten => 1/2,1,A()→
+AutoFallThrough ¦a:[general]\nautofallthrough=no\n[m]\nexten => 1,0,A()→a:4: fault 20 BadPriority\n
+# Hints are never reported here, so nothing is to be assumed of them; and no fault can be assumed away.
+Hint BadPriority ¦a:[general]\nautofallthrough=no\n[m]\nexten => 1,0,A()→a:2: note AutoFallThrough\na:4: fault 20 BadPriority\n
+";
+
+/// Files written in the same way, and their notes; after a `#`, those on lines that no call depends on or that this program follows.
+const NOTES: &str = r"
+a:[m]\nswitch => x\nexten => 1,hint,S\nexten => 1,1,A()\nexten => 1,1,B()\nexten => 1,0,B()→a:2: note Switch\na:3: note Hint\na:5: note DoublePriority\n#a:3: note Hint\na:5: note DoublePriority\n
+a:[m]\nexten => 1,1,A()→#
 ";
 
 /// A moment or nothing, then a `¦` and files, and the faults and the text that loads as in `FAULTS`.
@@ -192,10 +210,20 @@ fn faults_of(alloc: Global, plan: &PlanFiles) -> Result<String, Fail> {
     Ok(out)
 }
 
-fn unfollowed_of(alloc: Global, plan: &PlanFiles) -> Result<String, Fail> {
-    let notices = print_notices(alloc, Shown::Unfollowed, plan)?;
+fn unfollowed_of(alloc: Global, assumed: Assumptions, plan: &PlanFiles) -> Result<String, Fail> {
+    let notices = print_notices(alloc, Shown::Unfollowed(assumed), plan)?;
     let mut out = String::new(alloc);
     push_bytes(&mut out, &notices)?;
+    Ok(out)
+}
+
+fn notes_of(alloc: Global, plan: &PlanFiles) -> Result<String, Fail> {
+    let notes = print_notices(alloc, Shown::Notes, plan)?;
+    let followed = print_notices(alloc, Shown::Followed, plan)?;
+    let mut out = String::new(alloc);
+    push_bytes(&mut out, &notes)?;
+    out.push('#')?;
+    push_bytes(&mut out, &followed)?;
     Ok(out)
 }
 
@@ -245,7 +273,39 @@ struct Unfollowed;
 impl Question for Unfollowed {
     fn answer(alloc: Global, asked: &str) -> Result<String, Fail> {
         match read(alloc, asked)? {
-            Some(plan) => unfollowed_of(alloc, &plan),
+            Some(plan) => unfollowed_of(alloc, Assumptions::none(), &plan),
+            None => text_of(alloc, "no file"),
+        }
+    }
+}
+
+struct Notes;
+
+impl Question for Notes {
+    fn answer(alloc: Global, asked: &str) -> Result<String, Fail> {
+        match read(alloc, asked)? {
+            Some(plan) => notes_of(alloc, &plan),
+            None => text_of(alloc, "no file"),
+        }
+    }
+}
+
+/// What is assumed, given names that are each followed by a blank.
+fn assumptions_in(names: &str) -> Assumptions {
+    let mut assumed = Assumptions::none();
+    for name in names.split(' ') {
+        assumed = assumed.assume(name.as_bytes());
+    }
+    assumed
+}
+
+struct Assumed;
+
+impl Question for Assumed {
+    fn answer(alloc: Global, asked: &str) -> Result<String, Fail> {
+        let (names, files) = asked.split_once('¦').ok_or("no names")?;
+        match read(alloc, files)? {
+            Some(plan) => unfollowed_of(alloc, assumptions_in(names), &plan),
             None => text_of(alloc, "no file"),
         }
     }
@@ -287,6 +347,16 @@ fn faults_are_printed_alone_and_faulty_lines_are_empty(rt: HostRuntime) -> Resul
 #[test]
 fn notes_on_what_is_not_followed_are_printed_with_the_faults(rt: HostRuntime) -> Result<(), Fail> {
     check::<Unfollowed>(rt.alloc(), UNFOLLOWED)
+}
+
+#[test]
+fn notes_are_printed_without_the_faults(rt: HostRuntime) -> Result<(), Fail> {
+    check::<Notes>(rt.alloc(), NOTES)
+}
+
+#[test]
+fn what_is_assumed_to_have_no_effect_is_not_printed(rt: HostRuntime) -> Result<(), Fail> {
+    check::<Assumed>(rt.alloc(), ASSUMED)
 }
 
 #[test]

@@ -9,6 +9,7 @@ mod OnFilesLemmas
 mod PathsLemmas
 mod PlanQuestionLemmas
 mod QueueLemmas
+mod ReachDiffLemmas
 mod ReachesLemmas
 mod ReadsLemmas
 mod RunLemmas

@@ -4,8 +4,9 @@ use Rattle.dp_commands.specs.declared.fault.PbxFault.TheVariants.{NoMemory}
 use Rattle.dp_program.specs.Dialplans.{PlanTextOf, with_text}
 use Rattle.dp_program.specs.Faulted.{nowhere}
 use Rattle.dp_program.specs.Files.{Source}
-use Rattle.dp_program.specs.PlanQuestions.{OverIncluded, OverPlan, Serving, WithQueues}
+use Rattle.dp_program.specs.PlanQuestions.{OnSecond, OverBothIncluded, OverIncluded, OverPlan, Serving, WithQueues}
 use Rattle.dp_program.specs.declared.dialplans.PlanUse.{PlanUse}
+use Rattle.dp_program.specs.declared.dialplans.PlanUse.TheVariants.{Report}
 use Rattle.dp_program.proofs.DialplanLemmas.{dialplan_lacks}
 use Rattle.dp_program.proofs.QueueLemmas.{queues_lack}
 
@@ -23,3 +24,10 @@ module _ (serves : Serving) (old : Option (List ℕ)) (lacks : (files : List ℕ
       → OverIncluded serves purpose clock files path queues old old (Err (nowhere NoMemory))
   over_included_lacks purpose clock files path queues =
       dialplan_lacks (λ plan. WithQueues serves files path old old plan queues) path old (λ plan. with_queues_lack files path plan queues) purpose clock files
+
+-- the same for a question on two dialplans
+pub over_both_lacks : (serves : Serving) (old : Option (List ℕ)) (lacks : (files : List ℕ → Source) → serves files old old (Err (nowhere NoMemory)))
+    (clock : Option (List ℕ)) (files : List ℕ → Source) (before after : List ℕ) → OverBothIncluded serves clock files before after old old (Err (nowhere NoMemory))
+over_both_lacks serves old lacks clock files before after =
+    over_included_lacks (OnSecond serves clock after) old (λ files. over_included_lacks serves old lacks Report clock files after None) Report clock files before
+    None

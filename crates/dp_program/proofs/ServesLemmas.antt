@@ -29,13 +29,15 @@ use Rattle.dp_program.specs.Hints.{Tells, audit_hint_of, match_hint_of, status_i
 use Rattle.dp_program.specs.PlanAndQueues.{contents_in, place_of_files}
 use Rattle.dp_program.specs.Meanings.{wide_meanings}
 use Rattle.dp_table.specs.Standard.{standard_meanings}
+use Rattle.dp_program.specs.ReachDiffs.{ReachChanges, ReachDiffsFiles}
 use Rattle.dp_program.specs.Reaches.{Reaches, ReachesFiles}
-use Rattle.dp_program.specs.Requests.{DrawingOf, OptionsOf, RequestOf, LookupOf, QuestionOf, joined, check, check_files, check_queue_files, check_both_files, check_queues, check_both, listing, listing_files, auditing, auditing_by, matching, matching_files, explaining, run, run_wide, debug, debug_wide, testing, comparing, comparing_files, drawing, drawing_files, reaching, reaching_files}
+use Rattle.dp_program.specs.Requests.{DrawingOf, OptionsOf, ReachDiffOf, RequestOf, LookupOf, QuestionOf, joined, check, check_files, check_queue_files, check_both_files, check_queues, check_both, listing, listing_files, auditing, auditing_by, matching, matching_files, explaining, run, run_wide, debug, debug_wide, testing, comparing, comparing_files, comparing_reach, comparing_reach_files, drawing, drawing_files, reaching, reaching_files}
 use Rattle.dp_program.specs.Entries.{explanation_of}
-use Rattle.dp_program.specs.Serves.{AuditsAsked, AuditsFile, AuditsFileBy, AuditsText, ChecksBoth, DebugsAsked, DebugsFiles, DebugsFilesVerbosely, DebugsVerbosely, ListsText, LooksUp, LooksUpText, PlacesOf, ReportsOn, Runs, RunsBeside, RunsPlan, RunsPlans, RunsSecond, RunsAsked, RunsFiles, RunsFilesVerbosely, RunsFilesWide, RunsVerbosely, RunsWide, Serves, SharesSome, WritesChoiceBy, audit_by, debug_of_texts, files_read, in_force_at, in_force_at_first, look_up, places_read, run_of_texts, wide_run_of_texts, RunsFilesWideVerbosely, RunsTextsWideVerbosely, RunsWideAsked, RunsWideBy, RunsWideVerbosely, RunManner, RunsQueues, RunsWithQueues, DebugsFilesWide, DebugsFilesWideVerbosely, DebugsTextsWideVerbosely, DebugsWide, DebugsWideVerbosely, DiffsAfter, DiffsTexts, debugging, running, wide_debug_of_texts}
+use Rattle.dp_program.specs.Serves.{AuditsAsked, AuditsFile, AuditsFileBy, AuditsText, ChecksBoth, DebugsAsked, DebugsFiles, DebugsFilesVerbosely, DebugsVerbosely, ListsText, LooksUp, LooksUpText, PlacesOf, ReportsOn, Runs, RunsBeside, RunsPlan, RunsPlans, RunsSecond, RunsAsked, RunsAssuming, RunsFiles, RunsIncluding, RunReading, reading_by, RunsFilesVerbosely, RunsFilesWide, RunsVerbosely, RunsWide, Serves, SharesSome, WritesChoiceBy, audit_by, debug_of_texts, files_read, in_force_at, in_force_at_first, look_up, places_read, run_of_texts, wide_run_of_texts, RunsFilesWideVerbosely, RunsTextsWideVerbosely, RunsWideAsked, RunsWideBy, RunsWideVerbosely, RunManner, RunsQueues, RunsWithQueues, DebugsFilesWide, DebugsFilesWideVerbosely, DebugsTextsWideVerbosely, DebugsWide, DebugsWideVerbosely, debugging, running, wide_debug_of_texts, Compares}
+use Rattle.dp_program.specs.ScriptAssumptions.{look_up_use, text_assumptions}
 use Rattle.dp_program.specs.TestSuites.{manner_of}
 use Rattle.dp_program.specs.Texts.{OfRun, ReadsTexts, all_texts, some_text, sources_of}
-use Rattle.dp_program.specs.declared.dialplans.PlanUse.TheVariants.{Report, LookUp, Run as to_run}
+use Rattle.dp_program.specs.declared.dialplans.PlanUse.TheVariants.{Report, Run as to_run}
 use Rattle.dp_program.specs.declared.faulted.Faulted.{Faulted}
 use Rattle.dp_program.specs.declared.faulted.Unread.{Unread}
 use Rattle.dp_program.specs.declared.hints.Served.{Served}
@@ -45,8 +47,8 @@ use Rattle.dp_wide_runs.specs.Kinds.{ChoiceOf}
 use Rattle.dp_wide_runs.specs.Runs.{WideRun}
 use Rattle.dp_wide_runs.specs.WideAudits.{plan_of}
 use Rattle.dp_program.proofs.DialplanLemmas.{dialplan_lacks}
-use Rattle.dp_program.proofs.DiffLemmas.{diffs_lack}
-use Rattle.dp_program.proofs.PlanQuestionLemmas.{over_included_lacks}
+use Rattle.dp_program.proofs.DiffLemmas.{diffs_lack, on_both_lacks}
+use Rattle.dp_program.proofs.PlanQuestionLemmas.{over_both_lacks, over_included_lacks}
 use Rattle.dp_program.proofs.QueueLemmas.{queues_lack}
 use Rattle.dp_program.proofs.TestLemmas.{tests_lack}
 use Rattle.dp_program.proofs.ReadsLemmas.{IsUnread, by_reason, Reads-any, Reads-weaker, ReadsSome-any, ReadsTexts-any, ReadsTexts-weaker}
@@ -134,10 +136,10 @@ runs_lacks : (threads : Option ℕ) (old : Option (List ℕ)) (given : Result Ru
 runs_lacks None old given = writes_lacks old given
 runs_lacks (Some threads) old given = shares_lacks (max 1 threads) old given
 
-pub reaches_lacks : (meanings : Meanings) (question : QuestionOf) (explains : Bool) (old : Option (List ℕ)) (given : Result Files PbxFault)
-    → Reaches meanings question explains given old old (Err NoMemory)
-reaches_lacks meanings question explains old (Ok files) = Appends-nil old
-reaches_lacks meanings question explains old (Err fault) = Appends-nil old
+pub reaches_lacks : (meanings : Meanings) (question : QuestionOf) (options : OptionsOf) (old : Option (List ℕ)) (given : Result Files PbxFault)
+    → Reaches meanings question options given old old (Err NoMemory)
+reaches_lacks meanings question options old (Ok files) = Appends-nil old
+reaches_lacks meanings question options old (Err fault) = Appends-nil old
 
 -- if a text is refused
 pub reports_refused : (old : Option (List ℕ)) (report : List ℕ → Result (List ℕ) PbxFault) (fault : PbxFault) (text : Result (List ℕ) PbxFault)
@@ -588,30 +590,41 @@ pub plans_lack : (paths : OfRun (List ℕ)) (files : List ℕ → Source) (manne
 plans_lack paths files manner old plan second =
     (run_wide_asked_lacks paths (places_read plan second) (sources_of (files_read paths files plan second) paths) manner old, tt)
 
-pub second_lacks : (clock : Option (List ℕ)) (paths : OfRun (List ℕ)) (files : List ℕ → Source) (manner : RunManner) (old : Option (List ℕ)) (plan : PlanTextOf) (path : List ℕ)
-    → RunsSecond clock paths files manner old old plan path (Err (nowhere NoMemory))
-second_lacks clock paths files manner old plan path =
+pub second_lacks : (reading : RunReading) (paths : OfRun (List ℕ)) (files : List ℕ → Source) (manner : RunManner) (old : Option (List ℕ)) (plan : PlanTextOf) (path : List ℕ)
+    → RunsSecond reading paths files manner old old plan path (Err (nowhere NoMemory))
+second_lacks reading paths files manner old plan path =
     dialplan_lacks (λ second answered. RunsPlans paths files manner old old plan (Some (path, second)) answered) path old
-    (λ second. plans_lack paths files manner old plan (Some (path, second))) to_run clock files
+    (λ second. plans_lack paths files manner old plan (Some (path, second))) (to_run reading.assumed) reading.clock files
 
-beside_lacks : (clock : Option (List ℕ)) (paths : OfRun (List ℕ)) (files : List ℕ → Source) (manner : RunManner) (old : Option (List ℕ)) (plan : PlanTextOf) (second : Option (List ℕ))
-    → RunsBeside clock paths files manner old old plan second (Err (nowhere NoMemory))
-beside_lacks clock paths files manner old plan None = plans_lack paths files manner old plan None
-beside_lacks clock paths files manner old plan (Some path) = second_lacks clock paths files manner old plan path
+beside_lacks : (reading : RunReading) (paths : OfRun (List ℕ)) (files : List ℕ → Source) (manner : RunManner) (old : Option (List ℕ)) (plan : PlanTextOf) (second : Option (List ℕ))
+    → RunsBeside reading paths files manner old old plan second (Err (nowhere NoMemory))
+beside_lacks reading paths files manner old plan None = plans_lack paths files manner old plan None
+beside_lacks reading paths files manner old plan (Some path) = second_lacks reading paths files manner old plan path
 
-pub plan_lacks : (clock : Option (List ℕ)) (paths : OfRun (List ℕ)) (files : List ℕ → Source) (manner : RunManner) (old : Option (List ℕ)) (plan : PlanTextOf)
-    → RunsPlan clock paths files manner old old plan (Err (nowhere NoMemory))
-plan_lacks clock paths files manner old plan = beside_lacks clock paths files manner old plan paths.second_plan
+pub plan_lacks : (reading : RunReading) (paths : OfRun (List ℕ)) (files : List ℕ → Source) (manner : RunManner) (old : Option (List ℕ)) (plan : PlanTextOf)
+    → RunsPlan reading paths files manner old old plan (Err (nowhere NoMemory))
+plan_lacks reading paths files manner old plan = beside_lacks reading paths files manner old plan paths.second_plan
 
-with_queues_lack : (clock : Option (List ℕ)) (paths : OfRun (List ℕ)) (files : List ℕ → Source) (manner : RunManner) (old : Option (List ℕ)) (plan : PlanTextOf)
-    (queues : Option (List ℕ)) → RunsWithQueues clock paths files manner old old plan queues (Err (nowhere NoMemory))
-with_queues_lack clock paths files manner old plan None = plan_lacks clock paths files manner old plan
-with_queues_lack clock paths files manner old plan (Some path) =
-    queues_lack files path (λ files. RunsPlan clock paths files manner old old plan) old (λ files. plan_lacks clock paths files manner old plan)
+with_queues_lack : (reading : RunReading) (paths : OfRun (List ℕ)) (files : List ℕ → Source) (manner : RunManner) (old : Option (List ℕ)) (plan : PlanTextOf)
+    (queues : Option (List ℕ)) → RunsWithQueues reading paths files manner old old plan queues (Err (nowhere NoMemory))
+with_queues_lack reading paths files manner old plan None = plan_lacks reading paths files manner old plan
+with_queues_lack reading paths files manner old plan (Some path) =
+    queues_lack files path (λ files. RunsPlan reading paths files manner old old plan) old (λ files. plan_lacks reading paths files manner old plan)
 
-pub queues_plan_lacks : (clock : Option (List ℕ)) (paths : OfRun (List ℕ)) (files : List ℕ → Source) (manner : RunManner) (old : Option (List ℕ)) (plan : PlanTextOf)
-    → RunsQueues clock paths files manner old old plan (Err (nowhere NoMemory))
-queues_plan_lacks clock paths files manner old plan = with_queues_lack clock paths files manner old plan paths.queues
+pub queues_plan_lacks : (reading : RunReading) (paths : OfRun (List ℕ)) (files : List ℕ → Source) (manner : RunManner) (old : Option (List ℕ)) (plan : PlanTextOf)
+    → RunsQueues reading paths files manner old old plan (Err (nowhere NoMemory))
+queues_plan_lacks reading paths files manner old plan = with_queues_lack reading paths files manner old plan paths.queues
+
+-- the same, after its script is read for what it assumes
+pub assuming_lacks : (reading : RunReading) (paths : OfRun (List ℕ)) (files : List ℕ → Source) (manner : RunManner) (old : Option (List ℕ))
+    → RunsAssuming reading paths files manner old old (Err (nowhere NoMemory))
+assuming_lacks reading paths files manner old =
+    dialplan_lacks (RunsQueues reading paths files manner old old) paths.plan old (queues_plan_lacks reading paths files manner old) (to_run reading.assumed) reading.clock files
+
+pub including_lacks : (clock : Option (List ℕ)) (paths : OfRun (List ℕ)) (files : List ℕ → Source) (manner : RunManner) (old : Option (List ℕ))
+    → RunsIncluding clock paths files manner old old (Err (nowhere NoMemory))
+including_lacks clock paths files manner old =
+    Reads-any (files paths.script) _ (λ script. assuming_lacks (reading_by clock (text_assumptions script)) paths files manner old)
 
 -- memory may run out before a report on the text of a dialplan
 pub listing_lacks : (path : List ℕ) (files : List ℕ → Source) (old : Option (List ℕ)) (plan : PlanTextOf) → ListsText path files old old plan (Err (nowhere NoMemory))
@@ -683,15 +696,16 @@ both_check_refused is_json path queues_path old queues too_long plan is =
     ((Appends-nil old, refl), refl)
 both_check_refused is_json path queues_path old queues no_memory plan is = both_check_lacks is_json path queues_path old plan queues
 
-pub diff_texts_lack : (files : List ℕ → Source) (before_path after_path : List ℕ) (old : Option (List ℕ)) (before after : PlanTextOf)
-    → DiffsTexts files before_path after_path old old before after (Err (nowhere NoMemory))
-diff_texts_lack files before_path after_path old before after =
-    (diffs_lack (with_text (with_text files before_path before.text) after_path after.text) before_path after_path old, tt)
+-- memory may run out before it is written what a call reaches
+pub reach_changes_lack : (meanings : Meanings) (question : ReachDiffOf) (explains : Bool) (old : Option (List ℕ)) (given : Result (PlanOf × PlanOf) PbxFault)
+    → ReachChanges meanings question explains given old old (Err NoMemory)
+reach_changes_lack meanings question explains old (Ok plans) = inl (Appends-nil old)
+reach_changes_lack meanings question explains old (Err fault) = Appends-nil old
 
-pub diff_after_lacks : (clock : Option (List ℕ)) (files : List ℕ → Source) (before_path after_path : List ℕ) (old : Option (List ℕ)) (before : PlanTextOf)
-    → DiffsAfter clock files before_path after_path old old before (Err (nowhere NoMemory))
-diff_after_lacks clock files before_path after_path old before =
-    dialplan_lacks (DiffsTexts files before_path after_path old old before) after_path old (diff_texts_lack files before_path after_path old before) Report clock files
+pub reach_diffs_lack : (meanings : Meanings) (question : ReachDiffOf) (explains : Bool) (files : List ℕ → Source) (old : Option (List ℕ))
+    → ReachDiffsFiles meanings question explains files old old (Err (nowhere NoMemory))
+reach_diffs_lack meanings question explains files old =
+    on_both_lacks (λ given. ReachChanges meanings question explains given old old) (reach_changes_lack meanings question explains old) files question.before question.after
 
 -- memory may run out before a picture is written
 pub draws_lack : (meanings : Meanings) (question : DrawingOf) (explains : Bool) (old : Option (List ℕ)) (given : Result Files PbxFault)
@@ -707,11 +721,11 @@ graphs_lack meanings files question explains old =
       lacks_files_place question.file question.queues plan queues,
     )))
 
-pub reaches_files_lack : (meanings : Meanings) (files : List ℕ → Source) (question : QuestionOf) (explains : Bool) (old : Option (List ℕ))
-    → ReachesFiles meanings files question explains old old (Err (nowhere NoMemory))
-reaches_files_lack meanings files question explains old =
+pub reaches_files_lack : (meanings : Meanings) (files : List ℕ → Source) (question : QuestionOf) (options : OptionsOf) (old : Option (List ℕ))
+    → ReachesFiles meanings files question options old old (Err (nowhere NoMemory))
+reaches_files_lack meanings files question options old =
     Reads-any (files question.file) _ (λ plan. ReadsSome-any (option_map files question.queues) _ (λ queues. (
-      reaches_lacks meanings question explains old (contents_in plan queues),
+      reaches_lacks meanings question options old (contents_in plan queues),
       lacks_files_place question.file question.queues plan queues,
     )))
 
@@ -746,25 +760,25 @@ Serves-lacks files input (auditing file) options old = Reads-any (files file) _ 
 Serves-lacks files input (auditing_by file choice) options old = audit_asked_lacks choice.is_wide options choice file files old
 Serves-lacks files input (matching lookup all) options old = Reads-any (files lookup.file) _ (λ text. (reports_lacks old _, lacks_report_place lookup.file text, tt))
 Serves-lacks files input (matching_files lookup all) options old =
-    dialplan_lacks (LooksUpText lookup files all options old old) lookup.file old (matching_lacks lookup files all options old) LookUp options.clock files
+    dialplan_lacks (LooksUpText lookup files all options old old) lookup.file old (matching_lacks lookup files all options old) (look_up_use options) options.clock files
 Serves-lacks files input (explaining fault) options old = ((Appends-nil old, refl), tt)
 Serves-lacks files input (run paths threads is_verbose) options old = (run_asked_lacks paths (sources_of files paths) threads is_verbose old, tt)
-Serves-lacks files input (run_wide paths is_verbose) options old =
-    dialplan_lacks (RunsQueues options.clock paths files (running is_verbose) old old) paths.plan old
-    (queues_plan_lacks options.clock paths files (running is_verbose) old) to_run options.clock files
+Serves-lacks files input (run_wide paths is_verbose) options old = including_lacks options.clock paths files (running is_verbose) old
 Serves-lacks files input (debug paths held is_verbose) options old = (debug_asked_lacks paths (sources_of files paths) held is_verbose old, tt)
-Serves-lacks files input (debug_wide paths held is_verbose) options old =
-    dialplan_lacks (RunsQueues options.clock paths files (debugging held is_verbose) old old) paths.plan old
-    (queues_plan_lacks options.clock paths files (debugging held is_verbose) old) to_run options.clock files
-Serves-lacks files input (testing paths is_traced is_covered) options old = tests_lack (manner_of is_traced is_covered) files [] paths old
+Serves-lacks files input (debug_wide paths held is_verbose) options old = including_lacks options.clock paths files (debugging held is_verbose) old
+Serves-lacks files input (testing paths is_traced is_covered is_drawn) options old = tests_lack (manner_of is_traced is_covered is_drawn options.is_json) files [] paths old
 Serves-lacks files input (comparing before after) options old = (diffs_lack files before after old, tt)
 Serves-lacks files input (comparing_files before after) options old =
-    dialplan_lacks (DiffsAfter options.clock files before after old old) before old (diff_after_lacks options.clock files before after old) Report options.clock files
+    over_both_lacks (Compares before after) old (λ files. (diffs_lack files before after old, tt)) options.clock files before after
+Serves-lacks files input (comparing_reach question) options old = reach_diffs_lack standard_meanings question options.explains files old
+Serves-lacks files input (comparing_reach_files question) options old =
+    over_both_lacks (ReachDiffsFiles wide_meanings question options.explains) old (λ files. reach_diffs_lack wide_meanings question options.explains files old)
+    options.clock files question.before question.after
 Serves-lacks files input (drawing question) options old = graphs_lack standard_meanings files question options.explains old
 Serves-lacks files input (drawing_files question) options old =
     over_included_lacks (λ files. GraphsFiles wide_meanings files question options.explains) old (λ files. graphs_lack wide_meanings files question options.explains old)
     Report options.clock files question.file question.queues
-Serves-lacks files input (reaching question) options old = reaches_files_lack standard_meanings files question options.explains old
+Serves-lacks files input (reaching question) options old = reaches_files_lack standard_meanings files question options old
 Serves-lacks files input (reaching_files question) options old =
-    over_included_lacks (λ files. ReachesFiles wide_meanings files question options.explains) old (λ files. reaches_files_lack wide_meanings files question options.explains old)
-    LookUp options.clock files question.file question.queues
+    over_included_lacks (λ files. ReachesFiles wide_meanings files question options) old (λ files. reaches_files_lack wide_meanings files question options old)
+    (look_up_use options) options.clock files question.file question.queues

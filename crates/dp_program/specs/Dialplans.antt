@@ -55,8 +55,8 @@ path_in first file = path_of first file.name
 -- the notices for which a command does nothing, given what it reads a dialplan for
 abbrev pub shown_for : PlanUse → Shown
 shown_for Report = Faults
-shown_for LookUp = Unfollowed
-shown_for Run = Unfollowed
+shown_for (LookUp assumed) = Unfollowed assumed
+shown_for (Run assumed) = Unfollowed assumed
 
 -- the moment that a word writes, if there is one
 abbrev pub moment_in : Option (List ℕ) → Option Moment
@@ -73,8 +73,8 @@ clock_lines word = if is_some (moment_of word) then clock_text word else []
 -- the lines that are added to the text of a dialplan: a run begins with the global `CLOCK`
 abbrev pub lines_added : PlanUse → Option (List ℕ) → List ℕ
 lines_added Report clock = []
-lines_added LookUp clock = []
-lines_added Run clock = option_map_or clock_lines clock []
+lines_added (LookUp assumed) clock = []
+lines_added (Run assumed) clock = option_map_or clock_lines clock []
 
 -- the text of a dialplan that was read from files, and where its lines come from
 abbrev pub plan_text : PlanUse → Option (List ℕ) → PlanFilesOf → PlanTextOf

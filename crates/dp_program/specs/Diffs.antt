@@ -55,16 +55,20 @@ WritesDiff old new (Err fault) (Ok status) = ⊥
 WritesDiff old new (Err fault) (Err (Coded code line)) = Appends old new [] × (fault ≡ Coded code line)
 WritesDiff old new (Err fault) (Err NoMemory) = Appends old new []
 
--- the same, given the results of reading the files at two paths, with the place of the fault
-abbrev pub WritesDiffOf : List ℕ → List ℕ → Option (List ℕ) → Option (List ℕ) → Result ℕ Faulted → Result (List ℕ) PbxFault → Result (List ℕ) PbxFault → Type 0
-WritesDiffOf before_path after_path old new answered before after =
-    WritesDiff old new (both_plans (plan_read before) (plan_read after)) (without_place answered)
+-- the result for both dialplans or the first fault, given the results of reading the files at two paths, with the place of the fault
+abbrev pub OnBothOf : {X : Type 0} → (Result (PlanOf × PlanOf) PbxFault → Result X PbxFault → Type 0) → List ℕ → List ℕ → Result X Faulted → Result (List ℕ) PbxFault → Result (List ℕ) PbxFault → Type 0
+OnBothOf Holds before_path after_path answered before after =
+    Holds (both_plans (plan_read before) (plan_read after)) (without_place answered)
     × StandsIn (place_of_diff before_path after_path before after) answered
 
 -- the same for the dialplans of the files at two paths
+abbrev pub OnBoth : {X : Type 0} → (Result (PlanOf × PlanOf) PbxFault → Result X PbxFault → Type 0) → (List ℕ → Source) → List ℕ → List ℕ → Result X Faulted → Type 0
+OnBoth Holds files before_path after_path answered =
+    Reads (files before_path) (λ before. Reads (files after_path) (OnBothOf Holds before_path after_path answered before))
+
+-- the output and result for the dialplans of the files at two paths
 abbrev pub DiffsFiles : (List ℕ → Source) → List ℕ → List ℕ → Option (List ℕ) → Option (List ℕ) → Result ℕ Faulted → Type 0
-DiffsFiles files before_path after_path old new answered =
-    Reads (files before_path) (λ before. Reads (files after_path) (WritesDiffOf before_path after_path old new answered before))
+DiffsFiles files before_path after_path old new answered = OnBoth (WritesDiff old new) files before_path after_path answered
 
 -- a dialplan was loaded from the file at a path, given the result of reading the file; or it is the fault, in its place
 abbrev pub LoadsFrom : List ℕ → Result PlanOf Faulted → Result (List ℕ) PbxFault → Type 0

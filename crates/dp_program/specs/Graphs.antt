@@ -18,6 +18,7 @@ use Rattle.dp_commands.specs.declared.fault.PbxFault.{PbxFault}
 use Rattle.dp_commands.specs.declared.fault.PbxFault.TheVariants.{Coded, NoMemory}
 use Rattle.dp_graph.specs.Picture.{picture_of}
 use Rattle.dp_graph.specs.Printing.{text_of}
+use Rattle.dp_graph.specs.Shading.{ShadingOf, Unshaded, ByCall}
 use Rattle.dp_graph.specs.declared.exit.QueueExit.{QueueExit}
 use Rattle.dp_program.specs.Files.{Source}
 use Rattle.dp_program.specs.Meanings.{wide_meanings}
@@ -44,9 +45,14 @@ exits_at queue = option_to_list (exit_of queue)
 abbrev pub exits_of : List QueueOf → List QueueExit
 exits_of queues = flat_map exits_at queues
 
+-- what the fills of a picture say, given the entries that are filled, if any are
+abbrev pub shading_of : Option (List EntryId) → ShadingOf
+shading_of None = Unshaded
+shading_of (Some entries) = ByCall entries
+
 -- the picture of a dialplan, with the ways out of its queues, given the entries that are filled, if any are
 unfoldable pub graph_text : Files → Option (List EntryId) → List ℕ
-graph_text files filled = text_of (picture_of files.plan filled (exits_of files.queues.queues))
+graph_text files filled = text_of (picture_of files.plan (shading_of filled) (exits_of files.queues.queues))
 
 -- ---- what is filled
 

@@ -10,13 +10,16 @@ pub mod Including
 pub mod JsonAudits
 pub mod JsonChecks
 pub mod JsonMatches
+pub mod JsonTests
 pub mod Meanings
 pub mod Nearest
 pub mod PlanAndQueues
 pub mod PlanQuestions
 pub mod QueueTexts
+pub mod ReachDiffs
 pub mod Reaches
 pub mod Requests
+pub mod ScriptAssumptions
 pub mod Serves
 pub mod Status
 pub mod TestFiles

@@ -4,6 +4,7 @@ use Rattle.dp_program.specs.Dialplans.{PlanTextOf, ReadsDialplan, with_text}
 use Rattle.dp_program.specs.Files.{Source}
 use Rattle.dp_program.specs.QueueTexts.{ReadsQueues}
 use Rattle.dp_program.specs.declared.dialplans.PlanUse.{PlanUse}
+use Rattle.dp_program.specs.declared.dialplans.PlanUse.TheVariants.{Report}
 use Rattle.dp_program.specs.declared.faulted.Faulted.{Faulted}
 use Rattle.dp_program.specs.declared.hints.Served.{Served}
 
@@ -29,3 +30,13 @@ WithQueues serves files path old new plan (Some queues) answered = AfterQueues s
 abbrev pub OverIncluded : Serving → PlanUse → Option (List ℕ) → (List ℕ → Source) → List ℕ → Option (List ℕ) → Option (List ℕ) → Option (List ℕ) → Result Served Faulted → Type 0
 OverIncluded serves purpose clock files path queues old new answered =
     ReadsDialplan purpose clock files path (λ plan. WithQueues serves files path old new plan queues) old new answered
+
+-- the same for a question on files in which the second of two dialplans, at this path, has the text that is made from its file and from
+-- those that it includes
+abbrev pub OnSecond : Serving → Option (List ℕ) → List ℕ → Serving
+OnSecond serves clock after files old new answered = OverIncluded serves Report clock files after None old new answered
+
+-- the same for both dialplans, before and after a change: the one before it is read first
+abbrev pub OverBothIncluded : Serving → Option (List ℕ) → (List ℕ → Source) → List ℕ → List ℕ → Option (List ℕ) → Option (List ℕ) → Result Served Faulted → Type 0
+OverBothIncluded serves clock files before after old new answered =
+    OverIncluded (OnSecond serves clock after) Report clock files before None old new answered

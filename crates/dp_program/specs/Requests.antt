@@ -7,9 +7,10 @@ use Rattle.dp_wide_runs.specs.Kinds.{ChoiceOf, choice_of}
 use Rattle.dp_program.specs.declared.options.Options.{Options}
 use Rattle.dp_program.specs.declared.request.GraphQuestion.{GraphQuestion}
 use Rattle.dp_program.specs.declared.request.Lookup.{Lookup}
+use Rattle.dp_program.specs.declared.request.ReachDiffQuestion.{ReachDiffQuestion}
 use Rattle.dp_program.specs.declared.request.ReachQuestion.{ReachQuestion}
 use Rattle.dp_program.specs.declared.request.Request.{Request}
-use Rattle.dp_program.specs.declared.request.Request.TheVariants.{Joined, Check, CheckIncluding, CheckQueuesIncluding, CheckBothIncluding, CheckQueues, CheckBoth, Listing, ListIncluding, Audit, AuditBy, Match, MatchIncluding, Explain, Run, RunWide, Debug, DebugWide, Test, Diff, DiffIncluding, Graph, GraphIncluding, Reach, ReachIncluding}
+use Rattle.dp_program.specs.declared.request.Request.TheVariants.{Joined, Check, CheckIncluding, CheckQueuesIncluding, CheckBothIncluding, CheckQueues, CheckBoth, Listing, ListIncluding, Audit, AuditBy, Match, MatchIncluding, Explain, Run, RunWide, Debug, DebugWide, Test, Diff, DiffIncluding, ReachDiff, ReachDiffIncluding, Graph, GraphIncluding, Reach, ReachIncluding}
 
 -- what is looked up in the dialplan of a file, with its texts
 pub record LookupOf : Type 0 where
@@ -59,16 +60,33 @@ drawing_of question = record {
   facts = option_map (λ word. word.now) question.facts;
 }
 
+-- a question about what a call reaches in two dialplans, with its texts
+pub record ReachDiffOf : Type 0 where
+  pub before : List ℕ
+  pub after : List ℕ
+  pub from : List ℕ
+  pub facts : Option (List ℕ)
+
+abbrev pub reach_diff_of : ReachDiffQuestion → ReachDiffOf
+reach_diff_of question = record {
+  before = question.files.before.now;
+  after = question.files.after.now;
+  from = question.from.now;
+  facts = option_map (λ word. word.now) question.facts;
+}
+
 -- the options of a request, with their texts
 pub record OptionsOf : Type 0 where
   pub explains : Bool
   pub clock : Option (List ℕ)
+  pub assumed : Option (List ℕ)
   pub is_json : Bool
 
 abbrev pub options_of : Options → OptionsOf
 options_of options = record {
   explains = options.explains;
   clock = option_map (λ word. word.now) options.clock;
+  assumed = option_map (λ word. word.now) options.assumed;
   is_json = options.is_json;
 }
 
@@ -92,9 +110,11 @@ pub data RequestOf : Type 0 where
   run_wide : OfRun (List ℕ) → Bool → RequestOf
   debug : OfRun (List ℕ) → List ℕ → Bool → RequestOf
   debug_wide : OfRun (List ℕ) → List ℕ → Bool → RequestOf
-  testing : List (List ℕ) → Bool → Bool → RequestOf
+  testing : List (List ℕ) → Bool → Bool → Bool → RequestOf
   comparing : List ℕ → List ℕ → RequestOf
   comparing_files : List ℕ → List ℕ → RequestOf
+  comparing_reach : ReachDiffOf → RequestOf
+  comparing_reach_files : ReachDiffOf → RequestOf
   drawing : DrawingOf → RequestOf
   drawing_files : DrawingOf → RequestOf
   reaching : QuestionOf → RequestOf
@@ -120,9 +140,11 @@ request_asked (Run files threads is_verbose) = run (paths_of files) threads is_v
 request_asked (RunWide files is_verbose) = run_wide (paths_of files) is_verbose
 request_asked (Debug files held is_verbose) = debug (paths_of files) held.now is_verbose
 request_asked (DebugWide files held is_verbose) = debug_wide (paths_of files) held.now is_verbose
-request_asked (Test files is_traced is_covered) = testing (map (λ path. path.now) files.items) is_traced is_covered
+request_asked (Test files is_traced is_covered is_drawn) = testing (map (λ path. path.now) files.items) is_traced is_covered is_drawn
 request_asked (Diff files) = comparing files.before.now files.after.now
 request_asked (DiffIncluding files) = comparing_files files.before.now files.after.now
+request_asked (ReachDiff question) = comparing_reach (reach_diff_of question)
+request_asked (ReachDiffIncluding question) = comparing_reach_files (reach_diff_of question)
 request_asked (Graph question) = drawing (drawing_of question)
 request_asked (GraphIncluding question) = drawing_files (drawing_of question)
 request_asked (Reach question) = reaching (question_of question)

@@ -15,6 +15,7 @@ use Rattle.dp_commands.specs.Verbose.{InForce, WritesVerbose, WritesVerboseDebug
 use Rattle.dp_commands.specs.declared.fault.PbxFault.{PbxFault}
 use Rattle.dp_program.specs.Checks.{both_report, check_by, queues_report}
 use Rattle.dp_program.specs.Dialplans.{PlanTextOf, ReadsDialplan, moment_in, places_in, with_text}
+use Rattle.dp_program.specs.ReachDiffs.{ReachDiffsFiles, ReachDiffsIncluding}
 use Rattle.dp_program.specs.Diffs.{DiffsFiles}
 use Rattle.dp_program.specs.Entries.{entry_of, explanation_of}
 use Rattle.dp_program.specs.Faulted.{StandsIn, in_none, place_of_report, place_of_run, place_of_two, without_place}
@@ -24,13 +25,16 @@ use Rattle.dp_program.specs.Hints.{Tells, TellsNothing, audit_hint_of, match_hin
 use Rattle.dp_program.specs.Including.{ChecksBothIncluding, ChecksIncluding, ChecksQueuesIncluding}
 use Rattle.dp_program.specs.JsonAudits.{WritesJsonChoice, audit_json_of}
 use Rattle.dp_program.specs.JsonMatches.{match_json_of}
+use Rattle.dp_program.specs.PlanQuestions.{OverBothIncluded, Serving}
 use Rattle.dp_program.specs.QueueTexts.{ReadsQueues}
 use Rattle.dp_table.specs.Standard.{standard_meanings}
 use Rattle.dp_program.specs.Reaches.{ReachesFiles, ReachesIncluding}
-use Rattle.dp_program.specs.Requests.{OptionsOf, RequestOf, LookupOf, joined, check, check_files, check_queue_files, check_both_files, check_queues, check_both, listing, listing_files, auditing, auditing_by, matching, matching_files, explaining, run, run_wide, debug, debug_wide, testing, comparing, comparing_files, drawing, drawing_files, reaching, reaching_files}
+use Rattle.dp_program.specs.Requests.{OptionsOf, RequestOf, LookupOf, joined, check, check_files, check_queue_files, check_both_files, check_queues, check_both, listing, listing_files, auditing, auditing_by, matching, matching_files, explaining, run, run_wide, debug, debug_wide, testing, comparing, comparing_files, comparing_reach, comparing_reach_files, drawing, drawing_files, reaching, reaching_files}
 use Rattle.dp_program.specs.TestSuites.{TestsFiles, manner_of}
+use Rattle.dp_notices.specs.declared.printing.Assumptions.{Assumptions}
+use Rattle.dp_program.specs.ScriptAssumptions.{look_up_use, text_assumptions}
 use Rattle.dp_program.specs.Texts.{OfRun, ReadsTexts, all_texts, sources_of}
-use Rattle.dp_program.specs.declared.dialplans.PlanUse.TheVariants.{Report, LookUp, Run as to_run}
+use Rattle.dp_program.specs.declared.dialplans.PlanUse.TheVariants.{Report, Run as to_run}
 use Rattle.dp_program.specs.declared.faulted.Faulted.{Faulted}
 use Rattle.dp_program.specs.declared.hints.Served.{Served}
 use Rattle.dp_plan.specs.Plan.{PlanOf}
@@ -280,7 +284,7 @@ LooksUpText lookup files all options old new plan answered =
 -- the same in the dialplan at a path and the files that it includes
 abbrev pub LooksUpIncluding : LookupOf → (List ℕ → Source) → Bool → OptionsOf → Option (List ℕ) → Option (List ℕ) → Result Served Faulted → Type 0
 LooksUpIncluding lookup files all options old new answered =
-    ReadsDialplan LookUp options.clock files lookup.file (LooksUpText lookup files all options old new) old new answered
+    ReadsDialplan (look_up_use options) options.clock files lookup.file (LooksUpText lookup files all options old new) old new answered
 
 -- the output and result of an audit, given the text of the dialplan
 abbrev pub AuditsText : Bool → ChoiceOf → List ℕ → (List ℕ → Source) → Option (List ℕ) → Option (List ℕ) → PlanTextOf → Result Served Faulted → Type 0
@@ -310,50 +314,56 @@ abbrev pub RunsPlans : OfRun (List ℕ) → (List ℕ → Source) → RunManner 
 RunsPlans paths files manner old new plan second answered =
     Quietly (RunsWideAsked paths (places_read plan second) (sources_of (files_read paths files plan second) paths) manner old new) answered
 
+-- how the dialplans of a run are read: the word of `--clock`, and what is assumed of lines that are left out
+pub record RunReading : Type 0 where
+  pub clock : Option (List ℕ)
+  pub assumed : Assumptions
+
+abbrev pub reading_by : Option (List ℕ) → Assumptions → RunReading
+reading_by clock assumed = record { clock = clock; assumed = assumed }
+
 -- the same, given the text of the first one and the path of the second, which is read after it
-abbrev pub RunsSecond : Option (List ℕ) → OfRun (List ℕ) → (List ℕ → Source) → RunManner → Option (List ℕ) → Option (List ℕ) → PlanTextOf → List ℕ → Result Served Faulted → Type 0
-RunsSecond clock paths files manner old new plan path answered =
-    ReadsDialplan to_run clock files path (λ second answered. RunsPlans paths files manner old new plan (Some (path, second)) answered) old new
+abbrev pub RunsSecond : RunReading → OfRun (List ℕ) → (List ℕ → Source) → RunManner → Option (List ℕ) → Option (List ℕ) → PlanTextOf → List ℕ → Result Served Faulted → Type 0
+RunsSecond reading paths files manner old new plan path answered =
+    ReadsDialplan (to_run reading.assumed) reading.clock files path (λ second answered. RunsPlans paths files manner old new plan (Some (path, second)) answered) old new
     answered
 
 -- the same, given the path of the second one, if there is one
-abbrev pub RunsBeside : Option (List ℕ) → OfRun (List ℕ) → (List ℕ → Source) → RunManner → Option (List ℕ) → Option (List ℕ) → PlanTextOf → Option (List ℕ) → Result Served Faulted → Type 0
-RunsBeside clock paths files manner old new plan None answered = RunsPlans paths files manner old new plan None answered
-RunsBeside clock paths files manner old new plan (Some path) answered = RunsSecond clock paths files manner old new plan path answered
+abbrev pub RunsBeside : RunReading → OfRun (List ℕ) → (List ℕ → Source) → RunManner → Option (List ℕ) → Option (List ℕ) → PlanTextOf → Option (List ℕ) → Result Served Faulted → Type 0
+RunsBeside reading paths files manner old new plan None answered = RunsPlans paths files manner old new plan None answered
+RunsBeside reading paths files manner old new plan (Some path) answered = RunsSecond reading paths files manner old new plan path answered
 
 -- the same, given the text of the first one
-abbrev pub RunsPlan : Option (List ℕ) → OfRun (List ℕ) → (List ℕ → Source) → RunManner → Option (List ℕ) → Option (List ℕ) → PlanTextOf → Result Served Faulted → Type 0
-RunsPlan clock paths files manner old new plan answered = RunsBeside clock paths files manner old new plan paths.second_plan answered
+abbrev pub RunsPlan : RunReading → OfRun (List ℕ) → (List ℕ → Source) → RunManner → Option (List ℕ) → Option (List ℕ) → PlanTextOf → Result Served Faulted → Type 0
+RunsPlan reading paths files manner old new plan answered = RunsBeside reading paths files manner old new plan paths.second_plan answered
 
 -- the same, given the path of the queues, if there are some: they are read with the files that they include
-abbrev pub RunsWithQueues : Option (List ℕ) → OfRun (List ℕ) → (List ℕ → Source) → RunManner → Option (List ℕ) → Option (List ℕ) → PlanTextOf → Option (List ℕ) → Result Served Faulted → Type 0
-RunsWithQueues clock paths files manner old new plan None answered = RunsPlan clock paths files manner old new plan answered
-RunsWithQueues clock paths files manner old new plan (Some path) answered =
-    ReadsQueues files path (λ files. RunsPlan clock paths files manner old new plan) old new answered
+abbrev pub RunsWithQueues : RunReading → OfRun (List ℕ) → (List ℕ → Source) → RunManner → Option (List ℕ) → Option (List ℕ) → PlanTextOf → Option (List ℕ) → Result Served Faulted → Type 0
+RunsWithQueues reading paths files manner old new plan None answered = RunsPlan reading paths files manner old new plan answered
+RunsWithQueues reading paths files manner old new plan (Some path) answered =
+    ReadsQueues files path (λ files. RunsPlan reading paths files manner old new plan) old new answered
 
 -- the same, given the text of the first dialplan
-abbrev pub RunsQueues : Option (List ℕ) → OfRun (List ℕ) → (List ℕ → Source) → RunManner → Option (List ℕ) → Option (List ℕ) → PlanTextOf → Result Served Faulted → Type 0
-RunsQueues clock paths files manner old new plan answered = RunsWithQueues clock paths files manner old new plan paths.queues answered
+abbrev pub RunsQueues : RunReading → OfRun (List ℕ) → (List ℕ → Source) → RunManner → Option (List ℕ) → Option (List ℕ) → PlanTextOf → Result Served Faulted → Type 0
+RunsQueues reading paths files manner old new plan answered = RunsWithQueues reading paths files manner old new plan paths.queues answered
 
 -- the same for the dialplan at a path and the files that it includes
+abbrev pub RunsAssuming : RunReading → OfRun (List ℕ) → (List ℕ → Source) → RunManner → Option (List ℕ) → Option (List ℕ) → Result Served Faulted → Type 0
+RunsAssuming reading paths files manner old new answered =
+    ReadsDialplan (to_run reading.assumed) reading.clock files paths.plan (RunsQueues reading paths files manner old new) old new answered
+
+-- the same, given the word of `--clock`: the script is read first for what it assumes
 abbrev pub RunsIncluding : Option (List ℕ) → OfRun (List ℕ) → (List ℕ → Source) → RunManner → Option (List ℕ) → Option (List ℕ) → Result Served Faulted → Type 0
 RunsIncluding clock paths files manner old new answered =
-    ReadsDialplan to_run clock files paths.plan (RunsQueues clock paths files manner old new) old new answered
+    Reads (files paths.script) (λ script. RunsAssuming (reading_by clock (text_assumptions script)) paths files manner old new answered)
 
--- the output and result of a comparison of the dialplans at two paths, given their texts
-abbrev pub DiffsTexts : (List ℕ → Source) → List ℕ → List ℕ → Option (List ℕ) → Option (List ℕ) → PlanTextOf → PlanTextOf → Result Served Faulted → Type 0
-DiffsTexts files before_path after_path old new before after answered =
-    Quietly (DiffsFiles (with_text (with_text files before_path before.text) after_path after.text) before_path after_path old new) answered
-
--- the same, given the text of the first one
-abbrev pub DiffsAfter : Option (List ℕ) → (List ℕ → Source) → List ℕ → List ℕ → Option (List ℕ) → Option (List ℕ) → PlanTextOf → Result Served Faulted → Type 0
-DiffsAfter clock files before_path after_path old new before answered =
-    ReadsDialplan Report clock files after_path (DiffsTexts files before_path after_path old new before) old new answered
+-- the output and result of a comparison of the dialplans of two files
+abbrev pub Compares : List ℕ → List ℕ → Serving
+Compares before after files old new answered = Quietly (DiffsFiles files before after old new) answered
 
 -- the same for the dialplans at two paths and the files that they include
 abbrev pub DiffsIncluding : Option (List ℕ) → (List ℕ → Source) → List ℕ → List ℕ → Option (List ℕ) → Option (List ℕ) → Result Served Faulted → Type 0
-DiffsIncluding clock files before_path after_path old new answered =
-    ReadsDialplan Report clock files before_path (DiffsAfter clock files before_path after_path old new) old new answered
+DiffsIncluding clock files before after old new answered = OverBothIncluded (Compares before after) clock files before after old new answered
 
 -- the output and result of a request, given the files, the input, and its options
 abbrev pub Serves : (List ℕ → Source) → Source → RequestOf → OptionsOf → Option (List ℕ) → Option (List ℕ) → Result Served Faulted → Type 0
@@ -385,16 +395,18 @@ Serves files input (debug paths held is_verbose) options old new answered =
     Quietly (DebugsAsked paths (sources_of files paths) held is_verbose old new) answered
 Serves files input (debug_wide paths held is_verbose) options old new answered =
     RunsIncluding options.clock paths files (debugging held is_verbose) old new answered
-Serves files input (testing paths is_traced is_covered) options old new answered =
-    TestsFiles (manner_of is_traced is_covered) files paths old new answered
-Serves files input (comparing before after) options old new answered = Quietly (DiffsFiles files before after old new) answered
+Serves files input (testing paths is_traced is_covered is_drawn) options old new answered =
+    TestsFiles (manner_of is_traced is_covered is_drawn options.is_json) files paths old new answered
+Serves files input (comparing before after) options old new answered = Compares before after files old new answered
 Serves files input (comparing_files before after) options old new answered = DiffsIncluding options.clock files before after old new answered
+Serves files input (comparing_reach question) options old new answered = ReachDiffsFiles standard_meanings question options.explains files old new answered
+Serves files input (comparing_reach_files question) options old new answered = ReachDiffsIncluding options.clock files question options.explains old new answered
 Serves files input (drawing question) options old new answered = GraphsFiles standard_meanings files question options.explains old new answered
 Serves files input (drawing_files question) options old new answered =
     GraphsIncluding options.clock files question options.explains old new answered
-Serves files input (reaching question) options old new answered = ReachesFiles standard_meanings files question options.explains old new answered
+Serves files input (reaching question) options old new answered = ReachesFiles standard_meanings files question options old new answered
 Serves files input (reaching_files question) options old new answered =
-    ReachesIncluding options.clock files question options.explains old new answered
+    ReachesIncluding files question options old new answered
 
 -- whether a read of the input failed, given the result: only a request without a command reads the input
 abbrev pub fails_on_input : {X : Type 0} → RequestOf → Result X PbxFault → Bool
@@ -416,9 +428,11 @@ fails_on_input (run paths threads is_verbose) result = false
 fails_on_input (run_wide paths is_verbose) result = false
 fails_on_input (debug paths held is_verbose) result = false
 fails_on_input (debug_wide paths held is_verbose) result = false
-fails_on_input (testing paths is_traced is_covered) result = false
+fails_on_input (testing paths is_traced is_covered is_drawn) result = false
 fails_on_input (comparing before after) result = false
 fails_on_input (comparing_files before after) result = false
+fails_on_input (comparing_reach question) result = false
+fails_on_input (comparing_reach_files question) result = false
 fails_on_input (drawing question) result = false
 fails_on_input (drawing_files question) result = false
 fails_on_input (reaching question) result = false

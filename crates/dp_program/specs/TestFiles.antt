@@ -18,7 +18,9 @@ use Rattle.dp_program.specs.Files.{Source}
 use Rattle.dp_program.specs.Including.{MayTellOf, reading_fault}
 use Rattle.dp_program.specs.QueueTexts.{QueuesRead, given, queues_or_notices, unread}
 use Rattle.dp_program.specs.declared.dialplans.PlanUse.TheVariants.{LookUp}
+use Rattle.dp_program.specs.ScriptAssumptions.{test_assumptions}
 use Rattle.dp_program.specs.declared.test_inputs.NamedLine.{NamedLine}
+use Rattle.dp_program.specs.declared.test_inputs.PlanReading.{PlanReading}
 use Rattle.dp_program.specs.declared.test_inputs.ReadInputs.{ReadInputs}
 use Rattle.dp_program.specs.declared.test_inputs.ReadInputs.TheVariants.{Ready, Lacking}
 use Rattle.dp_program.specs.declared.test_inputs.Reloads.{Reloads}
@@ -84,20 +86,24 @@ unread_text path named NoMemory = []
 abbrev pub clock_of : Option HeadLine → Option Moment
 clock_of clock = option_and_then (λ head. moment_of head.text) clock
 
+-- how the dialplans are read: by this moment, and by what the head assumes of lines that are left out
+abbrev pub reading_of : TestFile → PlanReading
+reading_of file = record { clock = clock_of file.clock; assumed = test_assumptions file }
+
 -- the dialplan, or the lines about what is wrong with it
 abbrev pub plan_or_lines : List ℕ → NamedOf → Result DialplanRead PbxFault → DialplanRead
 plan_or_lines path named (Ok read) = read
 plan_or_lines path named (Err fault) = faulty (unread_text path named fault)
 
 -- the dialplan at a path may be read so: for all files that are as they were read
-abbrev pub IsPlanAt : (List ℕ → Source) → Option Moment → List ℕ → NamedOf → List ℕ → DialplanRead → Type 0
-IsPlanAt files clock path named at read =
-    ReadsFolder (MayTellOf files at) (λ has. read ≡ plan_or_lines path named (dialplan_read LookUp None (plan_of clock has at)))
+abbrev pub IsPlanAt : (List ℕ → Source) → PlanReading → List ℕ → NamedOf → List ℕ → DialplanRead → Type 0
+IsPlanAt files reading path named at read =
+    ReadsFolder (MayTellOf files at) (λ has. read ≡ plan_or_lines path named (dialplan_read (LookUp reading.assumed) None (plan_of reading.clock has at)))
 
 -- the same for the dialplan that a line names; a path that is not UTF-8 is not read
-abbrev pub IsPlanRead : (List ℕ → Source) → Option Moment → List ℕ → NamedOf → DialplanRead → Type 0
-IsPlanRead files clock path named read =
-    MatchBool (is_utf8 (path_to path named)) (IsPlanAt files clock path named (path_to path named) read)
+abbrev pub IsPlanRead : (List ℕ → Source) → PlanReading → List ℕ → NamedOf → DialplanRead → Type 0
+IsPlanRead files reading path named read =
+    MatchBool (is_utf8 (path_to path named)) (IsPlanAt files reading path named (path_to path named) read)
     (read ≡ faulty (unread_line path named ReadFailed))
 
 -- the queues that a line names, or the lines about what is wrong with them
@@ -157,10 +163,10 @@ with_reload named reloads (loads plan) = with_plan named.name reloads plan
 with_reload named reloads (faulty lines) = record { texts = reloads.texts; lines = reloads.lines ++ lines }
 
 -- the dialplans that some lines name may be read so, one after another
-abbrev pub AreReloads : (List ℕ → Source) → Option Moment → List ℕ → List NamedOf → ReloadsOf → ReloadsOf → Type 0
-AreReloads files clock path [] before after = after ≡ before
-AreReloads files clock path (named ∷ more) before after =
-    (read : DialplanRead) × IsPlanRead files clock path named read × AreReloads files clock path more (with_reload named before read) after
+abbrev pub AreReloads : (List ℕ → Source) → PlanReading → List ℕ → List NamedOf → ReloadsOf → ReloadsOf → Type 0
+AreReloads files reading path [] before after = after ≡ before
+AreReloads files reading path (named ∷ more) before after =
+    (read : DialplanRead) × IsPlanRead files reading path named read × AreReloads files reading path more (with_reload named before read) after
 
 -- the texts that the tests of a file run on
 pub record InputsOf : Type 0 where
@@ -207,9 +213,9 @@ pub record AreInputs (files : List ℕ → Source) (path : List ℕ) (file : Tes
   pub plan : DialplanRead
   pub queues : QueuesRead
   pub reloads : ReloadsOf
-  pub plan_read : IsPlanRead files (clock_of file.clock) path (named_in file.dialplan) plan
+  pub plan_read : IsPlanRead files (reading_of file) path (named_in file.dialplan) plan
   pub queues_read : AreQueuesRead files path file.queues queues
-  pub reloads_read : AreReloads files (clock_of file.clock) path (reloads_of file) no_reloads reloads
+  pub reloads_read : AreReloads files (reading_of file) path (reloads_of file) no_reloads reloads
   pub joined : read ≡ inputs_by (wrong_lines plan queues reloads) plan queues reloads
 
 -- ---- the texts that the tests of a file run on

@@ -1,18 +1,27 @@
 -- What `pbx test` does with test files: it reads them all, runs their tests in order, and writes the results as one list.
-use Rattle.std.specs.Prelude.{◌≡◌, ◌&&◌, ℕ, Bool, true, false, List, [], ◌∷◌, ◌++◌, map, Option, None, Result, Ok, Err, if◌then◌else◌}
+use Rattle.std.specs.Prelude.{◌≡◌, ◌&&◌, ℕ, Bool, true, false, ◌==◌, List, [], ◌∷◌, ◌++◌, length, map, Option, None, Result, Ok, Err, codes, if◌then◌else◌}
 use Rattle.std.specs.Io.KnownBytes.{Appends}
 use Rattle.std.specs.List.{flat_map, list_any}
+use Rattle.std.specs.Option.{option_map}
+use Rattle.indexmap.specs.IndexSet.{insert_all}
+use Rattle.dp_audit.specs.Candidates.{same_id}
+use Rattle.dp_conf.specs.Answers.{◌>>=◌}
 use Rattle.dp_conf.specs.Fronts.{AppendsFront}
 use Rattle.dp_conf.specs.Words.{same_text}
+use Rattle.dp_commands.specs.Run.{files_of}
 use Rattle.dp_commands.specs.declared.fault.Code.{Code}
 use Rattle.dp_commands.specs.declared.fault.Code.TheVariants.{WriteFailed}
 use Rattle.dp_commands.specs.declared.fault.PbxFault.{PbxFault}
 use Rattle.dp_commands.specs.declared.fault.PbxFault.TheVariants.{Coded, NoMemory}
 use Rattle.dp_files.specs.FolderFiles.{path_of}
+use Rattle.dp_graph.specs.Picture.{picture_of}
+use Rattle.dp_graph.specs.Printing.{text_of}
+use Rattle.dp_graph.specs.Shading.{ByTests}
 use Rattle.dp_plan.specs.declared.entry.EntryId.{EntryId}
 use Rattle.dp_program.specs.Dialplans.{FailsToRead}
 use Rattle.dp_program.specs.Faulted.{in_none, nowhere, place_of}
 use Rattle.dp_program.specs.Files.{Reads, Source}
+use Rattle.dp_program.specs.Graphs.{exits_of}
 use Rattle.dp_program.specs.TestFiles.{AreInputs, InputsOf, InputsRead, IsTested, fault_lines, fault_of_texts, inputs_of, lacking, ready}
 use Rattle.dp_program.specs.TestTexts.{TestText, text_at}
 use Rattle.dp_program.specs.declared.faulted.Faulted.{Faulted}
@@ -20,6 +29,7 @@ use Rattle.dp_program.specs.declared.hints.Served.{Served}
 use Rattle.dp_program.specs.declared.test_reports.TestManner.{TestManner}
 use Rattle.dp_program.specs.declared.test_reports.TestReport.{TestReport}
 use Rattle.dp_program.specs.declared.test_results.PlanRun.{PlanRun}
+use Rattle.dp_program.specs.JsonTests.{coverage_json, tests_json}
 use Rattle.dp_program.specs.declared.test_results.Results.{Results}
 use Rattle.dp_program.specs.declared.test_suites.ReadyTests.{ReadyTests}
 use Rattle.dp_program.specs.declared.test_suites.Suite.{Suite}
@@ -160,27 +170,52 @@ abbrev pub coverage_shown : Result (List ℕ) PbxFault → List ℕ
 coverage_shown (Ok text) = text
 coverage_shown (Err fault) = []
 
--- the coverage of a dialplan by these entries
-abbrev pub coverage_by : PlanRun → List EntryId → List ℕ
-coverage_by plan entered = coverage_shown (coverage_in (record { text = plan.tested.texts.plan; places = plan.tested.places }) entered)
+-- the coverage of a dialplan by these entries, as text or as JSON
+abbrev pub coverage_by : Bool → PlanRun → List EntryId → List ℕ
+coverage_by false plan entered = coverage_shown (coverage_in (record { text = plan.tested.texts.plan; places = plan.tested.places }) entered)
+coverage_by true plan entered = coverage_shown (coverage_json plan entered)
 
 -- the coverage of a dialplan by the tests of all files that are on it
-abbrev pub plan_coverage : List PlanRun → PlanRun → List ℕ
-plan_coverage runs plan = coverage_by plan (flat_map (entered_by plan) runs)
+abbrev pub plan_coverage : Bool → List PlanRun → PlanRun → List ℕ
+plan_coverage is_json runs plan = coverage_by is_json plan (flat_map (entered_by plan) runs)
 
 -- the same for the dialplan of a test file, unless one of the files before it is on it
-abbrev pub untold_coverage : List PlanRun → List PlanRun → PlanRun → List ℕ
-untold_coverage runs before run = if list_any (same_plan run) before then [] else plan_coverage runs run
+abbrev pub untold_coverage : Bool → List PlanRun → List PlanRun → PlanRun → List ℕ
+untold_coverage is_json runs before run = if list_any (same_plan run) before then [] else plan_coverage is_json runs run
 
 -- the coverage of the dialplans of test files, given those before them
-abbrev pub coverage_after : List PlanRun → List PlanRun → List PlanRun → List ℕ
-coverage_after runs before [] = []
-coverage_after runs before (run ∷ more) = untold_coverage runs before run ++ coverage_after runs (before ++ run ∷ []) more
+abbrev pub coverage_after : Bool → List PlanRun → List PlanRun → List PlanRun → List ℕ
+coverage_after is_json runs before [] = []
+coverage_after is_json runs before (run ∷ more) =
+    untold_coverage is_json runs before run ++ coverage_after is_json runs (before ++ run ∷ []) more
 
 -- the coverage of all dialplans, each once, if it is asked for
-abbrev pub coverage_asked : Bool → List PlanRun → List ℕ
-coverage_asked false runs = []
-coverage_asked true runs = coverage_after runs [] runs
+abbrev pub coverage_asked : Bool → Bool → List PlanRun → List ℕ
+coverage_asked is_json false runs = []
+coverage_asked is_json true runs = coverage_after is_json runs [] runs
+
+-- ---- the picture
+
+-- the picture of the dialplan of a test file by these entries, which tests ran, with the ways out of its queues; or the first fault of its
+-- texts
+unfoldable pub picture_in : PlanRun → List EntryId → Result (List ℕ) PbxFault
+picture_in plan ran =
+    files_of plan.tested.texts.plan.now (option_map (λ text. text.now) plan.tested.texts.queues) >>= λ files.
+    Ok (text_of (picture_of files.plan (ByTests (insert_all same_id [] ran)) (exits_of files.queues.queues)))
+
+-- the same by the tests of all files that are on the dialplan; it has no fault, since tests ran on it
+abbrev pub picture_by : List PlanRun → PlanRun → List ℕ
+picture_by runs plan = coverage_shown (picture_in plan (flat_map (entered_by plan) runs))
+
+-- the line about the test file at a path that is on another dialplan than the one that is drawn
+unfoldable pub other_reason : List ℕ
+other_reason = codes " is on another dialplan than the first test file\n"
+
+abbrev pub other_text : List ℕ → List ℕ
+other_text path = codes "pbx: " ++ path ++ other_reason
+
+abbrev pub other_line : PlanRun → PlanRun → List ℕ
+other_line drawn run = if same_plan drawn run then [] else other_text run.tested.path.now
 
 -- ---- the report
 
@@ -194,28 +229,49 @@ pub record ReportOf : Type 0 where
 abbrev pub report_now : TestReport → ReportOf
 report_now report = record { written = report.written; told = report.told.items; status = report.status }
 
--- what is asked for besides the results: the trace of each test, and the coverage of the dialplans
+-- what is asked for besides the results: the trace of each test, the coverage of the dialplans, JSON in place of text, and a picture in
+-- place of all results
 pub record MannerOf : Type 0 where
   pub traces : Bool
   pub covers : Bool
+  pub is_json : Bool
+  pub draws : Bool
 
 abbrev pub manner_now : TestManner → MannerOf
-manner_now manner = record { traces = manner.traces; covers = manner.covers }
+manner_now manner = record { traces = manner.traces; covers = manner.covers; is_json = manner.is_json; draws = manner.draws }
 
-abbrev pub manner_of : Bool → Bool → MannerOf
-manner_of traces covers = record { traces = traces; covers = covers }
+abbrev pub manner_of : Bool → Bool → Bool → Bool → MannerOf
+manner_of traces covers draws is_json = record { traces = traces; covers = covers; is_json = is_json; draws = draws }
 
 -- no results, because of what these lines say
 abbrev pub refuses : List ℕ → ReportOf
 refuses lines = record { written = []; told = lines; status = 1 }
 
+-- the results of tests; JSON has no traces
+abbrev pub results_text : MannerOf → List Point → List ℕ
+results_text manner points = if manner.is_json then tests_json points else tap_text manner.traces points
+
 -- the points of tests, with what is added to them; the status is 1 if a test failed
-abbrev pub passes : Bool → List Point → List ℕ → ReportOf
-passes traces points added = record { written = tap_text traces points ++ added; told = []; status = if has_failed points then 1 else 0 }
+abbrev pub passes : MannerOf → List Point → List ℕ → ReportOf
+passes manner points added = record { written = results_text manner points ++ added; told = []; status = if has_failed points then 1 else 0 }
+
+-- a picture, with the lines beside it
+abbrev pub drawn : List ℕ → List ℕ → ReportOf
+drawn picture told = record { written = picture; told = told; status = if length told == 0 then 0 else 1 }
+
+-- the picture of the dialplan of the first test file
+abbrev pub drawn_by : List PlanRun → List PlanRun → ReportOf
+drawn_by runs [] = record { written = []; told = []; status = 0 }
+drawn_by runs (plan ∷ more) = drawn (picture_by runs plan) (flat_map (other_line plan) runs)
+
+-- the report on tests
+abbrev pub report_of : MannerOf → List Point → List PlanRun → ReportOf
+report_of manner points plans =
+    if manner.draws then drawn_by plans plans else passes manner points (coverage_asked manner.is_json manner.covers plans)
 
 -- the report on results, given the lines about texts that tests cannot run on
 abbrev pub report_by : MannerOf → ResultsOf → List ℕ → ReportOf
-report_by manner results [] = passes manner.traces results.points (coverage_asked manner.covers results.plans)
+report_by manner results [] = report_of manner results.points results.plans
 report_by manner results lines = refuses lines
 
 -- the report on files whose tests can run

@@ -2,7 +2,7 @@
 use Rattle.std.specs.Option.{option_map}
 use Rattle.dp_commands.specs.LinePlaces.{places_of as line_places_of}
 use Rattle.dp_commands.specs.declared.in_force.PlanPlaces.{PlanPlaces}
-use Rattle.dp_program.specs.Serves.{PlacesOf, RunManner}
+use Rattle.dp_program.specs.Serves.{PlacesOf, RunManner, RunReading, reading_by}
 use Rattle.dp_program.specs.declared.wide_runs.WideRun.{WideRun}
 
 -- where the lines of a run's dialplans come from
@@ -12,3 +12,7 @@ places_of places = record { plan = line_places_of places.plan; second_plan = opt
 -- how the script of a run runs
 abbrev pub manner_of : WideRun → RunManner
 manner_of asked = record { is_verbose = asked.is_verbose; held = option_map (λ word. word.now) asked.held }
+
+-- how its dialplans are read
+abbrev pub reading_of : WideRun → RunReading
+reading_of asked = reading_by (option_map (λ word. word.now) asked.clock) asked.assumed

@@ -21,7 +21,7 @@ use crate::made_files::MadeFiles;
 use crate::system_paths::SystemPaths;
 use dp_commands::{LinePlaces, LinePosition, PbxFault, SourceLines};
 use dp_files::{MadeLine, ReadingFault, SourceFile, path_of};
-use dp_notices::{NotedLine, PlanFiles, Shown, print_notices, read_folder_plan};
+use dp_notices::{Assumptions, NotedLine, PlanFiles, Shown, print_notices, read_folder_plan};
 use dp_plan::{NoMemory, Text};
 use dp_wide::{Moment, read_moment};
 use std::alloc::Global;
@@ -74,10 +74,10 @@ impl PlanText {
 pub(crate) enum PlanUse {
     /// To report on it.
     Report,
-    /// To look up an entry in it.
-    LookUp,
-    /// To run it.
-    Run,
+    /// To look up an entry in it, given what is assumed of lines that are left out.
+    LookUp(Assumptions),
+    /// To run it, given the same.
+    Run(Assumptions),
 }
 
 /// The notices for which a command does nothing, given what it reads a dialplan for.
@@ -86,7 +86,7 @@ fn shown_for(purpose: PlanUse) -> Shown
 {
     match purpose {
         PlanUse::Report => Shown::Faults,
-        PlanUse::LookUp | PlanUse::Run => Shown::Unfollowed,
+        PlanUse::LookUp(assumed) | PlanUse::Run(assumed) => Shown::Unfollowed(assumed),
     }
 }
 
@@ -199,8 +199,8 @@ fn push_lines(text: &mut Vec<u8>, purpose: PlanUse, clock: Option<&str>) -> Resu
     ensures { OnOk result (text.new.items ≡ text.old.items ++ spec.lines_added purpose (option_map (λ word. word.now) clock.entry)) }
 {
     match (purpose, clock) {
-        (PlanUse::Run, Some(word)) => push_clock(text, word),
-        (PlanUse::Run, None) | (PlanUse::Report, _) | (PlanUse::LookUp, _) => Ok(()),
+        (PlanUse::Run(_), Some(word)) => push_clock(text, word),
+        (PlanUse::Run(_), None) | (PlanUse::Report, _) | (PlanUse::LookUp(_), _) => Ok(()),
     }
 }
 

@@ -3,16 +3,16 @@ ghost use Rattle.std.specs.Prelude.{◌≡◌, ◌||◌, Ok, false};
 ghost use Rattle.std.specs.Option.{option_map};
 ghost use Rattle.dp_conf.specs.Answers.{Answers};
 ghost use Rattle.dp_commands.specs.Faults.{is_write_failed, reason_of};
-ghost use Rattle.dp_program.specs.Dialplans.{text_now};
 ghost use Rattle.dp_program.specs.Diffs as spec;
 ghost use Rattle.dp_program.specs.Faulted.{without_place};
 ghost use Rattle.dp_program.specs.Files.{Reads};
 ghost use Rattle.dp_program.specs.Serves as serves;
 
-use crate::dialplans::{PlanText, PlanUse, ReadDialplan, faulty, read_dialplan};
 use crate::faulted::{Faulted, placed_nowhere, with_place};
 use crate::files::ReadFiles;
 use crate::hints::{Served, without_hint};
+use crate::plan_pairs::{AskingBoth, answer_both_including};
+use crate::plan_questions::PlanQuestion;
 use crate::request::DiffFiles;
 use crate::texts::read_text;
 use dp_commands::{Code, PbxFault};
@@ -31,7 +31,7 @@ fn load_plan(alloc: Global, text: &[u8]) -> Result<Dialplan, PbxFault>
 }
 
 /// Loads the dialplan of a file.
-fn load_file<'a, F: ReadFiles>(
+pub(crate) fn load_file<'a, F: ReadFiles>(
     files: &F,
     alloc: Global,
     path: &'a str,
@@ -80,60 +80,25 @@ pub(crate) fn serve_diff<'a, F: ReadFiles, W: WriteTold>(
     placed_nowhere(write_diff(alloc, &before, &after, output))
 }
 
-/// The texts of both dialplans.
+/// A comparison of the dialplans of two files.
 #[derive(Clone, Copy)]
-struct BothTexts<'r> {
-    before: &'r PlanText,
-    after: &'r PlanText,
+struct Comparison<'r, 'a> {
+    paths: &'r DiffFiles<'a>,
 }
 
-/// Writes the differences between the dialplans of two files, given their texts.
-fn diff_texts<'a, F: ReadFiles, W: WriteTold>(
-    files: &F,
-    alloc: Global,
-    paths: &DiffFiles<'a>,
-    texts: BothTexts<'_>,
-    output: &mut W,
-) -> Result<Served, Faulted<'a>>
-    ensures serves { serves.DiffsTexts (F.source_at files.now) paths.now.before.now paths.now.after.now (W.contents output.old)
-        (W.contents output.new) (text_now texts.entry.before.now) (text_now texts.entry.after.now) result }
-    ensures told { W.has_failed output.new ≡ (W.has_failed output.old || is_write_failed (without_place result)) }
-{
-    let made = texts.before.made_files(files, paths.before);
-    let both = texts.after.made_files(&made, paths.after);
-    without_hint(alloc, serve_diff(&both, alloc, paths, output))
-}
+impl<'a> PlanQuestion<'a> for Comparison<'_, 'a> {
+    ghost serves = { λ asked. serves.Compares asked.paths.now.before.now asked.paths.now.after.now };
 
-/// The text of the dialplan before a change, and the word of `--clock`.
-#[derive(Clone, Copy)]
-struct TextBefore<'r> {
-    before: &'r PlanText,
-    clock: Option<&'r str>,
-}
-
-/// Reads the dialplan after a change with the files that it includes, and writes the differences, given the text of the one before it.
-fn diff_after<'a, F: ReadFiles, W: WriteTold>(
-    files: &F,
-    alloc: Global,
-    paths: &DiffFiles<'a>,
-    first: TextBefore<'_>,
-    output: &mut W,
-) -> Result<Served, Faulted<'a>>
-    ensures serves { serves.DiffsAfter (option_map (λ word. word.now) first.entry.clock) (F.source_at files.now) paths.now.before.now paths.now.after.now
-        (W.contents output.old) (W.contents output.new) (text_now first.entry.before.now) result }
-    ensures told { W.has_failed output.new ≡ (W.has_failed output.old || is_write_failed (without_place result)) }
-{
-    match read_dialplan(files, alloc, paths.after, PlanUse::Report, first.clock) {
-        Ok(ReadDialplan::Loads(after)) => {
-            let texts = BothTexts {
-                before: first.before,
-                after: &after,
-            };
-            diff_texts(files, alloc, paths, texts, output)
-        }
-        Ok(ReadDialplan::Faulty(told)) => Ok(faulty(told)),
-        Err(unread) => Err(Faulted::from(unread)),
+    fn answer<F: ReadFiles, W: WriteTold>(
+        &self,
+        files: &F,
+        alloc: Global,
+        output: &mut W,
+    ) -> Result<Served, Faulted<'a>> {
+        without_hint(alloc, serve_diff(files, alloc, self.paths, output))
     }
+
+    fn may_lack_memory(&self) {}
 }
 
 /// Writes the differences between the dialplans of two files and of those that they include, given the word of `--clock`.
@@ -148,15 +113,11 @@ pub(crate) fn serve_diff_including<'a, F: ReadFiles, W: WriteTold>(
         (W.contents output.old) (W.contents output.new) result }
     ensures told { W.has_failed output.new ≡ (W.has_failed output.old || is_write_failed (without_place result)) }
 {
-    match read_dialplan(files, alloc, paths.before, PlanUse::Report, clock) {
-        Ok(ReadDialplan::Loads(before)) => {
-            let first = TextBefore {
-                before: &before,
-                clock,
-            };
-            diff_after(files, alloc, paths, first, output)
-        }
-        Ok(ReadDialplan::Faulty(told)) => Ok(faulty(told)),
-        Err(unread) => Err(Faulted::from(unread)),
-    }
+    let comparison = Comparison { paths };
+    let asked = AskingBoth {
+        question: &comparison,
+        files: *paths,
+        clock,
+    };
+    answer_both_including(files, alloc, &asked, output)
 }

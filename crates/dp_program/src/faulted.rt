@@ -197,12 +197,12 @@ pub(crate) fn placed_in_two<'a, T>(
 }
 
 /// A result whose fault has no place in a file.
-pub(crate) fn placed_nowhere<'a>(answered: Result<u8, PbxFault>) -> Result<u8, Faulted<'a>>
+pub(crate) fn placed_nowhere<'a, T>(answered: Result<T, PbxFault>) -> Result<T, Faulted<'a>>
     ensures same { spec.without_place result ≡ answered }
     ensures stands { spec.StandsIn (λ _. spec.in_none) result }
 {
     match answered {
-        Ok(status) => Ok(status),
+        Ok(given) => Ok(given),
         Err(fault) => Err(Faulted::from(fault)),
     }
 }

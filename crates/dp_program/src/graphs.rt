@@ -7,6 +7,7 @@ ghost use Rattle.dp_app.specs.Rows.{with_functions};
 ghost use Rattle.dp_audit.specs.Candidates.{same_id};
 ghost use Rattle.dp_commands.specs.Faults.{is_write_failed};
 ghost use Rattle.dp_commands.specs.Run.{files_of};
+ghost use Rattle.dp_graph.specs.Shading.{shading_now};
 ghost use Rattle.dp_program.specs.Faulted.{without_place};
 ghost use Rattle.dp_program.specs.Graphs as spec;
 ghost use Rattle.dp_program.specs.Meanings.{wide_meanings};
@@ -27,7 +28,7 @@ use dp_answer::{Ask, reached_entries};
 use dp_closed::DutyTable;
 use dp_commands::{Code, Files, PbxFault};
 use dp_conf::WriteTold;
-use dp_graph::{GraphFault, QueueExit, write_graph};
+use dp_graph::{GraphFault, QueueExit, Shading, write_graph};
 use dp_plan::{Dialplan, EntryId, NoMemory, Text};
 use dp_queue::Queue;
 use dp_table::StandardApps;
@@ -52,13 +53,27 @@ fn push_exit(alloc: Global, exits: &mut Vec<QueueExit>, queue: &Queue) -> Result
 }
 
 /// Adds the ways out of queues.
-fn push_exits(alloc: Global, exits: &mut Vec<QueueExit>, queues: &[Queue]) -> Result<(), NoMemory>
+pub(crate) fn push_exits(
+    alloc: Global,
+    exits: &mut Vec<QueueExit>,
+    queues: &[Queue],
+) -> Result<(), NoMemory>
     ensures { OnOk result (exits.new.items ≡ exits.old.items ++ spec.exits_of queues.now) }
 {
     for queue in queues {
         push_exit(alloc, exits, queue)?;
     }
     Ok(())
+}
+
+/// What the fills of a picture say, given the entries that are filled, if any are.
+fn shading_of(filled: Option<&IndexSet<EntryId>>) -> Shading<'_>
+    ensures { shading_now result ≡ spec.shading_of (option_map (λ set. set.now.keys) filled.entry) }
+{
+    match filled {
+        None => Shading::Plain,
+        Some(filled) => Shading::Reached(filled),
+    }
 }
 
 /// Writes the picture of a dialplan, with the ways out of its queues. If entries are given, these are filled.
@@ -75,7 +90,7 @@ fn write_picture<W: WriteTold>(
 {
     let mut exits = Vec::new(alloc);
     push_exits(alloc, &mut exits, files.queues.queues())?;
-    match write_graph(alloc, &files.plan, filled, &exits, output) {
+    match write_graph(alloc, &files.plan, shading_of(filled), &exits, output) {
         Ok(()) => Ok(0),
         Err(GraphFault::WriteFailed) => Err(PbxFault::Coded {
             code: Code::WriteFailed,
@@ -86,7 +101,10 @@ fn write_picture<W: WriteTold>(
 }
 
 /// Adds entries, each once.
-fn add_entries(filled: &mut IndexSet<EntryId>, entries: &[EntryId]) -> Result<(), NoMemory>
+pub(crate) fn add_entries(
+    filled: &mut IndexSet<EntryId>,
+    entries: &[EntryId],
+) -> Result<(), NoMemory>
     ensures { OnOk result (filled.new.keys ≡ insert_all same_id filled.old.keys entries.now) }
 {
     for entry in entries {
@@ -96,7 +114,7 @@ fn add_entries(filled: &mut IndexSet<EntryId>, entries: &[EntryId]) -> Result<()
 }
 
 /// The question about calls that come in at a context, whatever is dialled and wherever other calls come in, given the bytes of facts.
-fn ask_from<'a>(context: &'a str, facts: Option<&'a str>) -> Ask<'a>
+pub(crate) fn ask_from<'a>(context: &'a str, facts: Option<&'a str>) -> Ask<'a>
     ensures { ask_texts result ≡ spec.ask_from (option_map (λ facts. facts.now) facts.entry) context.now }
 {
     Ask {

@@ -8,6 +8,7 @@ ghost use Rattle.dp_program.specs.Requests.{lookup_of, options_of};
 ghost use Rattle.dp_program.specs.Serves as spec;
 ghost use Rattle.dp_wide_runs.specs.Kinds.{choice_of};
 
+use crate::assumptions::look_up_use;
 use crate::dialplans::{PlanText, PlanUse, ReadDialplan, faulty, read_dialplan};
 use crate::faulted::Faulted;
 use crate::files::ReadFiles;
@@ -68,7 +69,7 @@ pub(crate) fn serve_match_including<'a, F: ReadFiles, W: WriteTold>(
         files,
         alloc,
         lookup.file,
-        PlanUse::LookUp,
+        look_up_use(manner.options),
         manner.options.clock,
     ) {
         Ok(ReadDialplan::Loads(plan)) => {

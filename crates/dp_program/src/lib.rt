@@ -1,6 +1,7 @@
 //! What the program `pbx` does with a request, over files, an input and outputs that the caller gives.
 #![tactic(auto)]
 
+mod assumptions;
 mod checks;
 mod dialplans;
 mod diffs;
@@ -15,20 +16,24 @@ mod including_reports;
 mod json_audits;
 mod json_checks;
 mod json_matches;
+mod json_tests;
 mod made_files;
 mod nearest;
 mod options;
 mod plan_and_queues;
 mod plan_coverage;
+mod plan_pairs;
 mod plan_questions;
 mod program;
 mod queue_texts;
+mod reach_diffs;
 mod reaches;
 mod reports;
 mod request;
 mod runs;
 mod system_paths;
 mod test_inputs;
+mod test_pictures;
 mod test_reports;
 mod test_results;
 mod test_suites;
@@ -47,4 +52,7 @@ pub use files::ReadFiles;
 pub use hints::Served;
 pub use options::Options;
 pub use program::serve;
-pub use request::{CheckFiles, DiffFiles, GraphQuestion, Lookup, ReachQuestion, Request, RunFiles};
+pub use request::{
+    CheckFiles, DiffFiles, GraphQuestion, Lookup, ReachDiffQuestion, ReachQuestion, Request,
+    RunFiles,
+};

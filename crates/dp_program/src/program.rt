@@ -19,6 +19,7 @@ use crate::including_reports::{
     serve_audit_including, serve_list_including, serve_match_including,
 };
 use crate::options::Options;
+use crate::reach_diffs::{serve_reach_diff, serve_reach_diff_including};
 use crate::reaches::{serve_reach, serve_reach_including};
 use crate::reports::{Manner, serve_audit, serve_explain, serve_list, serve_match};
 use crate::request::Request;
@@ -28,13 +29,15 @@ use crate::verbose_runs::{serve_debug_verbose, serve_run_verbose};
 use crate::wide_audits::{ChosenAudit, serve_audit_by};
 use crate::wide_runs::{WideRun, serve_run_including};
 use dp_conf::{ReadTold, WriteTold};
+use dp_notices::Assumptions;
 use std::alloc::Global;
 use std::sync::Wait;
 use std::thread::Threads;
 
 /// Does what a request asks for, and gives the status and the hints beside it. The files are read first, and then their texts. A fault
 /// comes with its place: the line of a file, or the file that could not be read. If the options explain, each note of `check` has its
-/// explanation below it. If they ask for JSON, `check`, `match` and `audit` write an object in place of each line.
+/// explanation below it. If they ask for JSON, `check`, `match`, `audit`, `reach` and `test` write an object in place of each
+/// line or test.
 ///
 /// `rt` is for the threads of a run that has them.
 pub fn serve<'a, F: ReadFiles, I: ReadTold, W: WriteTold, R: Threads + Wait + Sync>(
@@ -157,6 +160,7 @@ pub fn serve<'a, F: ReadFiles, I: ReadTold, W: WriteTold, R: Threads + Wait + Sy
                 is_verbose: *is_verbose,
                 held: None,
                 clock: options.clock,
+                assumed: Assumptions::none(),
             };
             serve_run_including(files, alloc, asked, output)
         }
@@ -180,6 +184,7 @@ pub fn serve<'a, F: ReadFiles, I: ReadTold, W: WriteTold, R: Threads + Wait + Sy
                 is_verbose: *is_verbose,
                 held: Some(*held),
                 clock: options.clock,
+                assumed: Assumptions::none(),
             };
             serve_run_including(files, alloc, asked, output)
         }
@@ -187,10 +192,13 @@ pub fn serve<'a, F: ReadFiles, I: ReadTold, W: WriteTold, R: Threads + Wait + Sy
             files: paths,
             is_traced,
             is_covered,
+            is_drawn,
         } => {
             let manner = TestManner {
                 traces: *is_traced,
                 covers: *is_covered,
+                is_json: options.is_json,
+                draws: *is_drawn,
             };
             serve_tests(files, alloc, manner, paths, output)
         }
@@ -199,6 +207,16 @@ pub fn serve<'a, F: ReadFiles, I: ReadTold, W: WriteTold, R: Threads + Wait + Sy
         }
         Request::DiffIncluding { files: paths } => {
             serve_diff_including(files, alloc, paths, options.clock, output)
+        }
+        Request::ReachDiff { question } => serve_reach_diff(
+            files,
+            alloc,
+            question,
+            options.explains,
+            output,
+        ),
+        Request::ReachDiffIncluding { question } => {
+            serve_reach_diff_including(files, alloc, question, options, output)
         }
         Request::Graph { question } => serve_graph(
             files,
@@ -210,13 +228,7 @@ pub fn serve<'a, F: ReadFiles, I: ReadTold, W: WriteTold, R: Threads + Wait + Sy
         Request::GraphIncluding { question } => {
             serve_graph_including(files, alloc, question, options, output)
         }
-        Request::Reach { question } => serve_reach(
-            files,
-            alloc,
-            question,
-            options.explains,
-            output,
-        ),
+        Request::Reach { question } => serve_reach(files, alloc, question, options, output),
         Request::ReachIncluding { question } => {
             serve_reach_including(files, alloc, question, options, output)
         }

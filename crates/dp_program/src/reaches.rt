@@ -14,7 +14,7 @@ ghost use Rattle.dp_program.specs.Meanings.{wide_meanings};
 ghost use Rattle.dp_table.specs.Standard.{standard_meanings};
 ghost use Rattle.dp_program.specs.Requests.{options_of, question_of};
 
-use crate::dialplans::PlanUse;
+use crate::assumptions::look_up_use;
 use crate::faulted::Faulted;
 use crate::files::ReadFiles;
 use crate::hints::{HintedPlan, Served, is_bare, lacking, push_bare_line, push_told};
@@ -23,10 +23,11 @@ use crate::plan_and_queues::{PlanAndQueues, PlanPaths, files_in, placed_over};
 use crate::plan_questions::{Asking, PlanQuestion, answer_including};
 use crate::request::ReachQuestion;
 use crate::texts::{read_named, read_text};
-use dp_answer::{Ask, Report, report_on};
+use dp_answer::{Ask, ReachAnswer, Report, answer_on, report_on};
 use dp_closed::DutyTable;
 use dp_commands::{Files, PbxFault};
 use dp_conf::{WriteTold, split_args};
+use dp_json::push_reach;
 use dp_plan::NoMemory;
 use dp_table::StandardApps;
 use dp_wide_duties::WideDuties;
@@ -125,6 +126,60 @@ fn hint_of(alloc: Global, ask: &Ask<'_>, told: HintedPlan<'_>) -> Result<Vec<u8>
     Ok(hint)
 }
 
+/// The report of an answer as JSON. The report for names that the dialplan lacks is empty.
+fn report_of_answer(
+    alloc: Global,
+    files: &Files,
+    ask: &Ask<'_>,
+    answer: &Option<ReachAnswer>,
+) -> Result<Report, NoMemory>
+    ensures { IfOk result (λ report. record { text = report.text.items; status = report.status }
+        ≡ spec.json_report files.now.plan (ask_texts ask.now) answer.now) }
+{
+    let mut text = Vec::new(alloc);
+    match answer {
+        None => Ok(Report { text, status: 1 }),
+        Some(answer) => {
+            push_reach(alloc, &mut text, &files.plan, ask, answer)?;
+            Ok(Report {
+                text,
+                status: answer.status,
+            })
+        }
+    }
+}
+
+/// The report on a dialplan and queues as JSON.
+fn report_json<T: DutyTable>(
+    alloc: Global,
+    files: &Files,
+    ask: &Ask<'_>,
+) -> Result<Report, NoMemory>
+    ensures { IfOk result (λ report. spec.IsJson (with_functions T.rows T.Functions.table) (record { plan = files.now.plan; queues = files.now.queues })
+        (ask_texts ask.now) (record { text = report.text.items; status = report.status })) }
+{
+    let answer = answer_on::<T>(alloc, &files.plan, &files.queues, ask)?;
+    let report = report_of_answer(alloc, files, ask, &answer)?;
+    Ok(report)
+}
+
+/// The report on a dialplan and queues, as text or as JSON.
+fn report_by<T: DutyTable>(
+    alloc: Global,
+    is_json: bool,
+    files: &Files,
+    ask: &Ask<'_>,
+) -> Result<Report, NoMemory>
+    ensures { IfOk result (λ report. spec.IsReported is_json (with_functions T.rows T.Functions.table)
+        (record { plan = files.now.plan; queues = files.now.queues }) (ask_texts ask.now) (record { text = report.text.items; status = report.status })) }
+{
+    if is_json {
+        report_json::<T>(alloc, files, ask)
+    } else {
+        report_on::<T>(alloc, &files.plan, &files.queues, ask)
+    }
+}
+
 /// A report, and the hints beside it.
 #[derive(Drop)]
 struct HintedReport {
@@ -136,18 +191,18 @@ struct HintedReport {
 fn hinted_report<T: DutyTable>(
     alloc: Global,
     question: &ReachQuestion<'_>,
-    explains: bool,
+    options: Options<'_>,
     files: &Files,
 ) -> Result<HintedReport, NoMemory>
-    ensures { IfOk result (λ answered. spec.IsAnswered (with_functions T.rows T.Functions.table) (question_of question.now) explains (record { plan = files.now.plan; queues = files.now.queues })
+    ensures { IfOk result (λ answered. spec.IsAnswered (with_functions T.rows T.Functions.table) (question_of question.now) (options_of options.entry) (record { plan = files.now.plan; queues = files.now.queues })
         answered.report.text.items answered.report.status answered.hint.items) }
 {
     let ask = ask_of(question);
-    let report = report_on::<T>(alloc, &files.plan, &files.queues, &ask)?;
+    let report = report_by::<T>(alloc, options.is_json, files, &ask)?;
     let told = HintedPlan {
         file: question.file,
         plan: &files.plan,
-        explains,
+        explains: options.explains,
     };
     let hint = hint_of(alloc, &ask, told)?;
     Ok(HintedReport { report, hint })
@@ -158,16 +213,16 @@ fn hinted_report<T: DutyTable>(
 fn reach_told<T: DutyTable, W: WriteTold>(
     alloc: Global,
     question: &ReachQuestion<'_>,
-    explains: bool,
+    options: Options<'_>,
     texts: &PlanAndQueues,
     output: &mut W,
 ) -> Result<Served, PbxFault>
-    ensures reaches { spec.Reaches (with_functions T.rows T.Functions.table) (question_of question.now) explains
+    ensures reaches { spec.Reaches (with_functions T.rows T.Functions.table) (question_of question.now) (options_of options.entry)
         (files_of texts.now.plan.items (option_map (λ text. text.items) texts.now.queues)) (W.contents output.old) (W.contents output.new) result }
     ensures told { W.has_failed output.new ≡ (W.has_failed output.old || is_write_failed result) }
 {
     let files = files_in(alloc, texts)?;
-    let answered = hinted_report::<T>(alloc, question, explains, &files)?;
+    let answered = hinted_report::<T>(alloc, question, options, &files)?;
     output.write_told(&answered.report.text)?;
     let HintedReport { report, hint } = answered;
     Ok(Served {
@@ -181,17 +236,17 @@ fn serve_reach_over<'a, T: DutyTable, F: ReadFiles, W: WriteTold>(
     files: &F,
     alloc: Global,
     question: &ReachQuestion<'a>,
-    explains: bool,
+    options: Options<'_>,
     output: &mut W,
 ) -> Result<Served, Faulted<'a>>
-    ensures serves { ReachesFiles (with_functions T.rows T.Functions.table) (F.source_at files.now) (question_of question.now) explains
+    ensures serves { ReachesFiles (with_functions T.rows T.Functions.table) (F.source_at files.now) (question_of question.now) (options_of options.entry)
         (W.contents output.old) (W.contents output.new) result }
     ensures told { W.has_failed output.new ≡ (W.has_failed output.old || is_write_failed (without_place result)) }
 {
     let plan = read_text(files, alloc, question.file)?;
     let queues = read_named(files, alloc, question.queues)?;
     let texts = PlanAndQueues { plan, queues };
-    let answered = reach_told::<T, W>(alloc, question, explains, &texts, output);
+    let answered = reach_told::<T, W>(alloc, question, options, &texts, output);
     let paths = PlanPaths {
         plan: question.file,
         queues: question.queues,
@@ -204,25 +259,25 @@ pub(crate) fn serve_reach<'a, F: ReadFiles, W: WriteTold>(
     files: &F,
     alloc: Global,
     question: &ReachQuestion<'a>,
-    explains: bool,
+    options: Options<'_>,
     output: &mut W,
 ) -> Result<Served, Faulted<'a>>
-    ensures serves { ReachesFiles standard_meanings (F.source_at files.now) (question_of question.now) explains (W.contents output.old)
+    ensures serves { ReachesFiles standard_meanings (F.source_at files.now) (question_of question.now) (options_of options.entry) (W.contents output.old)
         (W.contents output.new) result }
     ensures told { W.has_failed output.new ≡ (W.has_failed output.old || is_write_failed (without_place result)) }
 {
-    serve_reach_over::<StandardApps, F, W>(files, alloc, question, explains, output)
+    serve_reach_over::<StandardApps, F, W>(files, alloc, question, options, output)
 }
 
-/// A question about calls over the applications of `--asterisk`, and whether names that are similar to a missing one are suggested.
+/// A question about calls over the applications of `--asterisk`, and the options of the request.
 #[derive(Clone, Copy)]
 struct WideReach<'r, 'a> {
     question: &'r ReachQuestion<'a>,
-    explains: bool,
+    options: Options<'r>,
 }
 
 impl<'a> PlanQuestion<'a> for WideReach<'_, 'a> {
-    ghost serves = { λ asked files. ReachesFiles wide_meanings files (question_of asked.question.now) asked.explains };
+    ghost serves = { λ asked files. ReachesFiles wide_meanings files (question_of asked.question.now) (options_of asked.options) };
 
     fn answer<F: ReadFiles, W: WriteTold>(
         &self,
@@ -230,7 +285,7 @@ impl<'a> PlanQuestion<'a> for WideReach<'_, 'a> {
         alloc: Global,
         output: &mut W,
     ) -> Result<Served, Faulted<'a>> {
-        serve_reach_over::<WideDuties, F, W>(files, alloc, self.question, self.explains, output)
+        serve_reach_over::<WideDuties, F, W>(files, alloc, self.question, self.options, output)
     }
 
     fn may_lack_memory(&self) {}
@@ -245,21 +300,18 @@ pub(crate) fn serve_reach_including<'a, F: ReadFiles, W: WriteTold>(
     options: Options<'_>,
     output: &mut W,
 ) -> Result<Served, Faulted<'a>>
-    ensures serves { spec.ReachesIncluding (options_of options.entry).clock (F.source_at files.now) (question_of question.now)
-        (options_of options.entry).explains (W.contents output.old) (W.contents output.new) result }
+    ensures serves { spec.ReachesIncluding (F.source_at files.now) (question_of question.now)
+        (options_of options.entry) (W.contents output.old) (W.contents output.new) result }
     ensures told { W.has_failed output.new ≡ (W.has_failed output.old || is_write_failed (without_place result)) }
 {
-    let asked = WideReach {
-        question,
-        explains: options.explains,
-    };
+    let asked = WideReach { question, options };
     let asking = Asking {
         question: &asked,
         paths: PlanPaths {
             plan: question.file,
             queues: question.queues,
         },
-        purpose: PlanUse::LookUp,
+        purpose: look_up_use(options),
         clock: options.clock,
     };
     answer_including(files, alloc, &asking, output)

@@ -48,6 +48,17 @@ pub struct DiffFiles<'a> {
     pub after: &'a str,
 }
 
+/// A question about what a call that comes in at a context reaches in two dialplans, in words of the command line.
+#[derive(Clone, Copy, Debug, PartialEq, Eq)]
+pub struct ReachDiffQuestion<'a> {
+    /// The files of the dialplans.
+    pub files: DiffFiles<'a>,
+    /// The name of the context where the call comes in.
+    pub from: &'a str,
+    /// The bytes of what names may be set to from outside, as ranges; without them nothing is set.
+    pub facts: Option<&'a str>,
+}
+
 /// A question about the calls that come in at a context of a dialplan, in words of the command line.
 #[derive(Clone, Copy, Debug, PartialEq, Eq)]
 pub struct ReachQuestion<'a> {
@@ -191,12 +202,14 @@ pub enum Request<'a> {
         held: &'a str,
         is_verbose: bool,
     },
-    /// `test [--trace] [--cover] FILE..`: runs the tests of files, each on the dialplan and the queues that its head names, over the wide
-    /// table. The report has what ran in each test if it is asked for, and the entries that ran in none.
+    /// `test [--trace] [--cover] [--graph] FILE..`: runs the tests of files, each on the dialplan and the queues that its head names, over the
+    /// wide table. The report has what ran in each test if it is asked for, and the entries that ran in none. Or it is a picture of the
+    /// dialplan by what ran.
     Test {
         files: Vec<&'a str>,
         is_traced: bool,
         is_covered: bool,
+        is_drawn: bool,
     },
     /// `diff OLD NEW`: writes what answers differently in two dialplans.
     Diff {
@@ -205,6 +218,15 @@ pub enum Request<'a> {
     /// `diff --asterisk OLD NEW`: does the same for dialplans that are read from a file each and from those that it includes.
     DiffIncluding {
         files: DiffFiles<'a>,
+    },
+    /// `diff --from CONTEXT OLD NEW`: writes which contexts a call that comes in at a context reaches in only one of two dialplans.
+    ReachDiff {
+        question: ReachDiffQuestion<'a>,
+    },
+    /// `diff --asterisk --from CONTEXT OLD NEW`: does the same for dialplans that are read from a file each and from those that it includes,
+    /// over the wide table.
+    ReachDiffIncluding {
+        question: ReachDiffQuestion<'a>,
     },
     /// `graph [--queues QUEUES] [--from CONTEXT] FILE`: writes a dialplan as a picture in the DOT language, with the ways out of its queues if
     /// they are named. If a context is named, what a call that comes in there may reach is filled.

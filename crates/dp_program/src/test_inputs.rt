@@ -14,13 +14,14 @@ ghost use Rattle.dp_program.specs.QueueTexts.{unread};
 ghost use Rattle.dp_program.specs.declared.dialplans.PlanUse.TheVariants.{LookUp};
 ghost use Rattle.dp_program.specs.TestFiles as spec;
 
+use crate::assumptions::test_assumptions;
 use crate::dialplans::{PlanText, PlanUse, ReadDialplan, dialplan_of};
 use crate::files::ReadFiles;
 use crate::queue_texts::{ReadQueues, queues_or_notices};
 use crate::system_paths::SystemPaths;
 use dp_commands::Code;
 use dp_files::{ReadingFault, path_of, text_path};
-use dp_notices::{PlanFiles, QueueFiles, read_folder_plan, read_folder_queues};
+use dp_notices::{Assumptions, PlanFiles, QueueFiles, read_folder_plan, read_folder_queues};
 use dp_plan::{NoMemory, SharedText, Text};
 use dp_test_runs::{Items, NamedText};
 use dp_tests::{Act, HeadLine, Test, TestFile, TestLine};
@@ -109,6 +110,14 @@ impl<'a> NamedFile<'a> {
     }
 }
 
+/// How the dialplans of a test file are read: the moment by which includes with times are read, and what is assumed of lines that are left
+/// out.
+#[derive(Clone, Copy)]
+struct PlanReading {
+    clock: Option<Moment>,
+    assumed: Assumptions,
+}
+
 /// The line about why a dialplan was not read, in its place.
 fn unread_plan(alloc: Global, named: NamedFile<'_>, code: Code) -> Result<ReadDialplan, NoMemory>
     ensures { IfOk result (λ read. read_now read ≡ faulty (spec.unread_line named.entry.path.now (spec.named_now named.entry.named) code)) }
@@ -121,13 +130,14 @@ fn unread_plan(alloc: Global, named: NamedFile<'_>, code: Code) -> Result<ReadDi
 fn plan_in(
     alloc: Global,
     named: NamedFile<'_>,
+    assumed: Assumptions,
     read: Result<PlanFiles, ReadingFault>,
 ) -> Result<ReadDialplan, NoMemory>
     ensures { IfOk result (λ dialplan. (plan : Result PlanFilesOf Reading) → Answers plan_now first_fault read plan
-        → read_now dialplan ≡ spec.plan_or_lines named.entry.path.now (spec.named_now named.entry.named) (dialplan_read LookUp None plan)) }
+        → read_now dialplan ≡ spec.plan_or_lines named.entry.path.now (spec.named_now named.entry.named) (dialplan_read (LookUp assumed) None plan)) }
 {
     match read {
-        Ok(plan) => dialplan_of(alloc, PlanUse::LookUp, None, &plan),
+        Ok(plan) => dialplan_of(alloc, PlanUse::LookUp(assumed), None, &plan),
         Err(ReadingFault::NotFound) => unread_plan(alloc, named, Code::ReadFailed),
         Err(ReadingFault::TooLong) => unread_plan(alloc, named, Code::TooLong),
         Err(ReadingFault::NoMemory) => Err(NoMemory),
@@ -139,14 +149,14 @@ fn read_plan_at<F: ReadFiles>(
     files: &F,
     alloc: Global,
     named: NamedFile<'_>,
-    clock: Option<Moment>,
+    reading: PlanReading,
     at: &str,
 ) -> Result<ReadDialplan, NoMemory>
-    ensures { IfOk result (λ read. spec.IsPlanAt (F.source_at files.now) clock named.entry.path.now (spec.named_now named.entry.named) at.now (read_now read)) }
+    ensures { IfOk result (λ read. spec.IsPlanAt (F.source_at files.now) reading named.entry.path.now (spec.named_now named.entry.named) at.now (read_now read)) }
 {
     let paths = SystemPaths { files };
-    let read = read_folder_plan(alloc, &paths, at, clock);
-    let dialplan = plan_in(alloc, named, read)?;
+    let read = read_folder_plan(alloc, &paths, at, reading.clock);
+    let dialplan = plan_in(alloc, named, reading.assumed, read)?;
     Ok(dialplan)
 }
 
@@ -155,13 +165,13 @@ fn read_plan<F: ReadFiles>(
     files: &F,
     alloc: Global,
     named: NamedFile<'_>,
-    clock: Option<Moment>,
+    reading: PlanReading,
 ) -> Result<ReadDialplan, NoMemory>
-    ensures { IfOk result (λ read. spec.IsPlanRead (F.source_at files.now) clock named.entry.path.now (spec.named_now named.entry.named) (read_now read)) }
+    ensures { IfOk result (λ read. spec.IsPlanRead (F.source_at files.now) reading named.entry.path.now (spec.named_now named.entry.named) (read_now read)) }
 {
     let path = named.file_path(alloc)?;
     match text_path(path.bytes()) {
-        Some(at) => read_plan_at(files, alloc, named, clock, at),
+        Some(at) => read_plan_at(files, alloc, named, reading, at),
         None => unread_plan(alloc, named, Code::ReadFailed),
     }
 }
@@ -333,10 +343,10 @@ fn read_reloads<F: ReadFiles>(
     files: &F,
     alloc: Global,
     path: &str,
-    clock: Option<Moment>,
+    reading: PlanReading,
     lines: &[NamedLine<'_>],
 ) -> Result<Reloads, NoMemory>
-    ensures { IfOk result (λ reloads. spec.AreReloads (F.source_at files.now) clock path.now (map spec.named_now lines.now) spec.no_reloads
+    ensures { IfOk result (λ reloads. spec.AreReloads (F.source_at files.now) reading path.now (map spec.named_now lines.now) spec.no_reloads
         (spec.reloads_now reloads)) }
 {
     let mut reloads = Reloads {
@@ -348,7 +358,7 @@ fn read_reloads<F: ReadFiles>(
             path,
             named: *named,
         };
-        let read = read_plan(files, alloc, file, clock)?;
+        let read = read_plan(files, alloc, file, reading)?;
         push_read(alloc, &mut reloads, *named, read)?;
     }
     Ok(reloads)
@@ -437,6 +447,17 @@ fn clock_of(file: &TestFile) -> Option<Moment>
     }
 }
 
+/// How the dialplans of a test file are read.
+fn reading_of(alloc: Global, file: &TestFile) -> Result<PlanReading, NoMemory>
+    ensures { IfOk result (λ reading. reading ≡ spec.reading_of file.now) }
+{
+    let assumed = test_assumptions(alloc, file)?;
+    Ok(PlanReading {
+        clock: clock_of(file),
+        assumed,
+    })
+}
+
 /// Reads the dialplan that the head of a test file names.
 fn read_first_plan<F: ReadFiles>(
     files: &F,
@@ -444,12 +465,12 @@ fn read_first_plan<F: ReadFiles>(
     path: &str,
     file: &TestFile,
 ) -> Result<ReadDialplan, NoMemory>
-    ensures { IfOk result (λ read. spec.IsPlanRead (F.source_at files.now) (spec.clock_of file.now.clock) path.now (spec.named_in file.now.dialplan)
+    ensures { IfOk result (λ read. spec.IsPlanRead (F.source_at files.now) (spec.reading_of file.now) path.now (spec.named_in file.now.dialplan)
         (read_now read)) }
 {
-    let clock = clock_of(file);
+    let reading = reading_of(alloc, file)?;
     let named = named_in(&file.dialplan);
-    let read = read_plan(files, alloc, NamedFile { path, named }, clock)?;
+    let read = read_plan(files, alloc, NamedFile { path, named }, reading)?;
     Ok(read)
 }
 
@@ -460,12 +481,12 @@ fn read_all_reloads<F: ReadFiles>(
     path: &str,
     file: &TestFile,
 ) -> Result<Reloads, NoMemory>
-    ensures { IfOk result (λ reloads. spec.AreReloads (F.source_at files.now) (spec.clock_of file.now.clock) path.now (spec.reloads_of file.now)
+    ensures { IfOk result (λ reloads. spec.AreReloads (F.source_at files.now) (spec.reading_of file.now) path.now (spec.reloads_of file.now)
         spec.no_reloads (spec.reloads_now reloads)) }
 {
-    let clock = clock_of(file);
+    let reading = reading_of(alloc, file)?;
     let named = reloads_of(alloc, file)?;
-    let reloads = read_reloads(files, alloc, path, clock, &named)?;
+    let reloads = read_reloads(files, alloc, path, reading, &named)?;
     Ok(reloads)
 }
 

@@ -4,11 +4,14 @@ ghost use Rattle.dp_commands.specs.Faults.{is_write_failed};
 ghost use Rattle.dp_program.specs.Faulted.{without_place};
 ghost use Rattle.dp_program.specs.TestSuites as spec;
 ghost use Rattle.dp_program.specs.TestTexts.{text_in};
+ghost use Rattle.dp_test_runs.specs.Tap.{tap_text as results_in_tap};
 
 use crate::faulted::Faulted;
 use crate::files::ReadFiles;
 use crate::hints::Served;
+use crate::json_tests::tests_json;
 use crate::plan_coverage::push_coverage_asked;
+use crate::test_pictures::report_picture;
 use crate::test_results::{PlanRun, Results, run_suite};
 use crate::test_suites::{ReadyTests, Suite, read_suite};
 use crate::texts::{FileText, read_all};
@@ -20,17 +23,20 @@ use std::alloc::Global;
 
 /// The report on test files: what is written, what is told beside it, and the status.
 #[derive(Drop)]
-struct TestReport {
-    written: Text,
-    told: Vec<u8>,
-    status: u8,
+pub(crate) struct TestReport {
+    pub(crate) written: Text,
+    pub(crate) told: Vec<u8>,
+    pub(crate) status: u8,
 }
 
-/// What is asked for besides the results of tests: the trace of each test, and the coverage of the dialplans.
+/// What is asked for besides the results of tests: the trace of each test, the coverage of the dialplans, JSON in place of text, which has no
+/// traces, and a picture in place of all results.
 #[derive(Clone, Copy)]
 pub(crate) struct TestManner {
     pub(crate) traces: bool,
     pub(crate) covers: bool,
+    pub(crate) is_json: bool,
+    pub(crate) draws: bool,
 }
 
 /// The report without results, because of what these lines say.
@@ -44,23 +50,58 @@ fn refuse_tests(alloc: Global, lines: Vec<u8>) -> TestReport
     }
 }
 
+/// The results of tests as text.
+fn results_tap(alloc: Global, traces: bool, points: &[Point]) -> Result<Vec<u8>, NoMemory>
+    ensures { IfOk result (λ text. text.items ≡ results_in_tap traces points.now) }
+{
+    let results = tap_text(alloc, traces, points)?;
+    let text = Vec::from_slice(alloc, results.bytes())?;
+    Ok(text)
+}
+
+/// The results of tests, as text or as JSON.
+fn results_text(alloc: Global, manner: TestManner, points: &[Point]) -> Result<Vec<u8>, NoMemory>
+    ensures { IfOk result (λ text. text.items ≡ spec.results_text (spec.manner_now manner) points.now) }
+{
+    if manner.is_json {
+        tests_json(alloc, points)
+    } else {
+        results_tap(alloc, manner.traces, points)
+    }
+}
+
 /// The report on the points of tests, with the coverage of their dialplans if it is asked for.
+fn report_listed(
+    alloc: Global,
+    manner: TestManner,
+    points: &[Point],
+    plans: &[PlanRun<'_>],
+) -> Result<TestReport, NoMemory>
+    ensures { IfOk result (λ report. spec.report_now report
+        ≡ spec.passes (spec.manner_now manner) points.now (spec.coverage_asked manner.is_json manner.covers plans.now)) }
+{
+    let mut written = results_text(alloc, manner, points)?;
+    push_coverage_asked(alloc, &mut written, manner, plans)?;
+    Ok(TestReport {
+        written: Text::new(written),
+        told: Vec::new(alloc),
+        status: if has_failed(points) { 1 } else { 0 },
+    })
+}
+
+/// The report on tests: their points, or a picture of the dialplan that they are on.
 fn report_points(
     alloc: Global,
     manner: TestManner,
     points: &[Point],
     plans: &[PlanRun<'_>],
 ) -> Result<TestReport, NoMemory>
-    ensures { IfOk result (λ report. spec.report_now report ≡ spec.passes manner.traces points.now (spec.coverage_asked manner.covers plans.now)) }
+    ensures { IfOk result (λ report. spec.report_now report ≡ spec.report_of (spec.manner_now manner) points.now plans.now) }
 {
-    let results = tap_text(alloc, manner.traces, points)?;
-    let mut written = Vec::from_slice(alloc, results.bytes())?;
-    push_coverage_asked(alloc, &mut written, manner.covers, plans)?;
-    Ok(TestReport {
-        written: Text::new(written),
-        told: Vec::new(alloc),
-        status: if has_failed(points) { 1 } else { 0 },
-    })
+    if manner.draws {
+        return report_picture(alloc, plans);
+    }
+    report_listed(alloc, manner, points, plans)
 }
 
 /// The report on results.

@@ -6,8 +6,9 @@ ghost use Rattle.dp_program.specs.Dialplans.{text_now};
 ghost use Rattle.dp_program.specs.Faulted.{without_place};
 ghost use Rattle.dp_program.specs.Serves as spec;
 ghost use Rattle.dp_program.specs.Texts.{paths_of, sources_of, texts_of};
-ghost use Rattle.dp_program.specs.WideRuns.{manner_of, places_of};
+ghost use Rattle.dp_program.specs.WideRuns.{manner_of, places_of, reading_of};
 
+use crate::assumptions::file_assumptions;
 use crate::dialplans::{PlanText, PlanUse, ReadDialplan, faulty, read_dialplan};
 use crate::entries::ManualEntries;
 use crate::faulted::{Faulted, placed_in_run};
@@ -20,6 +21,7 @@ use crate::texts::{Texts, read_texts};
 use crate::wide_debugs::{HeldRun, serve_debug_wide, serve_debug_wide_verbose};
 use dp_commands::{PbxFault, PlanPlaces};
 use dp_conf::WriteTold;
+use dp_notices::Assumptions;
 use dp_wide_runs::{run_wide, run_wide_verbose};
 use std::alloc::Global;
 
@@ -81,13 +83,15 @@ fn serve_run_wide_verbose<'a, F: ReadFiles, W: WriteTold>(
     placed_in_run(run, &texts, answered)
 }
 
-/// A run over the wide table: its files, whether it is verbose, the text of its break if it is debugged, and the word of `--clock`.
+/// A run over the wide table: its files, whether it is verbose, the text of its break if it is debugged, the word of `--clock`, and what is
+/// assumed of lines that are left out of its dialplans.
 #[derive(Clone, Copy)]
 pub(crate) struct WideRun<'r, 'a> {
     pub(crate) files: &'r RunFiles<'a>,
     pub(crate) is_verbose: bool,
     pub(crate) held: Option<&'a str>,
     pub(crate) clock: Option<&'a str>,
+    pub(crate) assumed: Assumptions,
 }
 
 /// Runs the script of a run over files in which its dialplans have the generated texts.
@@ -109,6 +113,7 @@ fn run_made<'a, F: ReadFiles, W: WriteTold>(
             is_verbose: true,
             held: None,
             clock: _,
+            assumed: _,
         } => without_hint(
             alloc,
             serve_run_wide_verbose(files, alloc, run, places, output),
@@ -118,12 +123,14 @@ fn run_made<'a, F: ReadFiles, W: WriteTold>(
             is_verbose: false,
             held: None,
             clock: _,
+            assumed: _,
         } => without_hint(alloc, serve_run_wide(files, alloc, run, output)),
         WideRun {
             files: run,
             is_verbose: true,
             held: Some(held),
             clock: _,
+            assumed: _,
         } => {
             let debugged = HeldRun { files: run, held };
             without_hint(
@@ -136,6 +143,7 @@ fn run_made<'a, F: ReadFiles, W: WriteTold>(
             is_verbose: false,
             held: Some(held),
             clock: _,
+            assumed: _,
         } => {
             let debugged = HeldRun { files: run, held };
             without_hint(alloc, serve_debug_wide(files, alloc, debugged, output))
@@ -221,11 +229,17 @@ fn run_after<'a, F: ReadFiles, W: WriteTold>(
     first: FirstPlan<'_, 'a>,
     output: &mut W,
 ) -> Result<Served, Faulted<'a>>
-    ensures serves { spec.RunsSecond (option_map (λ word. word.now) asked.entry.clock) (paths_of asked.entry.files.now) (F.source_at files.now) (manner_of asked.entry)
+    ensures serves { spec.RunsSecond (reading_of asked.entry) (paths_of asked.entry.files.now) (F.source_at files.now) (manner_of asked.entry)
         (W.contents output.old) (W.contents output.new) (text_now first.entry.plan.now) first.entry.path.now result }
     ensures told { W.has_failed output.new ≡ (W.has_failed output.old || is_write_failed (without_place result)) }
 {
-    match read_dialplan(files, alloc, first.path, PlanUse::Run, asked.clock) {
+    match read_dialplan(
+        files,
+        alloc,
+        first.path,
+        PlanUse::Run(asked.assumed),
+        asked.clock,
+    ) {
         Ok(ReadDialplan::Loads(second)) => {
             let plans = PlanTexts {
                 plan: first.plan,
@@ -247,7 +261,7 @@ fn run_beside<'a, F: ReadFiles, W: WriteTold>(
     plan: &PlanText,
     output: &mut W,
 ) -> Result<Served, Faulted<'a>>
-    ensures serves { spec.RunsPlan (option_map (λ word. word.now) asked.entry.clock) (paths_of asked.entry.files.now) (F.source_at files.now) (manner_of asked.entry)
+    ensures serves { spec.RunsPlan (reading_of asked.entry) (paths_of asked.entry.files.now) (F.source_at files.now) (manner_of asked.entry)
         (W.contents output.old) (W.contents output.new) (text_now plan.now) result }
     ensures told { W.has_failed output.new ≡ (W.has_failed output.old || is_write_failed (without_place result)) }
 {
@@ -268,7 +282,7 @@ fn run_after_queues<'a, F: ReadFiles, W: WriteTold>(
     first: FirstPlan<'_, 'a>,
     output: &mut W,
 ) -> Result<Served, Faulted<'a>>
-    ensures serves { spec.RunsWithQueues (option_map (λ word. word.now) asked.entry.clock) (paths_of asked.entry.files.now) (F.source_at files.now) (manner_of asked.entry)
+    ensures serves { spec.RunsWithQueues (reading_of asked.entry) (paths_of asked.entry.files.now) (F.source_at files.now) (manner_of asked.entry)
         (W.contents output.old) (W.contents output.new) (text_now first.entry.plan.now) (Some first.entry.path.now) result }
     ensures told { W.has_failed output.new ≡ (W.has_failed output.old || is_write_failed (without_place result)) }
 {
@@ -295,7 +309,7 @@ fn run_with_queues<'a, F: ReadFiles, W: WriteTold>(
     plan: &PlanText,
     output: &mut W,
 ) -> Result<Served, Faulted<'a>>
-    ensures serves { spec.RunsQueues (option_map (λ word. word.now) asked.entry.clock) (paths_of asked.entry.files.now) (F.source_at files.now) (manner_of asked.entry)
+    ensures serves { spec.RunsQueues (reading_of asked.entry) (paths_of asked.entry.files.now) (F.source_at files.now) (manner_of asked.entry)
         (W.contents output.old) (W.contents output.new) (text_now plan.now) result }
     ensures told { W.has_failed output.new ≡ (W.has_failed output.old || is_write_failed (without_place result)) }
 {
@@ -309,8 +323,32 @@ fn run_with_queues<'a, F: ReadFiles, W: WriteTold>(
 }
 
 /// Runs the script of one file on the dialplan of another over the wide table, with the queues and the second dialplan of further files if
-/// they are named. Each dialplan and the queues are read with the files that they include. The script may state facts, and the run stops
-/// before anything unknown. If it is debugged, it halts at each step where its break holds.
+/// they are named, given what is assumed of lines that are left out. Each dialplan and the queues are read with the files that they include.
+/// The script may state facts, and the run stops before anything unknown. If it is debugged, it halts at each step where its break holds.
+fn serve_run_assuming<'a, F: ReadFiles, W: WriteTold>(
+    files: &F,
+    alloc: Global,
+    asked: WideRun<'_, 'a>,
+    output: &mut W,
+) -> Result<Served, Faulted<'a>>
+    ensures serves { spec.RunsAssuming (reading_of asked.entry) (paths_of asked.entry.files.now) (F.source_at files.now) (manner_of asked.entry)
+        (W.contents output.old) (W.contents output.new) result }
+    ensures told { W.has_failed output.new ≡ (W.has_failed output.old || is_write_failed (without_place result)) }
+{
+    match read_dialplan(
+        files,
+        alloc,
+        asked.files.plan,
+        PlanUse::Run(asked.assumed),
+        asked.clock,
+    ) {
+        Ok(ReadDialplan::Loads(plan)) => run_with_queues(files, alloc, asked, &plan, output),
+        Ok(ReadDialplan::Faulty(told)) => Ok(faulty(told)),
+        Err(unread) => Err(Faulted::from(unread)),
+    }
+}
+
+/// Runs the script of one file in the same way. What is assumed of lines that are left out is what the script assumes.
 pub(crate) fn serve_run_including<'a, F: ReadFiles, W: WriteTold>(
     files: &F,
     alloc: Global,
@@ -321,9 +359,17 @@ pub(crate) fn serve_run_including<'a, F: ReadFiles, W: WriteTold>(
         (W.contents output.old) (W.contents output.new) result }
     ensures told { W.has_failed output.new ≡ (W.has_failed output.old || is_write_failed (without_place result)) }
 {
-    match read_dialplan(files, alloc, asked.files.plan, PlanUse::Run, asked.clock) {
-        Ok(ReadDialplan::Loads(plan)) => run_with_queues(files, alloc, asked, &plan, output),
-        Ok(ReadDialplan::Faulty(told)) => Ok(faulty(told)),
-        Err(unread) => Err(Faulted::from(unread)),
+    match file_assumptions(files, alloc, asked.files.script) {
+        Ok(assumed) => {
+            let assuming = WideRun {
+                files: asked.files,
+                is_verbose: asked.is_verbose,
+                held: asked.held,
+                clock: asked.clock,
+                assumed,
+            };
+            serve_run_assuming(files, alloc, assuming, output)
+        }
+        Err(refused) => Err(Faulted::from(PbxFault::from(refused))),
     }
 }

@@ -31,6 +31,8 @@ chain→[main]¶exten => _1XX,1,NoOp()¶include => late¶[late]¶exten => 123,1,
 # Calls that come in, and where they may get: a shut door, a jump to any context, a way out of a queue, the extensions h and i, and the
 # sample of routes with a line more.
 doors→[outside]¶exten => s,1,Goto(hall,${EXTEN},1)¶[hall]¶exten => s,1,Hangup()¶exten => 9,1,Goto(safe,s,1)¶[safe]¶exten => s,1,NoOp(no way)¶
+scripted→[main]¶exten => s,1,AGI(ask.agi)¶ same => n,Stasis(app)¶
+locked→[outside]¶exten => s,1,Goto(cellar,${EXTEN},1)¶[hall]¶exten => s,1,Hangup()¶[cellar]¶exten => s,1,Hangup()¶
 jumps→[in]¶exten => _X.,1,Set(where=${EXTEN})¶ same => n,Goto(${where},s,1)¶[desk]¶exten => s,1,Macro(ring)¶[7]¶exten => s,1,Hangup()¶
 ways→[main]¶exten => s,1,Queue(help)¶[out]¶exten => 1,1,Hangup()¶
 wayout→[help]¶context = out¶
@@ -67,6 +69,8 @@ faulty.script→start main 100¶jump 1¶
 priority→[main]¶exten => s,0,NoOp()¶
 name→[main]¶exten => s,1,NoOp()¶exten => _[],1,NoOp()¶
 switched→[main]¶lswitch => Loopback/x¶
+hunting→[main]¶exten => s,1,NoOp()¶switch => Loopback/x¶exten => s/5551234,1,Busy()¶
+hunting.script→start main s¶step 1¶assume Switch callerid¶
 filled→[main]¶#exec /bin/true¶exten => s,1,Hangup()¶
 macros→[main]¶exten => s,1,Macro(x)¶exten => s,2,Hangup()¶[macro-x]¶exten => s,1,NoOp(in)¶
 macros.script→start main s¶step 1 4¶
@@ -98,6 +102,7 @@ pieces.script→start main s¶step 1 3¶
 dashed→[-in-]¶exten => 1,1,NoOp¶
 # Tests of some of these dialplans, and test files with faults, or that name files with faults.
 first.test→dialplan first¶test one¶call main 100¶expect 1 ended¶
+town.test→dialplan first¶test one¶call main 200¶expect 1 ran Hangup¶
 changes.test→dialplan changing¶test a dialplan is reloaded¶reload changed¶expect global X=12¶expect global Y=5¶
 fails.test→dialplan first¶test one¶call main 100¶expect 1 ran NoOp¶test two¶call main 100¶hangup 1¶
 none.test→dialplan first¶
@@ -108,6 +113,7 @@ lost.test→dialplan nowhere.conf¶queues nowhere.queues¶test one¶reload nowhe
 parted.test→dialplan parted¶test one¶
 strategy.test→dialplan first¶queues strategy¶test one¶
 switched.test→dialplan switched¶
+hunting.test→dialplan hunting¶assume Switch callerid¶test one¶call main s¶expect 1 ran NoOp¶
 random→[help]¶strategy = random¶
 random.test→dialplan first¶queues random¶
 # Queues in two files.

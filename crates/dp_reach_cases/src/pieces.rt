@@ -3,9 +3,11 @@ mod answers;
 mod cuts;
 mod duties;
 mod entries;
+mod exchange_duties;
 mod hidden;
 mod names;
 mod notation;
+mod reach_answers;
 mod shapes;
 mod texts;
 mod wide_duties;
@@ -15,7 +17,9 @@ use crate::pieces::answers::{ANSWERS, Answers, HIDDEN_ANSWERS, HiddenAnswers};
 use crate::pieces::cuts::{CUTS, Cuts};
 use crate::pieces::duties::{CLAIMED, Claimed, DUTIES, Duties, FOUND, Found, REACHED, Reached};
 use crate::pieces::entries::{ENTRIES, Entries};
+use crate::pieces::exchange_duties::EXCHANGE_OWED;
 use crate::pieces::names::{NAMES, Names};
+use crate::pieces::reach_answers::{HIDDEN_PARTS, HiddenParts, PARTS, Parts};
 use crate::pieces::shapes::{SHAPES, Shapes};
 use crate::pieces::texts::{TEXTS, Texts};
 use crate::pieces::wide_duties::{WIDE_OWED, WideOwed};
@@ -65,7 +69,8 @@ fn duties_reached_places_and_findings(rt: HostRuntime) -> Result<(), Fail> {
 /// What each application of the wide table owes because of the pieces of its arguments.
 #[test]
 fn duties_of_the_wide_table(rt: HostRuntime) -> Result<(), Fail> {
-    check::<WideOwed>(rt.alloc(), WIDE_OWED)
+    check::<WideOwed>(rt.alloc(), WIDE_OWED)?;
+    check::<WideOwed>(rt.alloc(), EXCHANGE_OWED)
 }
 
 /// Which entries a call may run, or whether it may reach a context.
@@ -84,4 +89,11 @@ fn entries_that_may_do_anything(rt: HostRuntime) -> Result<(), Fail> {
 #[test]
 fn entries_that_a_call_may_run_in_order(rt: HostRuntime) -> Result<(), Fail> {
     check::<Entries>(rt.alloc(), ENTRIES)
+}
+
+/// The same in parts, for other tools.
+#[test]
+fn answers_in_parts(rt: HostRuntime) -> Result<(), Fail> {
+    check::<Parts>(rt.alloc(), PARTS)?;
+    check::<HiddenParts>(rt.alloc(), HIDDEN_PARTS)
 }

@@ -47,6 +47,14 @@ same_id a b = a.context == b.context && a.entry == b.entry
 abbrev pub has_run : List EntryId → EntryId → Bool
 has_run ran id = list_any (same_id id) ran
 
+-- an entry, unless tests ran it
+abbrev pub unless_run : List EntryId → EntryId → List EntryId
+unless_run ran id = if has_run ran id then [] else id ∷ []
+
+-- the entries of a dialplan that no test ran, in its order
+unfoldable pub never_run : PlanOf → List EntryId → List EntryId
+never_run plan ran = flat_map (unless_run ran) (ids_of plan)
+
 -- ---- the text
 
 -- how many entries tests ran, of how many

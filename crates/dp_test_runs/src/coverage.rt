@@ -268,3 +268,65 @@ pub fn coverage_text(
         Err(refused) => Err(PbxFault::from(refused)),
     }
 }
+
+/// How many entries of a dialplan tests ran, and which they did not.
+#[derive(Drop)]
+pub struct EntryCoverage {
+    /// The number of entries that tests ran.
+    pub covered: usize,
+    /// The number of all entries.
+    pub all: usize,
+    /// The entries that no test ran, in the order of the dialplan.
+    pub never: Items<EntryId>,
+}
+
+/// Adds an entry, unless tests ran it.
+fn push_unless_run(
+    never: &mut Items<EntryId>,
+    ran: &IndexSet<EntryId>,
+    id: EntryId,
+) -> Result<(), NoMemory>
+    ensures { OnOk result (never.new ≡ never.old ++ spec.unless_run ran.now.keys id) }
+{
+    if has_run(ran, id) {
+        return Ok(());
+    }
+    never.push(id)
+}
+
+/// The entries among these that no test ran.
+fn never_among(
+    alloc: Global,
+    ran: &IndexSet<EntryId>,
+    ids: &[EntryId],
+) -> Result<Items<EntryId>, NoMemory>
+    ensures { IfOk result (λ never. never ≡ flat_map (spec.unless_run ran.now.keys) ids.now) }
+{
+    let mut never = Items::none(alloc);
+    for id in ids {
+        push_unless_run(&mut never, ran, *id)?;
+    }
+    Ok(never)
+}
+
+/// How many entries of a dialplan are among those that tests ran, and which are not. It fails only if memory runs out.
+#[tactic(auto, using(crate::proofs::KeptLemmas::covered_alike, crate::proofs::KeptLemmas::never_alike), unfolding(crate::specs::Coverage::never_run))]
+pub fn cover_entries(
+    alloc: Global,
+    plan: &Dialplan,
+    ran: &[EntryId],
+) -> Result<EntryCoverage, NoMemory>
+    ensures covered { IfOk result (λ coverage. coverage.covered ≡ length (filter (spec.has_run ran.now) (spec.ids_of plan.now))) }
+    ensures all { IfOk result (λ coverage. coverage.all ≡ length (spec.ids_of plan.now)) }
+    ensures never { IfOk result (λ coverage. coverage.never ≡ spec.never_run plan.now ran.now) }
+{
+    let ids = ids_of(alloc, plan)?;
+    let ids = ids.as_slice();
+    let kept = kept_of(alloc, ran)?;
+    let never = never_among(alloc, &kept, ids)?;
+    Ok(EntryCoverage {
+        covered: count_covered(&kept, ids),
+        all: ids.len(),
+        never,
+    })
+}

@@ -26,7 +26,7 @@ mod value_claims;
 mod verdict;
 
 pub use course::PlanChange;
-pub use coverage::{CoveredPlan, coverage_text};
+pub use coverage::{CoveredPlan, EntryCoverage, cover_entries, coverage_text};
 pub use dp_commands::PbxFault;
 pub use dp_plan::NoMemory;
 pub use failure::{Failure, FailureKind};

@@ -9,10 +9,10 @@ ghost use Rattle.dp_reach.specs.Choices.{sides_by};
 ghost use Rattle.dp_reach.specs.Standard.{with_duties};
 ghost use Rattle.dp_wide.specs.Choices.{exec_if_title};
 ghost use Rattle.dp_wide_reach.specs.Choices as spec;
-ghost use Rattle.dp_wide_reach.specs.Wide.{inner_duties, wide_duties};
+ghost use Rattle.dp_wide_duties.specs.Exchange.{exchange_duties, plain_duties};
 
+use crate::besides::push_met;
 use crate::held::{known_front, push_anything};
-use crate::rows::push_inner;
 use dp_closed::{Area, Duty};
 use dp_conf::{NoMemory, same_word, trim};
 use dp_pieces::{Cutting, Piece, cut_last, cut_level, cut_pieces, known_text, trimmed};
@@ -55,12 +55,12 @@ fn push_named<N: Nested>(
     duties: &mut Vec<Duty>,
 ) -> Result<(), NoMemory>
     ensures { OnOk result (shown_duties duties.new.items ≡ shown_duties duties.old.items
-        ++ with_duties exec_if_title N.owed inner_duties application.now (shown_area area.now) (shown_all pieces.now)) }
+        ++ with_duties exec_if_title N.owed plain_duties application.now (shown_area area.now) (shown_all pieces.now)) }
 {
     if same_word(application, b"ExecIf") {
         return N::push(alloc, area, pieces, duties);
     }
-    push_inner(alloc, application, area, pieces, duties)
+    push_met(alloc, application, area, pieces, duties)
 }
 
 /// Adds the duties of a side without the blanks at its ends that has no known name before a `(`.
@@ -71,7 +71,7 @@ fn push_whole<N: Nested>(
     duties: &mut Vec<Duty>,
 ) -> Result<(), NoMemory>
     ensures { OnOk result (shown_duties duties.new.items ≡ shown_duties duties.old.items
-        ++ spec.call_duties_by (with_duties exec_if_title N.owed inner_duties) (shown_area area.now) (spec.known_call_by (shown_all side.now) None)) }
+        ++ spec.call_duties_by (with_duties exec_if_title N.owed plain_duties) (shown_area area.now) (spec.known_call_by (shown_all side.now) None)) }
 {
     match known_text(alloc, side)? {
         None => push_anything(duties),
@@ -88,7 +88,7 @@ fn push_call<N: Nested>(
     duties: &mut Vec<Duty>,
 ) -> Result<(), NoMemory>
     ensures { OnOk result (shown_duties duties.new.items ≡ shown_duties duties.old.items
-        ++ spec.call_duties_by (with_duties exec_if_title N.owed inner_duties) (shown_area area.now)
+        ++ spec.call_duties_by (with_duties exec_if_title N.owed plain_duties) (shown_area area.now)
         (spec.known_call_by (shown_all rest.now) (Some (name.now, shown_all rest.now)))) }
 {
     match arguments_of(rest) {
@@ -105,7 +105,7 @@ fn push_side<N: Nested>(
     duties: &mut Vec<Duty>,
 ) -> Result<(), NoMemory>
     ensures { OnOk result (shown_duties duties.new.items ≡ shown_duties duties.old.items
-        ++ spec.side_duties (with_duties exec_if_title N.owed inner_duties) (shown_area area.now) (shown_all side.now)) }
+        ++ spec.side_duties (with_duties exec_if_title N.owed plain_duties) (shown_area area.now) (shown_all side.now)) }
 {
     let side = trimmed(alloc, side)?;
     if side.is_empty() {
@@ -125,7 +125,7 @@ fn push_sides<N: Nested>(
     duties: &mut Vec<Duty>,
 ) -> Result<(), NoMemory>
     ensures { OnOk result (shown_duties duties.new.items ≡ shown_duties duties.old.items
-        ++ spec.choice_duties (with_duties exec_if_title N.owed inner_duties) (shown_area area.now)
+        ++ spec.choice_duties (with_duties exec_if_title N.owed plain_duties) (shown_area area.now)
         (sides_by (shown_all rest.now) (cut_level 58 0 (shown_all rest.now)))) }
 {
     match cut_level(rest, b':') {
@@ -147,7 +147,7 @@ fn push_chosen<N: Nested>(
     duties: &mut Vec<Duty>,
 ) -> Result<(), NoMemory>
     ensures { OnOk result (shown_duties duties.new.items ≡ shown_duties duties.old.items
-        ++ spec.chosen_duties (with_duties exec_if_title N.owed inner_duties) (shown_area area.now) (shown_all rest.now)
+        ++ spec.chosen_duties (with_duties exec_if_title N.owed plain_duties) (shown_area area.now) (shown_all rest.now)
         (cut_level 44 0 (shown_all condition.now))) }
 {
     match cut_level(condition, b',') {
@@ -165,7 +165,7 @@ fn push_exec_if<N: Nested>(
     duties: &mut Vec<Duty>,
 ) -> Result<(), NoMemory>
     ensures { OnOk result (shown_duties duties.new.items ≡ shown_duties duties.old.items
-        ++ spec.exec_if_duties_by (with_duties exec_if_title N.owed inner_duties) (shown_area area.now) (cut_pieces 63 (shown_all pieces.now))) }
+        ++ spec.exec_if_duties_by (with_duties exec_if_title N.owed plain_duties) (shown_area area.now) (cut_pieces 63 (shown_all pieces.now))) }
 {
     match cut_pieces(pieces, b'?') {
         Cutting::Nowhere => push_anything(duties),
@@ -202,9 +202,9 @@ impl<N: Nested> Nested for Outer<N> {
     ghost use Rattle.dp_reach.specs.Standard.{with_duties};
     ghost use Rattle.dp_wide.specs.Choices.{exec_if_title};
     ghost use Rattle.dp_wide_reach.specs.Choices.{exec_if_duties_by};
-    ghost use Rattle.dp_wide_reach.specs.Wide.{inner_duties};
+    ghost use Rattle.dp_wide_duties.specs.Exchange.{plain_duties};
 
-    ghost owed = { λ area pieces. exec_if_duties_by (with_duties exec_if_title N.owed inner_duties) area (cut_pieces 63 pieces) };
+    ghost owed = { λ area pieces. exec_if_duties_by (with_duties exec_if_title N.owed plain_duties) area (cut_pieces 63 pieces) };
 
     fn push(
         alloc: Global,
@@ -222,16 +222,16 @@ type TwoDeep<N> = Outer<Outer<N>>;
 /// Four of them, nested.
 type FourDeep<N> = TwoDeep<TwoDeep<N>>;
 
-/// The duties of an application of the wide table in an area, given its name in any ASCII case and the pieces of its arguments. It fails
-/// only if memory runs out.
-#[tactic(auto, unfolding(dp_wide_reach::specs::Wide::wide_duties))]
+/// The duties of an application of the wide table in an area, and where a real exchange may lead a call besides, given its name in any ASCII
+/// case and the pieces of its arguments. It fails only if memory runs out.
+#[tactic(auto, unfolding(crate::specs::Exchange::exchange_duties))]
 pub fn duties(
     alloc: Global,
     application: &[u8],
     area: &Area,
     pieces: &[Piece],
 ) -> Result<Vec<Duty>, NoMemory>
-    ensures { IfOk result (λ duties. map shown_duty duties.items ≡ wide_duties application.now (shown_area area.now) (shown_all pieces.now)) }
+    ensures { IfOk result (λ duties. map shown_duty duties.items ≡ exchange_duties application.now (shown_area area.now) (shown_all pieces.now)) }
 {
     let mut duties = Vec::new(alloc);
     push_named::<FourDeep<FourDeep<Deepest>>>(alloc, application, area, pieces, &mut duties)?;

@@ -10,7 +10,7 @@ use dp_wide::{WideApps, WideFunctions};
 use dp_wide_pieces::read_wide_pieces;
 use std::alloc::Global;
 
-/// The wide table, which says what its applications owe.
+/// The wide table, which says what its applications owe, and where a real exchange may lead a call besides.
 pub struct WideDuties;
 
 impl AppTable for WideDuties {
@@ -41,12 +41,12 @@ impl AppTable for WideDuties {
 }
 
 impl DutyTable for WideDuties {
-    ghost use Rattle.dp_wide_reach.specs.Wide.{wide_duties};
-    ghost use Rattle.dp_wide_reach.proofs.WideRows.{wide-bounded};
+    ghost use Rattle.dp_wide_duties.specs.Exchange.{exchange_duties};
+    ghost use Rattle.dp_wide_duties.specs.ExchangeBounds.{exchange_bounded};
 
-    ghost duties = { wide_duties };
+    ghost duties = { exchange_duties };
 
-    ghost bounded = { wide-bounded };
+    ghost bounded = { exchange_bounded };
 
     fn owed(
         alloc: Global,

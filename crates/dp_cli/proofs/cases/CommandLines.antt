@@ -4,7 +4,7 @@ use Rattle.clap.proofs.OnLiterals.{clap_on_literals}
 use Rattle.clap.specs.Faults.{fault_of}
 use Rattle.clap.specs.declared.error.kind.ErrorKind.TheVariants as kind
 use Rattle.dp_program.specs.Entries.{found_entry, found_number}
-use Rattle.dp_program.specs.Requests.{joined, check, check_files, check_both_files, check_queues, check_both, listing, auditing, matching, explaining, run, run_wide, debug, debug_wide, testing, comparing_files, drawing, drawing_files}
+use Rattle.dp_program.specs.Requests.{joined, check, check_files, check_both_files, check_queues, check_both, listing, auditing, matching, explaining, run, run_wide, debug, debug_wide, testing, comparing_files, comparing_reach, comparing_reach_files, drawing, drawing_files}
 use Rattle.dp_cli.specs.CommandLine.{pbx_app, asked_of, options_of, usual_facts}
 use Rattle.dp_cli.specs.Refusals.{refusals_of}
 use Rattle.dp_wide.specs.Times.{moment_of, weekday_named}
@@ -141,19 +141,31 @@ drawn_files : asked_of (codes "pbx" ∷ codes "graph" ∷ codes "--queues" ∷ c
 unfolding clap_on_literals asked_of
 drawn_files = refl
 
+reach_compared : asked_of (codes "pbx" ∷ codes "diff" ∷ codes "--from" ∷ codes "main" ∷ codes "a.conf" ∷ codes "b.conf" ∷ []) ≡ Some (comparing_reach (record { before = codes "a.conf"; after = codes "b.conf"; from = codes "main"; facts = None }))
+unfolding clap_on_literals asked_of
+reach_compared = refl
+
+reach_compared_files : asked_of (codes "pbx" ∷ codes "diff" ∷ codes "--asterisk" ∷ codes "a.conf" ∷ codes "b.conf" ∷ codes "--from" ∷ codes "main" ∷ []) ≡ Some (comparing_reach_files (record { before = codes "a.conf"; after = codes "b.conf"; from = codes "main"; facts = Some usual_facts }))
+unfolding clap_on_literals asked_of
+reach_compared_files = refl
+
 debugged_wide : asked_of (codes "pbx" ∷ codes "debug" ∷ codes "--asterisk" ∷ codes "--break" ∷ codes "x" ∷ codes "a.conf" ∷ codes "b.script" ∷ []) ≡ Some (debug_wide (record { plan = codes "a.conf"; queues = None; second_plan = None; script = codes "b.script" }) (codes "x") false)
 unfolding clap_on_literals asked_of
 debugged_wide = refl
 
-tested : asked_of (codes "pbx" ∷ codes "test" ∷ codes "a.test" ∷ []) ≡ Some (testing (codes "a.test" ∷ []) false false)
+tested : asked_of (codes "pbx" ∷ codes "test" ∷ codes "a.test" ∷ []) ≡ Some (testing (codes "a.test" ∷ []) false false false)
 unfolding clap_on_literals asked_of
 tested = refl
 
-tested_with_cover : asked_of (codes "pbx" ∷ codes "test" ∷ codes "--cover" ∷ codes "a.test" ∷ []) ≡ Some (testing (codes "a.test" ∷ []) false true)
+tested_with_cover : asked_of (codes "pbx" ∷ codes "test" ∷ codes "--cover" ∷ codes "a.test" ∷ []) ≡ Some (testing (codes "a.test" ∷ []) false true false)
 unfolding clap_on_literals asked_of
 tested_with_cover = refl
 
-tested_several : asked_of (codes "pbx" ∷ codes "test" ∷ codes "a.test" ∷ codes "--trace" ∷ codes "b.test" ∷ codes "c.test" ∷ []) ≡ Some (testing (codes "a.test" ∷ codes "b.test" ∷ codes "c.test" ∷ []) true false)
+tested_as_picture : asked_of (codes "pbx" ∷ codes "test" ∷ codes "--graph" ∷ codes "a.test" ∷ []) ≡ Some (testing (codes "a.test" ∷ []) false false true)
+unfolding clap_on_literals asked_of
+tested_as_picture = refl
+
+tested_several : asked_of (codes "pbx" ∷ codes "test" ∷ codes "a.test" ∷ codes "--trace" ∷ codes "b.test" ∷ codes "c.test" ∷ []) ≡ Some (testing (codes "a.test" ∷ codes "b.test" ∷ codes "c.test" ∷ []) true false false)
 unfolding clap_on_literals asked_of
 tested_several = refl
 
@@ -194,6 +206,18 @@ audit_is_json = refl
 match_is_json : (options_of (codes "pbx" ∷ codes "match" ∷ codes "--all" ∷ codes "--json" ∷ codes "a.conf" ∷ codes "main" ∷ codes "5" ∷ [])).is_json ≡ true
 unfolding clap_on_literals options_of
 match_is_json = refl
+
+reach_is_json : (options_of (codes "pbx" ∷ codes "reach" ∷ codes "--json" ∷ codes "a.conf" ∷ codes "main" ∷ [])).is_json ≡ true
+unfolding clap_on_literals options_of
+reach_is_json = refl
+
+test_is_json : (options_of (codes "pbx" ∷ codes "test" ∷ codes "a.test" ∷ codes "--json" ∷ [])).is_json ≡ true
+unfolding clap_on_literals options_of
+test_is_json = refl
+
+match_assumes : (options_of (codes "pbx" ∷ codes "match" ∷ codes "--assume" ∷ codes "Switch" ∷ codes "a.conf" ∷ codes "main" ∷ codes "5" ∷ [])).assumed ≡ Some (codes "Switch")
+unfolding clap_on_literals options_of
+match_assumes = refl
 
 match_is_text : (options_of (codes "pbx" ∷ codes "match" ∷ codes "a.conf" ∷ codes "main" ∷ codes "5" ∷ [])).is_json ≡ false
 unfolding clap_on_literals options_of

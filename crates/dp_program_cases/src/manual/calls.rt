@@ -709,4 +709,50 @@ ran 1 main,s,4 Set -> ready main,s,5
   hours.conf:6 Dial(PJSIP/200,20)
 ran 1 main,s,5 Dial -> dialling
 ? 4
+@ branch.conf
+[main]
+exten => 200,1,Dial(PJSIP/200,20)
+switch => IAX2/headquarters
+@
+@ branch.script
+start main 200
+step 1
+@
+@ assuming.script
+assume Switch
+start main 200
+step 1
+@
+$ pbx run --asterisk branch.conf branch.script
+branch.conf:3: note Switch
+? 1
+$ pbx run --asterisk branch.conf assuming.script
+ok
+started 1
+ran 1 main,200,1 Dial -> dialling
+? 0
+$ pbx match --asterisk --assume Switch branch.conf main 200
+main,200,1 Dial
+? 0
+@ desk-old.conf
+[lobby]
+exten => _X.,1,Goto(desk,s,1)
+[desk]
+exten => s,1,Dial(PJSIP/200,20)
+[trunk]
+exten => _00X.,1,Dial(PJSIP/carrier/${EXTEN})
+@
+@ desk-new.conf
+[lobby]
+exten => _X.,1,Goto(desk,s,1)
+[desk]
+exten => s,1,Background(welcome)
+ same => n,WaitExten(5)
+include => trunk
+[trunk]
+exten => _00X.,1,Dial(PJSIP/carrier/${EXTEN})
+@
+$ pbx diff --from lobby desk-old.conf desk-new.conf
++ reaches trunk
+? 1
 "##;

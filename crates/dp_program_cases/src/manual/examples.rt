@@ -523,6 +523,10 @@ $ pbx audit --json --only Gap,Unset sample/faulty.conf
 {"type":"finding","kind":"Unset","context":"support","name":"s","priority":1,"label":"begin","application":"Queue","arguments":"${QUEUE}","variable":"QUEUE"}
 {"type":"count","findings":2}
 ? 1
+$ pbx test --json house.test
+{"type":"test","number":1,"kind":"Passed","name":"room 123 leads to the front desk"}
+{"type":"count","tests":1,"failed":0}
+? 0
 @ early.script
 start phones 123
 timeout 1

@@ -134,6 +134,10 @@ $ pbx reach sample/routes.conf from-carrier --to international
 assumed: extensions of {0-9A-Za-z*#+_.}*, callers' numbers of {0-9+}*, calls come in at every context
 unreachable: international
 ? 0
+$ pbx reach --json --to international sample/routes.conf from-carrier
+{"type":"assumed","extensions":"0-9A-Za-z*#+_.","callers":"0-9+","starts":"every context"}
+{"type":"verdict","kind":"Unreachable","context":"international"}
+? 0
 $ pbx reach sample/routes.conf from-lobby --to national --to international
 error: the argument '--to <TARGET>' cannot be used multiple times
 
@@ -170,4 +174,28 @@ $ pbx reach --asterisk frontdesk.conf incoming --to safe
 assumed: extensions of {0-9A-Za-z*#+_.}*, callers' numbers of {0-9+}*, values from outside of {0-9A-Za-z_./ -}*, calls come in at every context
 unreachable: safe
 ? 0
+@ lines.conf
+[incoming]
+exten => 1,1,Dial(Local/20@phones&PJSIP/desk,30,t)
+ same => n,Hangup()
+
+[phones]
+exten => 20,1,Dial(PJSIP/20,30)
+ same => n,Hangup()
+
+[trunk]
+exten => _X.,1,Dial(PJSIP/${EXTEN}@provider,60)
+@
+$ pbx reach --asterisk lines.conf incoming --to trunk
+assumed: extensions of {0-9A-Za-z*#+_.}*, callers' numbers of {0-9+}*, values from outside of {0-9A-Za-z_./ -}*, calls come in at every context
+unreachable: trunk
+? 0
+$ pbx reach --asterisk lines.conf incoming --to phones
+assumed: extensions of {0-9A-Za-z*#+_.}*, callers' numbers of {0-9+}*, values from outside of {0-9A-Za-z_./ -}*, calls come in at every context
+may reach: phones,20,1 Dial(PJSIP/20,30)  e.g. extension 20
+  incoming,{0-9A-Za-z*#+_.}*  a call comes in
+  incoming,1,1 Dial(Local/20@phones&PJSIP/desk,30,t) -> phones,20
+every jump that lets a call in there:
+  incoming,1,1 Dial(Local/20@phones&PJSIP/desk,30,t)
+? 1
 "##;

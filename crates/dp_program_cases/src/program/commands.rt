@@ -114,6 +114,10 @@ reach @opened from-carrier --to international→1→assumed: extensions of {0-9A
 reach --facts 0-9 @jumps in --to desk --exten 0-9→0→assumed: extensions of {0-9}*, callers' numbers of {0-9+}*, values from outside of {0-9}*, calls come in at every context¶unreachable: desk¶may lead to any context: in,_X.,2 Goto(${where},s,1)¶→
 reach --asterisk @doors outside --to safe→0→assumed: extensions of {0-9A-Za-z*#+_.}*, callers' numbers of {0-9+}*, values from outside of {0-9A-Za-z_./ -}*, calls come in at every context¶unreachable: safe¶→
 reach --asterisk @doors kitchen→1→→pbx: @doors has no context `kitchen`¶
+# Where a program sends a call is not known.
+reach --asterisk --exten 0-9s @scripted main→0→assumed: extensions of {0-9s}*, callers' numbers of {0-9+}*, values from outside of {0-9A-Za-z_./ -}*, calls come in at every context¶main,s,1 AGI(ask.agi)¶main,s,2 Stasis(app)¶  main,{0-9s}*  a call comes in¶handed to a program: main,s,1 AGI(ask.agi)¶handed to a program: main,s,2 Stasis(app)¶of where such a program sends the call, nothing is claimed¶ok 2 of 2 entries in 1 of 1 contexts¶→
+reach --asterisk @hunting main --to main→1→→@hunting:3: note Switch¶@hunting:4: note CallerId¶
+reach --asterisk --assume Switch,CallerId --exten 1 @hunting main --to main→0→assumed: extensions of {1}*, callers' numbers of {0-9+}*, values from outside of {0-9A-Za-z_./ -}*, calls come in at every context¶unreachable: main¶→
 # Names of contexts that do not exist, and files with a fault.
 reach @doors kitchen→1→→pbx: @doors has no context `kitchen`¶
 reach @doors outside --to kitchen --start a,hall→1→→pbx: @doors has no context `kitchen`¶pbx: @doors has no context `a`¶
@@ -176,6 +180,9 @@ match --all --asterisk @pieces main s→0→main,s,1 Goto¶main,s,1 Goto: answer
 match --asterisk @pieces out 100→0→none¶→pbx: @pieces has no context `out`¶
 match --asterisk @faulty main s→1→→@faulty:2: fault 4 NoEquals¶
 match --asterisk @switched main s→1→→@switched:2: note Switch¶
+match --asterisk --assume Switch @switched main s→0→none¶→pbx: @switched has no entry: is it a dialplan?¶
+match --asterisk --assume Switch @hunting main s→1→→@hunting:4: note CallerId¶
+match @hunting main s --assume CallerId,SWITCH --asterisk→0→main,s,1 NoOp¶→
 match --asterisk @slash main s→1→→@slash:2: note CallerId¶
 match --asterisk @through main s→1→→@through:2: note AutoFallThrough¶
 match --asterisk @filled main s→1→→@filled:2: note Exec¶
@@ -410,6 +417,10 @@ run --asterisk --verbose @pieces @pieces.script→0→started 1¶  @pieces:3 Got
 run --asterisk --verbose --reload @pieces @changing @changing.script→0→started 1¶  @changing:5 NoOp(a)¶ran 1 main,100,1 NoOp -> ready main,100,2¶ok¶X=1¶Y=5¶  @inner.piece:4 Hangup()¶ran 1 main,100,2 Hangup -> ended¶→
 run --asterisk @parted @pieces.script→1→→@inner:2: fault 23 BadApplication¶@parted:4: fault 20 BadPriority¶@parted:5: fault 7 ReadFailed nowhere.conf¶
 run --asterisk @switched @pieces.script→1→→@switched:2: note Switch¶
+# A script may assume that lines that get these notes have no effect, wherever it says so.
+run --asterisk @hunting @hunting.script→0→started 1¶ran 1 main,s,1 NoOp -> ready main,s,2¶ok¶ok¶→
+run --asterisk @hunting @pieces.script→1→→@hunting:3: note Switch¶@hunting:4: note CallerId¶
+run --asterisk @through @hunting.script→1→→@through:2: note AutoFallThrough¶
 run --asterisk --reload @slash @pieces @pieces.script→1→→@slash:2: note CallerId¶
 # So are the queues, after the dialplan. If they have a fault, or a strategy that this program does not follow, nothing runs.
 run --asterisk --queues @tiered @callers @callers.script→0→started 1¶ran 1 main,s,1 Queue -> queued help¶ok 1 -> ready main,s,2¶ran 1 main,s,2 Hangup -> ended¶→
@@ -438,11 +449,23 @@ diff @changing @changed→1→- main,100,1 NoOp(a)¶- main,100,2 NoOp(b)¶+ main
 diff @priorities @calls→1→- main,123,1 NoOp(one)¶- main,_X.,1 NoOp(other)¶- main,_X.,2 NoOp(two)¶+ calls,123,1 NoOp(one)¶+ calls,_1XX,1 NoOp(three)¶+ calls,_X.,1 NoOp(any)¶+ calls,_X.,2 NoOp(two)¶→
 diff @cycle @chain→1→+ main,_1XX,1 NoOp()¶+ main,123,1 Hangup()¶+ main,123,2 Hangup()¶+ late,123,1 Hangup()¶+ late,123,2 Hangup()¶+ late,_1XX,1 NoOp()¶→
 diff @empty @cycle→0→→
+# What a call from a context reaches only before or only after a change.
+diff --from outside @doors @locked→1→- reaches hall¶+ reaches cellar¶→
+diff @locked @doors --from outside→1→- reaches cellar¶+ reaches hall¶→
+diff --from hall @doors @locked→1→- reaches safe¶→
+diff --from hall @doors @doors→0→→
+diff --asterisk --from outside @doors @locked→1→- reaches hall¶+ reaches cellar¶→
+diff --from safe @doors @locked→1→- reaches safe¶→pbx: @locked has no context `safe`¶
+diff --from kitchen @doors @locked→1→→pbx: @doors has no context `kitchen`¶pbx: @locked has no context `kitchen`¶
+diff --from outside @doors @empty→1→- reaches outside¶- reaches hall¶→pbx: @empty has no context `outside`¶
 # Each dialplan is read with the files that it includes.
 diff --asterisk @pieces @first→1→- main,100,2 Hangup()¶+ main,100,2 Goto(200,1)¶- main,s,1 Goto(100,1)¶+ main,200,1 Hangup()¶→
 diff @pieces @pieces --asterisk→0→→
 # The fault of the first dialplan comes first.
 diff @faulty @missing→1→→fault 4 NoEquals line 2¶
+diff --from main @faulty @missing→1→→fault 4 NoEquals line 2¶
+diff @first @missing --from main→1→→fault 7 ReadFailed¶
+diff --asterisk --from main @first @faulty→1→→@faulty:2: fault 4 NoEquals¶
 diff @missing @faulty→1→→fault 7 ReadFailed¶
 diff @first @faulty→1→→fault 4 NoEquals line 2¶
 diff --explain @first @missing→1→→fault 7 ReadFailed¶  @missing¶  a file could not be opened or read¶
@@ -497,6 +520,7 @@ debug --asterisk --queues @tiered --break main,s,1 @callers @callers.script→0�
 debug --asterisk --verbose --reload @pieces --break main,100,2 @changing @changing.script→0→started 1¶  @changing:5 NoOp(a)¶ran 1 main,100,1 NoOp -> ready main,100,2¶ok¶break 3¶  @inner.piece:4 Hangup()¶ran 1 main,100,2 Hangup -> ended¶end 4¶→
 # Faults of its files, of its break, and of its script.
 debug --asterisk --break x @switched @pieces.script→1→→@switched:2: note Switch¶
+debug --asterisk --break main,s,1 @hunting @hunting.script→0→started 1¶break 1¶ran 1 main,s,1 NoOp -> ready main,s,2¶ok¶ok¶end 4¶→
 debug --asterisk --queues @mixed --break x @callers @callers.script→1→→@mixed:3: fault 30 BadStrategy¶
 debug --asterisk --break x @first @untold.script→1→→fault 71 BadBreak¶
 debug --asterisk --break main,s,1 @first @untold.script→1→→fault 70 BadScript line 2¶
@@ -519,6 +543,7 @@ test @faulty.test→1→→@faulty.test:3: fault BadLine¶@faulty.test:4: fault 
 test @lost.test→1→→@lost.test:1: fault 7 ReadFailed nowhere.conf¶@lost.test:2: fault 7 ReadFailed nowhere.queues¶@lost.test:4: fault 7 ReadFailed nowhere.plan¶
 test @parted.test→1→→@inner:2: fault 23 BadApplication¶@parted:4: fault 20 BadPriority¶@parted:5: fault 7 ReadFailed nowhere.conf¶
 test @switched.test→1→→@switched:2: note Switch¶
+test @hunting.test→0→TAP version 14¶1..1¶ok 1 - one¶→
 test @strategy.test→1→→@strategy:2: fault 30 BadStrategy¶
 test @random.test→1→→@random:2: note Random¶
 test @missing→1→→fault 7 ReadFailed¶
@@ -532,6 +557,12 @@ test @first.test @fails.test @changes.test→1→TAP version 14¶1..4¶ok 1 - on
 # The coverage is that of each dialplan, by the tests of all files that are on it.
 test --cover @first.test @changes.test→0→TAP version 14¶1..2¶ok 1 - one¶ok 2 - a dialplan is reloaded¶# covered 3 of 3 entries¶# covered 0 of 2 entries¶# never @changing:5 main,100,1 NoOp¶# never @changing:6 main,100,2 NoOp¶→
 test --cover @none.test @changes.test @first.test→0→TAP version 14¶1..2¶ok 1 - a dialplan is reloaded¶ok 2 - one¶# covered 3 of 3 entries¶# covered 0 of 2 entries¶# never @changing:5 main,100,1 NoOp¶# never @changing:6 main,100,2 NoOp¶→
+# The dialplan of the first file, by what the tests of all files that are on it ran.
+test --graph @first.test→0→digraph dialplan {¶rankdir=LR;¶ranksep=0.8;¶nodesep=0.25;¶node [shape=plain,fontname=\"Helvetica\",fontsize=9];¶edge [fontname=\"Helvetica\",fontsize=8,arrowsize=0.6];¶c0 [label=<<table border=\"0\" cellborder=\"1\" cellspacing=\"0\" cellpadding=\"3\">¶<tr><td port=\"top\" colspan=\"2\" bgcolor=\"#6fb36f\"><b>main </b></td></tr>¶<tr><td port=\"x100\" align=\"left\" bgcolor=\"#8cc98c\">100 </td><td port=\"y100\" align=\"left\" bgcolor=\"#8cc98c\">NoOp(hello) </td></tr>¶<tr><td port=\"x200\" align=\"left\" bgcolor=\"#8cc98c\">200 </td><td port=\"y200\" align=\"left\" bgcolor=\"#8cc98c\">Hangup() </td></tr>¶</table>>];¶c0:y100:e -> c0:y200:e [color=black];¶}¶→
+test --graph --cover @town.test→0→digraph dialplan {¶rankdir=LR;¶ranksep=0.8;¶nodesep=0.25;¶node [shape=plain,fontname=\"Helvetica\",fontsize=9];¶edge [fontname=\"Helvetica\",fontsize=8,arrowsize=0.6];¶c0 [label=<<table border=\"0\" cellborder=\"1\" cellspacing=\"0\" cellpadding=\"3\">¶<tr><td port=\"top\" colspan=\"2\" bgcolor=\"#e0c050\"><b>main </b></td></tr>¶<tr><td port=\"x100\" align=\"left\" bgcolor=\"#ffffff\">100 </td><td port=\"y100\" align=\"left\" bgcolor=\"#ffffff\">NoOp(hello) </td></tr>¶<tr><td port=\"x200\" align=\"left\" bgcolor=\"#8cc98c\">200 </td><td port=\"y200\" align=\"left\" bgcolor=\"#8cc98c\">Hangup() </td></tr>¶</table>>];¶c0:y100:e -> c0:y200:e [color=black];¶}¶→
+test --graph @none.test→0→digraph dialplan {¶rankdir=LR;¶ranksep=0.8;¶nodesep=0.25;¶node [shape=plain,fontname=\"Helvetica\",fontsize=9];¶edge [fontname=\"Helvetica\",fontsize=8,arrowsize=0.6];¶c0 [label=<<table border=\"0\" cellborder=\"1\" cellspacing=\"0\" cellpadding=\"3\">¶<tr><td port=\"top\" colspan=\"2\" bgcolor=\"#e6e6e6\"><b>main </b></td></tr>¶<tr><td port=\"x100\" align=\"left\" bgcolor=\"#ffffff\">100 </td><td port=\"y100\" align=\"left\" bgcolor=\"#ffffff\">NoOp(hello) </td></tr>¶<tr><td port=\"x200\" align=\"left\" bgcolor=\"#ffffff\">200 </td><td port=\"y200\" align=\"left\" bgcolor=\"#ffffff\">Hangup() </td></tr>¶</table>>];¶c0:y100:e -> c0:y200:e [color=black];¶}¶→
+test --json @town.test --graph @changes.test @fails.test→1→digraph dialplan {¶rankdir=LR;¶ranksep=0.8;¶nodesep=0.25;¶node [shape=plain,fontname=\"Helvetica\",fontsize=9];¶edge [fontname=\"Helvetica\",fontsize=8,arrowsize=0.6];¶c0 [label=<<table border=\"0\" cellborder=\"1\" cellspacing=\"0\" cellpadding=\"3\">¶<tr><td port=\"top\" colspan=\"2\" bgcolor=\"#6fb36f\"><b>main </b></td></tr>¶<tr><td port=\"x100\" align=\"left\" bgcolor=\"#8cc98c\">100 </td><td port=\"y100\" align=\"left\" bgcolor=\"#8cc98c\">NoOp(hello) </td></tr>¶<tr><td port=\"x200\" align=\"left\" bgcolor=\"#8cc98c\">200 </td><td port=\"y200\" align=\"left\" bgcolor=\"#8cc98c\">Hangup() </td></tr>¶</table>>];¶c0:y100:e -> c0:y200:e [color=black];¶}¶→pbx: @changes.test is on another dialplan than the first test file¶
+test --graph @faulty.test→1→→@faulty.test:3: fault BadLine¶@faulty.test:4: fault BadExpect¶
 # All faults of all files, in the order of the files. Then no test runs.
 test @first.test @faulty.test→1→→@faulty.test:3: fault BadLine¶@faulty.test:4: fault BadExpect¶
 test --cover @lost.test @first.test @switched.test @faulty.test→1→→@lost.test:1: fault 7 ReadFailed nowhere.conf¶@lost.test:2: fault 7 ReadFailed nowhere.queues¶@lost.test:4: fault 7 ReadFailed nowhere.plan¶@switched:2: note Switch¶@faulty.test:3: fault BadLine¶@faulty.test:4: fault BadExpect¶

@@ -1,4 +1,4 @@
-//! `check`, `match` and `audit` with `--json`: an object for each line, with the status of the command without it.
+//! `check`, `match`, `audit`, `reach` and `test` with `--json`: an object for each line or test, with the status of the command without it.
 
 /// The command lines, with what they print.
 pub(super) const JSON: &str = r#"
@@ -61,4 +61,17 @@ audit --asterisk --only loop --json @circling→1→{"type":"finding","kind":"Lo
 audit --json --asterisk @pieces→0→{"type":"count","findings":0}¶→
 audit --json --asterisk @parted→1→→@inner:2: fault 23 BadApplication¶@parted:4: fault 20 BadPriority¶@parted:5: fault 7 ReadFailed nowhere.conf¶
 audit --json --asterisk @long→1→→fault 8 TooLong¶
+# What a call may run, and how it gets there.
+reach --json @doors outside→0→{"type":"assumed","extensions":"0-9A-Za-z*#+_.","callers":"0-9+","starts":"every context"}¶{"type":"entry","context":"outside","name":"s","priority":1,"application":"Goto","arguments":"hall,${EXTEN},1"}¶{"type":"way","context":"outside","text":"outside,{0-9A-Za-z*#+_.}*  a call comes in"}¶{"type":"entry","context":"hall","name":"s","priority":1,"application":"Hangup","arguments":""}¶{"type":"way","context":"hall","text":"outside,{0-9A-Za-z*#+_.}*  a call comes in"}¶{"type":"way","context":"hall","text":"outside,s,1 Goto(hall,${EXTEN},1) -> hall,s"}¶{"type":"count","entries":2,"all_entries":4,"contexts":2,"all_contexts":3}¶→
+reach @doors hall --to safe --json→1→{"type":"assumed","extensions":"0-9A-Za-z*#+_.","callers":"0-9+","starts":"every context"}¶{"type":"verdict","kind":"MayReach","context":"safe"}¶{"type":"way","text":"safe,s,1 NoOp(no way)  e.g. extension s"}¶{"type":"way","text":"hall,{0-9A-Za-z*#+_.}*  a call comes in"}¶{"type":"way","text":"hall,9,1 Goto(safe,s,1) -> safe,s"}¶{"type":"way","text":"every jump that lets a call in there:"}¶{"type":"way","text":"hall,9,1 Goto(safe,s,1)"}¶→
+reach --json @doors outside --to safe --start hall --exten 0-9 --caller 7→0→{"type":"assumed","extensions":"0-9","callers":"7","starts":"outside hall"}¶{"type":"verdict","kind":"Unreachable","context":"safe"}¶→
+reach --asterisk --json @doors outside --to safe→0→{"type":"assumed","extensions":"0-9A-Za-z*#+_.","callers":"0-9+","facts":"0-9A-Za-z_./ -","starts":"every context"}¶{"type":"verdict","kind":"Unreachable","context":"safe"}¶→
+reach --json @doors kitchen→1→→pbx: @doors has no context `kitchen`¶
+reach --json @faulty main→1→→fault 4 NoEquals line 2¶
+# The results of tests, and what they cover.
+test --json @first.test→0→{"type":"test","number":1,"kind":"Passed","name":"one"}¶{"type":"count","tests":1,"failed":0}¶→
+test --json --trace @first.test @fails.test→1→{"type":"test","number":1,"kind":"Passed","name":"one"}¶{"type":"test","number":2,"kind":"Failed","name":"one","at":"@fails.test:4","expected":"1 ran NoOp","got":"Hangup()","trace":"@first:2 main,100,1 NoOp(hello)\u000a@first:3 main,100,2 Goto(200,1)\u000a@first:4 main,200,1 Hangup()"}¶{"type":"test","number":3,"kind":"Failed","name":"two","at":"@fails.test:7","expected":"done","got":"refused 49 Ended","trace":"@first:2 main,100,1 NoOp(hello)\u000a@first:3 main,100,2 Goto(200,1)\u000a@first:4 main,200,1 Hangup()"}¶{"type":"count","tests":3,"failed":2}¶→
+test --cover --json @none.test→0→{"type":"count","tests":0,"failed":0}¶{"type":"covered","file":"@first","entries":0,"of":3}¶{"type":"never","file":"@first","line":2,"context":"main","name":"100","priority":1,"application":"NoOp"}¶{"type":"never","file":"@first","line":3,"context":"main","name":"100","priority":2,"application":"Goto"}¶{"type":"never","file":"@first","line":4,"context":"main","name":"200","priority":1,"application":"Hangup"}¶→
+test --json --cover @first.test @changes.test→0→{"type":"test","number":1,"kind":"Passed","name":"one"}¶{"type":"test","number":2,"kind":"Passed","name":"a dialplan is reloaded"}¶{"type":"count","tests":2,"failed":0}¶{"type":"covered","file":"@first","entries":3,"of":3}¶{"type":"covered","file":"@changing","entries":0,"of":2}¶{"type":"never","file":"@changing","line":5,"context":"main","name":"100","priority":1,"application":"NoOp"}¶{"type":"never","file":"@changing","line":6,"context":"main","name":"100","priority":2,"application":"NoOp"}¶→
+test --json @faulty.test→1→→@faulty.test:3: fault BadLine¶@faulty.test:4: fault BadExpect¶
 "#;

@@ -75,6 +75,8 @@ diff @usual @usual @usual→unexpected argument '@usual' found→pbx diff [OPTIO
 diff --clock friday a b→the following required arguments were not provided:¶  --asterisk→pbx diff [OPTIONS] <OLD> <NEW>
 graph→the following required arguments were not provided:¶  <FILE>→pbx graph <FILE>
 graph @usual @usual→unexpected argument '@usual' found→pbx graph [OPTIONS] <FILE>
+reach --clock friday a b→the following required arguments were not provided:¶  --asterisk→pbx reach [OPTIONS] <FILE> <CONTEXT>
+reach --asterisk --clock friday a b→invalid value 'friday' for '--clock <MOMENT>': a moment is written like 'fri 2026-11-27 09:30'→pbx reach [OPTIONS] <FILE> <CONTEXT>
 graph --clock friday a→the following required arguments were not provided:¶  --asterisk→pbx graph [OPTIONS] <FILE>
 debug @missing @missing→the following required arguments were not provided:¶  --break <CONTEXT,EXTEN,PRIORITY>→pbx debug --break <CONTEXT,EXTEN,PRIORITY> <FILE> <SCRIPT>
 debug --clock friday --break main,s,1 a b→the following required arguments were not provided:¶  --asterisk→pbx debug [OPTIONS] --break <CONTEXT,EXTEN,PRIORITY> <FILE> <SCRIPT>
@@ -237,6 +239,7 @@ Arguments:
 Options:
       --asterisk        Read included files, templates and block comments
       --clock <MOMENT>  With --asterisk: the moment by which includes with times are read, like 'fri 2026-11-27 09:30'
+      --assume <NOTES>  With --asterisk: assume that lines with these notes have no effect, like Switch,CallerId
       --all             Also print what becomes of each extension that matches
       --json            Print a JSON object in place of each line, for other tools
       --explain         Print below each fault, and below each note of `check`, where it is and what the manual says about it
@@ -250,6 +253,7 @@ With --all a line follows for each extension that matches, in the order in which
 
 With --asterisk the files that the dialplan includes are read. If a line has a fault, or something that this program cannot follow
 (`switch`, an extension for one caller, `autofallthrough=no`, `#exec`), each such line is printed on standard error, with status 1.
+With --assume such lines have no effect: Switch, CallerId, AutoFallThrough and Exec, separated by commas.
 
 With --json each line on standard output is a JSON object: of type `match`, `none` or `candidate`.
 
@@ -318,12 +322,14 @@ Arguments:
 Options:
       --asterisk          Know the applications and functions that people use, and read included files, templates and block comments
       --clock <MOMENT>    With --asterisk: the moment by which includes with times are read, like 'fri 2026-11-27 09:30'
+      --assume <NOTES>    With --asterisk: assume that lines with these notes have no effect, like Switch,CallerId
       --queues <QUEUES>   The queues, such as queues.conf; by default there are none
       --start <CONTEXTS>  The contexts where other calls come in, separated by commas; by default every context
       --exten <BYTES>     The bytes that may be dialled, such as 0-9*#; by default 0-9A-Za-z*#+_.
       --caller <NUMBERS>  The bytes of a caller's number; by default 0-9+
       --facts <VALUES>    The bytes of what variables are set to from outside; by default 0-9A-Za-z_./ - with --asterisk, else none is set
       --to <TARGET>       Report only whether the call may reach this context
+      --json              Print a JSON object in place of each line, for other tools
       --explain           Print below each fault, and below each note of `check`, where it is and what the manual says about it
   -h, --help              Print help
 
@@ -336,7 +342,10 @@ with status 1.
 
 With --asterisk the applications and functions are those that people use, and included files, templates and block comments are read too.
 Scripts and other programs may then set variables to any text of the bytes after --facts. If lines have faults, or have what this
-program cannot follow, each is printed on standard error with its file and line, and the status is 1.
+program cannot follow, each is printed on standard error with its file and line, and the status is 1. With --assume Switch, for
+example, lines with this note have no effect.
+
+With --json each line is a JSON object: of type `assumed`, `note`, `entry`, `way`, `verdict` or `count`.
 
 Example:
   $ pbx reach extensions.conf from-carrier --to international
@@ -415,7 +424,8 @@ this program cannot follow (`switch`, an extension for one caller, `autofallthro
 such line is printed on standard error, with status 1. These lines of a script say what would otherwise be unknown, or show it:
   let CHANNEL NAME=VALUE         a variable of the channel, or what `Set` would set
   global NAME=VALUE              a global variable
-  assume NAME ..                 values that nothing has set in these functions, such as DB, are empty
+  assume NAME ..                 values that nothing has set in these functions, such as DB, are empty; with the names Switch, CallerId,
+                                 AutoFallThrough and Exec: lines with these notes have no effect
   clock DAY YYYY-MM-DD HH:MM     the time
   go CHANNEL                     what the channel waits for ends
   redirect CHANNEL CONTEXT EXTEN [PRIORITY]   the channel goes to a place
@@ -482,6 +492,8 @@ Arguments:
 Options:
       --trace    Print above the result of each test what ran in it, as lines that begin with `#`
       --cover    Print at the end how many entries of each dialplan ran in a test, and each entry that did not
+      --graph    Draw the dialplan for Graphviz by what ran, in place of the results
+      --json     Print a JSON object in place of each line, for other tools
       --explain  Print below each fault, and below each note of `check`, where it is and what the manual says about it
   -h, --help     Print help
 
@@ -490,6 +502,12 @@ Each event is followed by all steps that are possible. A test passes if no event
 `expect` line comes true. The results of all files are one list in the Test Anything Protocol, version 14. A test that fails has its
 line, what was expected, what came instead, and the last entries that ran. If a test file or a file that it names has faults, those of
 all files are printed on standard error with their files and lines, no test runs, and the status is 1.
+
+With --graph a picture of the dialplan of the first file is printed in place of the results, as `pbx graph` draws it. Its extensions are
+green if all of their entries ran in a test, yellow if some did, and white if none did.
+
+With --json each result is a JSON object of type `test`, and the last one is of type `count`; with --cover objects of the types
+`covered` and `never` follow. With --json nothing of --trace is printed.
 
 Example:
   $ cat office.test
@@ -519,12 +537,16 @@ Arguments:
 Options:
       --asterisk        Read included files, templates and block comments
       --clock <MOMENT>  With --asterisk: the moment by which includes with times are read, like 'fri 2026-11-27 09:30'
+      --from <CONTEXT>  A context where calls come in: print which contexts they can reach only in OLD or only in NEW
       --explain         Print below each fault, and below each note of `check`, where it is and what the manual says about it
   -h, --help            Print help
 
 Prints what answers differently in NEW than in OLD: for each context, name and priority the entry of OLD after `-`, and that of NEW
 after `+`, as `CONTEXT,NAME,PRIORITY APPLICATION(ARGUMENTS)`. A context answers with its own entries and then with those of its
 includes. The spelling of a name and a label make no difference. The status is 1 if there is a difference.
+
+With --from CONTEXT it prints instead `- reaches NAME` for each context that a call from CONTEXT may reach in OLD but not in NEW, as
+`pbx reach` finds it without queues, and `+ reaches NAME` for each that it may reach in NEW but not in OLD.
 
 With --asterisk included files, templates and block comments are read too. If lines have faults, each fault is printed on standard
 error with its file and line, and the status is 1.
@@ -557,6 +579,7 @@ in which a look-up tries them, and what each does first. Arrows are dashed for i
 dotted for the ways out of queues, which --queues names. A target that only the call decides is a diamond; one that does not exist is red.
 
 With --from CONTEXT the entries that a call from CONTEXT may run are filled, as `pbx reach` finds them, and all others are grey.
+`pbx test --graph` colours the dialplan of tests by what they ran.
 
 With --asterisk included files, templates and block comments are read too. If lines have faults, each fault is printed on standard
 error with its file and line, and the status is 1.

@@ -11,7 +11,7 @@ use std::test::Fail;
 pub(super) struct Entries;
 
 /// Adds an entry.
-fn push_entry(out: &mut String, plan: &Dialplan, id: EntryId) -> Result<(), Fail> {
+pub(super) fn push_entry(out: &mut String, plan: &Dialplan, id: EntryId) -> Result<(), Fail> {
     let (Some(context), Some(entry)) = (plan.contexts().get(id.context), plan.entry(id)) else {
         return Err(Fail::from("no such entry"));
     };

@@ -24,7 +24,7 @@ NoOp|x→
 busy|→
 Ringing|x→
 SayDigits|1→
-VoiceMail|100→
+Playtones|x→
 Nothing|x→anything
 |→anything
 # A name and its value: a variable, a cell, or what a function names.

@@ -109,3 +109,10 @@ returns-in-GraphIncluding-clause-serves g c = rw c.in-GraphIncluding.is c.serve_
 -- it is asked what a call may run
 pub returns-in-ReachIncluding-clause-serves : goal.returns-in-ReachIncluding-clause-serves
 returns-in-ReachIncluding-clause-serves g c = rw c.in-ReachIncluding.is c.serve_reach_including.ensures.serves
+
+-- or what it reaches only before or after a change
+pub returns-in-ReachDiff-clause-serves : goal.returns-in-ReachDiff-clause-serves
+returns-in-ReachDiff-clause-serves g c = rw c.in-ReachDiff.is c.serve_reach_diff.ensures.serves
+
+pub returns-in-ReachDiffIncluding-clause-serves : goal.returns-in-ReachDiffIncluding-clause-serves
+returns-in-ReachDiffIncluding-clause-serves g c = rw c.in-ReachDiffIncluding.is c.serve_reach_diff_including.ensures.serves

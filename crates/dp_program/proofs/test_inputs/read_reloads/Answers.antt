@@ -16,8 +16,8 @@ loop-named-preserved g c =
     let split : map named_now (drop c.loop-named.named-index c.args.lines.now) ≡ named ∷ rest =
     ap (map named_now) (drop_more c.args.lines.now c.loop-named.named-index none c.loop-named-test.true) in
     λ after later. c.loop-named.invariant after
-    (subst (λ (names : List NamedOf). AreReloads files c.args.clock c.args.path.now names (reloads_now c.loop-named.reloads) after) (sym split) (
+    (subst (λ (names : List NamedOf). AreReloads files c.args.reading c.args.path.now names (reloads_now c.loop-named.reloads) after) (sym split) (
       read_now c.in_ok-read.read,
       c.in_ok-read.ensures,
-      subst (λ (reloads : ReloadsOf). AreReloads files c.args.clock c.args.path.now rest reloads after) c.in_ok-push_read.ensures later,
+      subst (λ (reloads : ReloadsOf). AreReloads files c.args.reading c.args.path.now rest reloads after) c.in_ok-push_read.ensures later,
     ))

@@ -1,11 +1,10 @@
 use Rattle.std.proofs.Common.{ℕ, List, Err, sym, subst}
-use Rattle.std.specs.Option.{option_map}
 use Rattle.dp_program.specs.Dialplans.{text_now}
 use Rattle.dp_program.specs.Files.{Source}
 use Rattle.dp_program.specs.QueueTexts.{ReadsQueues}
 use Rattle.dp_program.specs.Serves.{RunsPlan}
 use Rattle.dp_program.specs.Texts.{paths_of}
-use Rattle.dp_program.specs.WideRuns.{manner_of}
+use Rattle.dp_program.specs.WideRuns.{manner_of, reading_of}
 use Rattle.dp_program.specs.declared.faulted.Faulted.{Faulted}
 use Rattle.dp_program.proofs.QueueLemmas.{queues_refused}
 use Rattle.dp_program.proofs.ServesLemmas.{plan_lacks}
@@ -16,11 +15,11 @@ pub returns-in-Err-clause-serves : goal.returns-in-Err-clause-serves
 returns-in-Err-clause-serves g c =
     let files = g.F.ReadFiles.source_at c.args.files.now in
     let path = c.args.first.path.now in
-    let clock = option_map (λ word. word.now) c.args.asked.clock in
+    let reading = reading_of c.args.asked in
     let paths = paths_of c.args.asked.files.now in
     let manner = manner_of c.args.asked in
     let old = g.W.WriteTold.contents c.args.output.now in
     let plan = text_now c.args.first.plan.now in
-    subst (λ (faulted : Faulted). ReadsQueues files path (λ (files : List ℕ → Source). RunsPlan clock paths files manner old old plan) old old (Err faulted)) (sym c.from.ensures)
-    (queues_refused files path (λ (files : List ℕ → Source). RunsPlan clock paths files manner old old plan) old (λ files. plan_lacks clock paths files manner old plan) _
+    subst (λ (faulted : Faulted). ReadsQueues files path (λ (files : List ℕ → Source). RunsPlan reading paths files manner old old plan) old old (Err faulted)) (sym c.from.ensures)
+    (queues_refused files path (λ (files : List ℕ → Source). RunsPlan reading paths files manner old old plan) old (λ files. plan_lacks reading paths files manner old plan) _
     c.in-Err.ensures.path c.in-Err.ensures.read)

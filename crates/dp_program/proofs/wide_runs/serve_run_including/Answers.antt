@@ -1,29 +1,32 @@
-use Rattle.std.proofs.Common.{Err, sym, subst}
+use Rattle.std.proofs.Common.{◌∙◌, Err, ap, sym, subst}
 use Rattle.std.specs.Option.{option_map}
-use Rattle.dp_program.specs.Dialplans.{OnDialplan, ReadsDialplan}
-use Rattle.dp_program.specs.Including.{MayTellOf}
-use Rattle.dp_program.specs.Serves.{RunsQueues}
+use Rattle.dp_program.specs.Faulted.{nowhere}
+use Rattle.dp_program.specs.Serves.{RunsAssuming, RunsIncluding, reading_by}
 use Rattle.dp_program.specs.Texts.{paths_of}
 use Rattle.dp_program.specs.WideRuns.{manner_of}
-use Rattle.dp_program.proofs.ServesLemmas.{queues_plan_lacks}
-use Rattle.dp_program.specs.declared.dialplans.PlanUse.TheVariants.{Run}
 use Rattle.dp_program.specs.declared.faulted.Faulted.{Faulted}
-use Rattle.dp_program.proofs.DialplanLemmas.{dialplan_known, dialplan_refused}
+use Rattle.dp_program.proofs.ServesLemmas.{including_lacks}
 use Rattle.dp_program.proofs.wide_runs.serve_run_including.Goals as goal
 
--- the run uses the generated text
-pub returns-in-Ok-Loads-clause-serves : goal.returns-in-Ok-Loads-clause-serves
-returns-in-Ok-Loads-clause-serves g c =
-    let old = g.W.WriteTold.contents c.args.output.now in
-    let new = g.W.WriteTold.contents c.run_with_queues.new.output in
-    dialplan_known Run (option_map (λ word. word.now) c.args.asked.clock) c.args.asked.files.now.plan.now (MayTellOf (g.F.ReadFiles.source_at c.args.files.now) c.args.asked.files.now.plan.now) _
-    (λ read. OnDialplan (RunsQueues (option_map (λ word. word.now) c.args.asked.clock) (paths_of c.args.asked.files.now) (g.F.ReadFiles.source_at c.args.files.now) (manner_of c.args.asked) old new) c.args.asked.files.now.plan.now old new read c.run_with_queues.result)
-    (rw c.in-Ok-Loads.field-0-is at c.in-Ok-Loads.ensures.read) c.run_with_queues.ensures.serves
+-- the script was read for what it assumes
+pub returns-in-Ok-clause-serves : goal.returns-in-Ok-clause-serves
+returns-in-Ok-clause-serves g c =
+    let clock = option_map (λ word. word.now) c.args.asked.clock in
+    let script = c.in-Ok.ensures in
+    record {
+      text = script.text;
+      given = script.given;
+      holds = subst (λ assumed. RunsAssuming (reading_by clock assumed) (paths_of c.args.asked.files.now) (g.F.ReadFiles.source_at c.args.files.now) (manner_of c.args.asked) (g.W.WriteTold.contents c.args.output.now) (g.W.WriteTold.contents c.serve_run_assuming.new.output) c.serve_run_assuming.result)
+          script.holds c.serve_run_assuming.ensures.serves;
+    }
 
--- the first file could not be read
+-- memory ran out
 pub returns-in-Err-clause-serves : goal.returns-in-Err-clause-serves
 returns-in-Err-clause-serves g c =
-    subst (λ (faulted : Faulted). ReadsDialplan Run (option_map (λ word. word.now) c.args.asked.clock) (g.F.ReadFiles.source_at c.args.files.now) c.args.asked.files.now.plan.now (RunsQueues (option_map (λ word. word.now) c.args.asked.clock) (paths_of c.args.asked.files.now) (g.F.ReadFiles.source_at c.args.files.now) (manner_of c.args.asked) (g.W.WriteTold.contents c.args.output.now) (g.W.WriteTold.contents c.args.output.now)) (g.W.WriteTold.contents c.args.output.now) (g.W.WriteTold.contents c.args.output.now) (Err faulted))
-    (sym c.from.ensures)
-    (dialplan_refused (RunsQueues (option_map (λ word. word.now) c.args.asked.clock) (paths_of c.args.asked.files.now) (g.F.ReadFiles.source_at c.args.files.now) (manner_of c.args.asked) (g.W.WriteTold.contents c.args.output.now) (g.W.WriteTold.contents c.args.output.now)) c.args.asked.files.now.plan.now (g.W.WriteTold.contents c.args.output.now)
-    (queues_plan_lacks (option_map (λ word. word.now) c.args.asked.clock) (paths_of c.args.asked.files.now) (g.F.ReadFiles.source_at c.args.files.now) (manner_of c.args.asked) (g.W.WriteTold.contents c.args.output.now)) Run (option_map (λ word. word.now) c.args.asked.clock) (g.F.ReadFiles.source_at c.args.files.now) _ c.in-Err.ensures.path c.in-Err.ensures.read)
+    let clock = option_map (λ word. word.now) c.args.asked.clock in
+    let paths = paths_of c.args.asked.files.now in
+    let files = g.F.ReadFiles.source_at c.args.files.now in
+    let manner = manner_of c.args.asked in
+    let old = g.W.WriteTold.contents c.args.output.now in
+    subst (λ (faulted : Faulted). RunsIncluding clock paths files manner old old (Err faulted)) (sym (c.from-in-Err.ensures ∙ ap nowhere c.from.ensures))
+    (including_lacks clock paths files manner old)
