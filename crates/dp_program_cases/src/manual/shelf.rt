@@ -172,11 +172,31 @@ fn check_commands<R: Threads + Wait + Sync + Abort + AllocGlobal>(
 /// Each example prints what the documents say.
 #[test]
 fn examples_print_what_the_documents_say(rt: HostRuntime) -> Result<(), Fail> {
-    check_commands(&rt, EXAMPLES)?;
-    check_commands(&rt, OFFICE)?;
-    check_commands(&rt, REACHES)?;
-    check_commands(&rt, DIALPLANS)?;
-    check_commands(&rt, CALLS)?;
+    check_commands(&rt, EXAMPLES)
+}
+
+#[test]
+fn examples_of_the_office_print_what_the_documents_say(rt: HostRuntime) -> Result<(), Fail> {
+    check_commands(&rt, OFFICE)
+}
+
+#[test]
+fn examples_of_reach_print_what_the_documents_say(rt: HostRuntime) -> Result<(), Fail> {
+    check_commands(&rt, REACHES)
+}
+
+#[test]
+fn examples_of_dialplans_print_what_the_documents_say(rt: HostRuntime) -> Result<(), Fail> {
+    check_commands(&rt, DIALPLANS)
+}
+
+#[test]
+fn examples_of_calls_print_what_the_documents_say(rt: HostRuntime) -> Result<(), Fail> {
+    check_commands(&rt, CALLS)
+}
+
+#[test]
+fn examples_over_the_wide_table_print_what_the_documents_say(rt: HostRuntime) -> Result<(), Fail> {
     check_commands(&rt, WIDE)
 }
 

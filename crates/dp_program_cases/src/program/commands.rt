@@ -1,7 +1,7 @@
 //! The commands, over files: their whole output, and their statuses.
 use crate::program::json::JSON;
-use crate::program::mistakes::{check_helps, check_mistakes};
 use dp_program_fixture::{check_table, make_folder};
+use std::env::Env;
 use std::rt::Files;
 use std::sync::Wait;
 use std::test::Fail;
@@ -689,21 +689,17 @@ const INPUTS: &str = "\
 check @empty←[main]¶exten => 100,1,NoOp(hello)¶exten => 100,2,Goto(200,1)¶exten => 200,1,Hangup()¶;; script¶start main 100¶step 1 3¶→0→ok 0 contexts 0 entries¶→
 ";
 
-/// All the tables.
-const TABLES: [&str; 19] = [
-    CHECKS,
-    LISTS,
-    MATCHES,
-    REACHES,
-    AUDITS,
-    JSON,
-    EXPLAINS,
-    EXPLAINED,
+/// The tables of the questions on a dialplan.
+const QUESTIONS: [&str; 5] = [CHECKS, LISTS, MATCHES, REACHES, AUDITS];
+
+/// The tables of what is explained, compared, drawn, or printed for other tools.
+const PRINTS: [&str; 5] = [EXPLAINS, EXPLAINED, DIFFS, GRAPHS, JSON];
+
+/// The tables of what runs.
+const ALL_RUNS: [&str; 9] = [
     RUNS,
     ASTERISK_RUNS,
     ASTERISK_DEBUGS,
-    DIFFS,
-    GRAPHS,
     TESTS,
     VERBOSE_RUNS,
     THREAD_RUNS,
@@ -712,21 +708,32 @@ const TABLES: [&str; 19] = [
     INPUTS,
 ];
 
-fn check_all<R: Files + Threads + Wait + Sync + AllocGlobal + Clone + Drop>(
+/// Checks each case of some tables, over the files of a folder with this name, which is removed. The number is that of the process.
+fn check_tables<R: Files + Env + Threads + Wait + Sync + AllocGlobal + Clone + Drop>(
     rt: &R,
-    folder: &str,
+    name: &str,
+    number: u32,
+    tables: &[&str],
 ) -> Result<(), Fail> {
-    for table in &TABLES {
-        check_table(rt, folder, table)?;
+    let folder = make_folder(rt, name, number)?;
+    for table in tables {
+        check_table(rt, &folder, table)?;
     }
-    check_mistakes(rt, folder)?;
-    check_helps(rt, folder)
+    fs::remove_dir_all(rt, folder.as_str())?;
+    Ok(())
 }
 
 #[test]
-fn output_and_status_of_command_lines(rt: HostRuntime) -> Result<(), Fail> {
-    let folder = make_folder(&rt, "small", process::id(rt.process()))?;
-    check_all(&rt, &folder)?;
-    fs::remove_dir_all(&rt, folder.as_str())?;
-    Ok(())
+fn questions_on_dialplans_are_answered(rt: HostRuntime) -> Result<(), Fail> {
+    check_tables(&rt, "questions", process::id(rt.process()), &QUESTIONS)
+}
+
+#[test]
+fn dialplans_are_explained_compared_and_drawn(rt: HostRuntime) -> Result<(), Fail> {
+    check_tables(&rt, "prints", process::id(rt.process()), &PRINTS)
+}
+
+#[test]
+fn scripts_and_tests_run(rt: HostRuntime) -> Result<(), Fail> {
+    check_tables(&rt, "runs", process::id(rt.process()), &ALL_RUNS)
 }

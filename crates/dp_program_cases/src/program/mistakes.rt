@@ -1,9 +1,10 @@
 //! Command lines that are refused or that ask for help: their whole output, and their statuses.
-use dp_program_fixture::{check_line, in_a_line};
+use dp_program_fixture::{check_line, in_a_line, make_folder};
 use std::rt::Files;
 use std::sync::Wait;
 use std::test::Fail;
 use std::thread::Threads;
+use std::{fs, process};
 
 /// Command lines that are refused, each with its mistake and with the usage that is printed below it.
 const MISTAKES: &str = "\
@@ -102,7 +103,7 @@ fn check_mistake<R: Files + Threads + Wait + Sync + AllocGlobal + Clone + Drop>(
 }
 
 /// Asserts the whole output of the refused command lines, and their statuses.
-pub(super) fn check_mistakes<R: Files + Threads + Wait + Sync + AllocGlobal + Clone + Drop>(
+fn check_mistakes<R: Files + Threads + Wait + Sync + AllocGlobal + Clone + Drop>(
     rt: &R,
     folder: &str,
 ) -> Result<(), Fail> {
@@ -622,12 +623,28 @@ fn check_help<R: Files + Threads + Wait + Sync + AllocGlobal + Clone + Drop>(
 }
 
 /// Asserts the whole output of the command lines that ask for help, and their statuses.
-pub(super) fn check_helps<R: Files + Threads + Wait + Sync + AllocGlobal + Clone + Drop>(
+fn check_helps<R: Files + Threads + Wait + Sync + AllocGlobal + Clone + Drop>(
     rt: &R,
     folder: &str,
 ) -> Result<(), Fail> {
     for (words, help) in &HELPS {
         check_help(rt, folder, words, help)?;
     }
+    Ok(())
+}
+
+#[test]
+fn mistakes_are_refused(rt: HostRuntime) -> Result<(), Fail> {
+    let folder = make_folder(&rt, "mistakes", process::id(rt.process()))?;
+    check_mistakes(&rt, &folder)?;
+    fs::remove_dir_all(&rt, folder.as_str())?;
+    Ok(())
+}
+
+#[test]
+fn help_is_printed(rt: HostRuntime) -> Result<(), Fail> {
+    let folder = make_folder(&rt, "help", process::id(rt.process()))?;
+    check_helps(&rt, &folder)?;
+    fs::remove_dir_all(&rt, folder.as_str())?;
     Ok(())
 }
