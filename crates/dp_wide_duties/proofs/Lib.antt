@@ -1,1 +1,4 @@
+pub mod DeviceLemmas
 pub mod FrontLemmas
+pub mod LeadingLemmas
+pub mod OptionLemmas

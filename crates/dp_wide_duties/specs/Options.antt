@@ -83,14 +83,26 @@ may_open (Known b) = false
 may_open (OneOf set) = set (byte "(")
 may_open (AnyOf set) = set (byte "(")
 
-abbrev pub any_opens : List Piece → Bool
-any_opens [] = false
-any_opens (piece ∷ pieces) = may_open piece || any_opens pieces
+-- pieces begin with what opens the text of an option
+abbrev pub begin_open : List Piece → Bool
+begin_open [] = false
+begin_open (piece ∷ pieces) = opens piece
+
+-- any number of unknown bytes, or none, stand right before the text of an option, so that its letter may be an earlier byte
+abbrev pub hides_letter : Piece → List Piece → Bool
+hides_letter (Known b) pieces = false
+hides_letter (OneOf set) pieces = false
+hides_letter (AnyOf set) pieces = begin_open pieces
+
+-- it is not known where options have texts, or which letters they have
+abbrev pub are_unsure : List Piece → Bool
+are_unsure [] = false
+are_unsure (piece ∷ pieces) = may_open piece || (hides_letter piece pieces || are_unsure pieces)
 
 -- the duties of options; if they are not known, any text of their bytes may be the text of one
 abbrev pub options_owed : Area → List Piece → List Duty
 options_owed area options =
-    if any_opens options then option_owed area (pieces_set options) (with_commas (any_bytes_of (pieces_set options))) else known_owed area options
+    if are_unsure options then option_owed area (pieces_set options) (with_commas (any_bytes_of (pieces_set options))) else known_owed area options
 
 -- the duties of the name of a macro and of a subroutine, each with its arguments; an empty one runs nothing
 abbrev pub started_macro : Area → List Piece → List Duty

@@ -8,6 +8,7 @@ mod calls;
 mod choices;
 mod devices;
 mod held;
+pub mod laws;
 mod macros;
 mod naming;
 mod options;

@@ -281,13 +281,33 @@ fn may_open(piece: &Piece) -> bool
     }
 }
 
-/// Whether an unknown piece may open the text of an option.
-fn any_opens(pieces: &[Piece]) -> bool
-    ensures { result ≡ spec.any_opens (shown_all pieces.now) }
+/// Whether pieces begin with what opens the text of an option.
+fn begin_open(pieces: &[Piece]) -> bool
+    ensures { result ≡ spec.begin_open (shown_all pieces.now) }
+{
+    match pieces.first() {
+        Some(piece) => opens(piece),
+        None => false,
+    }
+}
+
+/// Whether any number of unknown bytes, or none, stand right before the text of an option, so that its letter may be an earlier byte.
+fn hides_letter(piece: &Piece, rest: &[Piece]) -> bool
+    ensures { result ≡ spec.hides_letter (shown_piece piece.now) (shown_all rest.now) }
+{
+    match piece {
+        Piece::Known(_) | Piece::OneOf(_) => false,
+        Piece::AnyOf(_) => begin_open(rest),
+    }
+}
+
+/// Whether it is not known where options have texts, or which letters they have.
+fn are_unsure(pieces: &[Piece]) -> bool
+    ensures { result ≡ spec.are_unsure (shown_all pieces.now) }
 {
     let mut left = pieces;
     while let Some((first, rest)) = left.split_first() {
-        if may_open(first) {
+        if may_open(first) || hides_letter(first, rest) {
             return true;
         }
         left = rest;
@@ -305,7 +325,7 @@ pub(crate) fn push_options(
     ensures { OnOk result (shown_duties duties.new.items ≡ shown_duties duties.old.items
         ++ spec.options_owed (shown_area area.now) (shown_all options.now)) }
 {
-    if !any_opens(options) {
+    if !are_unsure(options) {
         return push_known(alloc, area, options, duties);
     }
     let any = any_of(alloc, options)?;

@@ -69,6 +69,9 @@ Dial|SIP/1,,b(ou^h^1(x^y))→DIALSTATUS {ACHILNUV} ; ARGC {0123456789} ; to ou,h
 Dial|SIP/1,,G(ou^9^1)→DIALSTATUS {ACHILNUV} ; ARGC {0123456789} ; to ou,9
 Dial|SIP/1,,F(1)→DIALSTATUS {ACHILNUV} ; ARGC {0123456789} ; to from,{0123456789}*
 Dial|SIP/1,,L(1)→DIALSTATUS {ACHILNUV}
+Dial|SIP/1,,{bx}(ou^9^1)→DIALSTATUS {ACHILNUV} ; ARGC {0123456789} ; to ou,9
+# An unknown text right before the parenthesis may be empty, so that the letter is the one before it.
+Dial|SIP/1,,b{x}*(ou^9^1)→DIALSTATUS {ACHILNUV} ; ARGC {0123456789} ; to {(),19^boux}*,{(),19^boux}* ; to {(),19^boux}*,{0123456789}* ; to from,{(),19^boux}* ; to from,{0123456789}* ; each {(),19^boux}
 Page|SIP/1,b(a^b^1)→ARGC {0123456789} ; to a,b
 Queue|q,,,,,,m,sub→waits ; QUEUESTATUS {KNOUW} ; QUEUESTATUS {EIJMNOPTY} ; QUEUESTATUS {FLU} ; MACRO_EXTEN {0123456789} ; MACRO_CONTEXT {fmor} ; MACRO_PRIORITY {0123456789} ; ARGC {0123456789} ; to macro-m,s ; ARGC {0123456789} ; to sub,s
 ";
