@@ -7,9 +7,9 @@ use Rattle.clap.specs.declared.error.kind.ErrorKind.{ErrorKind}
 use Rattle.clap.specs.declared.error.kind.ErrorKind.TheVariants.{OutOfMemory}
 use Rattle.dp_conf.specs.Words.{same_text}
 use Rattle.dp_program.specs.Requests.{RequestOf, explaining}
-use Rattle.dp_cli.specs.CommandLine.{asked_by, request_of_command, takes_clock, takes_clock_by, audit_asked, audit_by, audit_in, audit_named, check_asked, command_asked, debug_asked, diff_asked, graph_asked, test_asked, explain_asked, fault_in, list_asked, match_asked, match_at, priority_in, reach_asked, run_asked, run_by, run_in, run_over, run_wide_in, is_set, has_threads, threads_in}
+use Rattle.dp_cli.specs.CommandLine.{asked_by, request_of_command, takes_clock, takes_clock_by, audit_asked, audit_by, audit_in, check_asked, command_asked, debug_asked, diff_asked, graph_asked, test_asked, explain_asked, fault_in, list_asked, match_asked, match_at, priority_in, reach_asked, run_asked, run_by, run_in, run_over, run_wide_in, is_set, has_threads, threads_in}
 use Rattle.dp_wide.specs.Times.{moment_of}
-use Rattle.dp_wide_runs.specs.Kinds.{KindsTold, all, only, except, are_kinds}
+use Rattle.dp_wide_runs.specs.Kinds.{all, only, except, are_kinds}
 use Rattle.dp_cli.specs.Refusals.{audit_kinds_by, clock_kinds, clock_kinds_by, unless_moment, command_kinds, conflict_kinds, kinds_by, number_kinds, run_kinds_over, unless_kinds, unless_number}
 
 -- one of the first kinds is one of all kinds

@@ -1,11 +1,10 @@
 -- Commands over dialplans that are read with the files that they include.
-use Rattle.std.proofs.Common.{◌≡◌, ℕ, Bool, true, false, List, [], Option, Some, None, Result, Ok, Err, refl, sym, ap, ◌∙◌, subst, inl}
+use Rattle.std.proofs.Common.{◌≡◌, ℕ, false, List, Option, Some, Result, Ok, Err, refl, sym, ap, subst, inl}
 use Rattle.std.proofs.KnownBytes.{Appends-nil}
 use Rattle.dp_conf.specs.Answers.{Refuses}
 use Rattle.dp_commands.specs.Faults.{reason_of}
-use Rattle.dp_commands.specs.declared.fault.Code.{Code}
 use Rattle.dp_commands.specs.declared.fault.PbxFault.{PbxFault}
-use Rattle.dp_commands.specs.declared.fault.PbxFault.TheVariants.{Coded, NoMemory}
+use Rattle.dp_commands.specs.declared.fault.PbxFault.TheVariants.{NoMemory}
 use Rattle.dp_files.specs.FolderFiles.{ReadsFolder, nothing_known}
 use Rattle.dp_files.specs.Sources.{Telling}
 use Rattle.dp_notices.specs.PlanFiles.{plan_of}

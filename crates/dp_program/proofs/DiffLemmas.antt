@@ -1,7 +1,7 @@
 -- The differences between two dialplans that are read from files.
 use Rattle.std.proofs.Common.{◌≡◌, ◌≢◌, ℕ, ◌-◌, ◌^◌, min, List, [], ◌∷◌, length, Option, Some, None, Result, Ok, Err, refl, sym, ap, ◌∙◌, subst, arith}
 use Rattle.std.proofs.KnownBytes.{Appends-nil}
-use Rattle.dp_conf.specs.Answers.{Answers, Refuses, ◌>>=◌}
+use Rattle.dp_conf.specs.Answers.{Answers, Refuses}
 use Rattle.std.proofs.Math.Seq.{take-append_seam, take-length}
 use Rattle.dp_conf.specs.Fronts.{AppendsFront}
 use Rattle.dp_plan.specs.Plan.{PlanOf}

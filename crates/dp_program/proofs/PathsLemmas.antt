@@ -12,7 +12,7 @@ use Rattle.dp_commands.specs.declared.fault.PbxFault.{PbxFault}
 use Rattle.dp_commands.specs.declared.fault.PbxFault.TheVariants.{Coded}
 use Rattle.dp_files.specs.FolderFiles.{MayRead}
 use Rattle.dp_files.specs.Sources.{TooLong as long_text}
-use Rattle.dp_program.specs.Files.{Source, IsTextOf, Reads, is_read_fault, read_fault, whole_text}
+use Rattle.dp_program.specs.Files.{Source, IsTextOf, Reads, is_read_fault, read_fault}
 use Rattle.dp_program.specs.Including.{AreBytes, MayHold}
 
 -- ---- bytes

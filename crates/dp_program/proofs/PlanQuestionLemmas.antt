@@ -4,7 +4,7 @@ use Rattle.dp_commands.specs.declared.fault.PbxFault.TheVariants.{NoMemory}
 use Rattle.dp_program.specs.Dialplans.{PlanTextOf, with_text}
 use Rattle.dp_program.specs.Faulted.{nowhere}
 use Rattle.dp_program.specs.Files.{Source}
-use Rattle.dp_program.specs.PlanQuestions.{OnSecond, OverBothIncluded, OverIncluded, OverPlan, Serving, WithQueues}
+use Rattle.dp_program.specs.PlanQuestions.{OverMadePlan, OverBothIncluded, OverIncluded, OverPlan, Serving, WithQueues}
 use Rattle.dp_program.specs.declared.dialplans.PlanUse.{PlanUse}
 use Rattle.dp_program.specs.declared.dialplans.PlanUse.TheVariants.{Report}
 use Rattle.dp_program.proofs.DialplanLemmas.{dialplan_lacks}
@@ -29,5 +29,5 @@ module _ (serves : Serving) (old : Option (List ℕ)) (lacks : (files : List ℕ
 pub over_both_lacks : (serves : Serving) (old : Option (List ℕ)) (lacks : (files : List ℕ → Source) → serves files old old (Err (nowhere NoMemory)))
     (clock : Option (List ℕ)) (files : List ℕ → Source) (before after : List ℕ) → OverBothIncluded serves clock files before after old old (Err (nowhere NoMemory))
 over_both_lacks serves old lacks clock files before after =
-    over_included_lacks (OnSecond serves clock after) old (λ files. over_included_lacks serves old lacks Report clock files after None) Report clock files before
+    over_included_lacks (OverMadePlan serves clock after) old (λ files. over_included_lacks serves old lacks Report clock files after None) Report clock files before
     None

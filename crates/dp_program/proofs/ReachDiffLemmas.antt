@@ -1,5 +1,5 @@
 -- What a call reaches in two dialplans, before and after a change.
-use Rattle.std.proofs.Common.{◌≡◌, ◌-◌, ◌^◌, ◌==◌, ℕ, Bool, List, Option, Result, Ok, Err, min, refl, inl, inr, arith}
+use Rattle.std.proofs.Common.{◌≡◌, ◌-◌, ◌^◌, ◌==◌, ℕ, Bool, List, Option, Ok, Err, min, inl, inr, arith}
 use Rattle.std.proofs.KnownBytes.{Appends-nil}
 use Rattle.std.proofs.lemmas.Bool.Decides.{nat_tests}
 use Rattle.dp_app.specs.Rows.{Meanings}

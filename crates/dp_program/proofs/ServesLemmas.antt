@@ -8,7 +8,7 @@ use Rattle.dp_commands.specs.Audit.{Audited, WritesAudit}
 use Rattle.dp_commands.specs.Debug.{DebugRun, WritesDebug}
 use Rattle.dp_commands.specs.Faults.{reason_of}
 use Rattle.dp_commands.specs.Report.{Reports}
-use Rattle.dp_commands.specs.Run.{Files, Run, Writes, files_of}
+use Rattle.dp_commands.specs.Run.{Files, Run, Writes}
 use Rattle.dp_commands.specs.Verbose.{InForce, WritesVerbose, WritesVerboseDebug}
 use Rattle.dp_commands.specs.declared.fault.Code.{Code}
 use Rattle.dp_commands.specs.declared.fault.PbxFault.{PbxFault}
@@ -36,13 +36,13 @@ use Rattle.dp_program.specs.Entries.{explanation_of}
 use Rattle.dp_program.specs.Serves.{AuditsAsked, AuditsFile, AuditsFileBy, AuditsText, ChecksBoth, DebugsAsked, DebugsFiles, DebugsFilesVerbosely, DebugsVerbosely, ListsText, LooksUp, LooksUpText, PlacesOf, ReportsOn, Runs, RunsBeside, RunsPlan, RunsPlans, RunsSecond, RunsAsked, RunsAssuming, RunsFiles, RunsIncluding, RunReading, reading_by, RunsFilesVerbosely, RunsFilesWide, RunsVerbosely, RunsWide, Serves, SharesSome, WritesChoiceBy, audit_by, debug_of_texts, files_read, in_force_at, in_force_at_first, look_up, places_read, run_of_texts, wide_run_of_texts, RunsFilesWideVerbosely, RunsTextsWideVerbosely, RunsWideAsked, RunsWideBy, RunsWideVerbosely, RunManner, RunsQueues, RunsWithQueues, DebugsFilesWide, DebugsFilesWideVerbosely, DebugsTextsWideVerbosely, DebugsWide, DebugsWideVerbosely, debugging, running, wide_debug_of_texts, Compares}
 use Rattle.dp_program.specs.ScriptAssumptions.{look_up_use, text_assumptions}
 use Rattle.dp_program.specs.TestSuites.{manner_of}
-use Rattle.dp_program.specs.Texts.{OfRun, ReadsTexts, all_texts, some_text, sources_of}
+use Rattle.dp_program.specs.Texts.{OfRun, ReadsTexts, all_texts, sources_of}
 use Rattle.dp_program.specs.declared.dialplans.PlanUse.TheVariants.{Report, Run as to_run}
 use Rattle.dp_program.specs.declared.faulted.Faulted.{Faulted}
 use Rattle.dp_program.specs.declared.faulted.Unread.{Unread}
 use Rattle.dp_program.specs.declared.hints.Served.{Served}
 use Rattle.dp_plan.specs.Plan.{PlanOf}
-use Rattle.dp_wide_runs.specs.Debugging.{WideDebug, WritesWideDebug}
+use Rattle.dp_wide_runs.specs.Debugging.{WideDebug}
 use Rattle.dp_wide_runs.specs.Kinds.{ChoiceOf}
 use Rattle.dp_wide_runs.specs.Runs.{WideRun}
 use Rattle.dp_wide_runs.specs.WideAudits.{plan_of}

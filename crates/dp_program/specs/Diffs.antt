@@ -1,5 +1,5 @@
 -- What is written about the differences between two dialplans.
-use Rattle.std.specs.Prelude.{◌≡◌, ℕ, List, [], ◌∷◌, Option, Some, None, Result, Ok, Err}
+use Rattle.std.specs.Prelude.{◌≡◌, ℕ, List, [], ◌∷◌, Option, None, Result, Ok, Err}
 use Rattle.std.specs.Io.KnownBytes.{Appends}
 use Rattle.dp_conf.specs.Answers.{Answers, ◌>>=◌}
 use Rattle.dp_conf.specs.Fronts.{AppendsFront}

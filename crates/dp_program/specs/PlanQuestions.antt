@@ -33,10 +33,10 @@ OverIncluded serves purpose clock files path queues old new answered =
 
 -- the same for a question on files in which the second of two dialplans, at this path, has the text that is made from its file and from
 -- those that it includes
-abbrev pub OnSecond : Serving → Option (List ℕ) → List ℕ → Serving
-OnSecond serves clock after files old new answered = OverIncluded serves Report clock files after None old new answered
+abbrev pub OverMadePlan : Serving → Option (List ℕ) → List ℕ → Serving
+OverMadePlan serves clock after files old new answered = OverIncluded serves Report clock files after None old new answered
 
 -- the same for both dialplans, before and after a change: the one before it is read first
 abbrev pub OverBothIncluded : Serving → Option (List ℕ) → (List ℕ → Source) → List ℕ → List ℕ → Option (List ℕ) → Option (List ℕ) → Result Served Faulted → Type 0
 OverBothIncluded serves clock files before after old new answered =
-    OverIncluded (OnSecond serves clock after) Report clock files before None old new answered
+    OverIncluded (OverMadePlan serves clock after) Report clock files before None old new answered

@@ -24,7 +24,7 @@ struct OnMadePlan<'r, 'a, Q> {
 }
 
 impl<'a, Q: PlanQuestion<'a>> PlanQuestion<'a> for OnMadePlan<'_, 'a, Q> {
-    ghost serves = { λ asked. spec.OnSecond (Q.serves asked.question.now) (option_map (λ word. word.now) asked.clock) asked.path.now };
+    ghost serves = { λ asked. spec.OverMadePlan (Q.serves asked.question.now) (option_map (λ word. word.now) asked.clock) asked.path.now };
 
     fn answer<F: ReadFiles, W: WriteTold>(
         &self,

@@ -1,5 +1,4 @@
 use Rattle.std.proofs.lemmas.Result.{err_from_is_err_and}
-use Rattle.clap.specs.Kinds.{Kinds}
 use Rattle.clap.specs.Simple.{subcommand_of, subcommand_rows_of}
 use Rattle.dp_cli.proofs.RefusalsLemmas.{has_first, none_left, request_clock}
 use Rattle.dp_cli.specs.CommandLine.{asked_of, pbx_app, texts}
