@@ -12,19 +12,20 @@ use Rattle.dp_pieces.specs.Pieces.{AnyOf, Fits, Known, OneOf, Piece, any_bytes_o
 use Rattle.dp_pieces.proofs.ArgumentLemmas.{fits-arguments}
 use Rattle.dp_pieces.proofs.FitsLemmas.{fits-any_bytes_of, fits-exactly, fits-nothing, fits-set, fits-text_known}
 use Rattle.dp_pieces.proofs.WithinLemmas.{either-left, either-right}
-use Rattle.dp_wide.specs.Choices.{exec_if_title}
+use Rattle.dp_wide.specs.Choices.{exec_if_application, exec_if_title}
 use Rattle.dp_reach.specs.Areas.{Area, Covers, IsIn, area_at, may_be_empty}
 use Rattle.dp_reach.specs.Bounds.{Duties, Duty, Leads, Meets, MeetsAll}
 use Rattle.dp_reach.specs.Holding.{Claim}
 use Rattle.dp_reach.specs.Standard.{no_names, with_duties}
 use Rattle.dp_reach.proofs.TargetLemmas.{arguments-within}
 use Rattle.dp_wide_reach.specs.Choices.{anything_owed, exec_if_duties}
+use Rattle.dp_wide_reach.proofs.ExecIfRows.{OfCall, exec_if-held}
 use Rattle.dp_wide_reach.specs.Wide.{inner_duties}
 use Rattle.dp_wide_duties.specs.Arguments.{argument}
 use Rattle.dp_wide_duties.specs.Calling.{dial_leads, exten_in, exten_or_start, is_exten, member_leads, originate_leads, page_leads, queue_leads, second_owed}
 use Rattle.dp_wide_duties.specs.Devices.{devices_owed}
 use Rattle.dp_wide_duties.specs.Exchange.{besides, exchange_duties, listed_besides, met_duties, plain_duties}
-use Rattle.dp_wide_duties.specs.ExchangePlaces.{CoversLeading, IsDialledInto, Leading, StandsAt, argument_text, chosen_leading, device_leads as leading_by_device, dial_leading, directory_leading, disa_leading, has_letter, leading, leading_besides, listed_leading, mail_leading, no_leading, or_text, originate_leading, transfer_leads, with_leading}
+use Rattle.dp_wide_duties.specs.ExchangePlaces.{CoversLeading, IsDialledInto, Leading, StandsAt, argument_text, chosen_leading, device_leads as leading_by_device, dial_leading, directory_leading, disa_leading, exec_if_leading, has_letter, leading, leading_besides, listed_leading, mail_leading, no_leading, or_text, originate_leading, transfer_leads, with_leading, LeadsIn}
 use Rattle.dp_wide_duties.specs.Naming.{naming_leads}
 use Rattle.dp_wide_duties.specs.OptionTexts.{CoversMemberAt, CoversOptionsAt}
 use Rattle.dp_wide_duties.specs.Options.{options_owed, started_owed}
@@ -267,13 +268,33 @@ met-covers : (name : List ℕ) → CoversLeading (met_duties name) (leading name
 met-covers name claim area pieces own arguments inside fits met place leads =
     besides-covers name claim area pieces own arguments inside fits (met-rest claim (inner_duties name area pieces) (besides name area pieces) met) place leads
 
+-- nothing is known of an `ExecIf` that runs an application with these duties
+plain-covers : (name : List ℕ) → CoversLeading (plain_duties name) (leading name)
+plain-covers name = by (same_word name exec_if_title)
+  where
+    by : (b : Bool) → CoversLeading (if b then anything_owed else met_duties name) (leading name)
+    by true = λ claim area pieces own arguments inside fits met place leads. absurd met.0
+    by false = met-covers name
+
+exec_if-covers : (count : ℕ) → CoversLeading (exec_if_duties count plain_duties) (exec_if_leading count leading)
+exec_if-covers zero claim area pieces own arguments inside fits met place leads = absurd leads
+exec_if-covers (suc more) claim area pieces own arguments inside fits met place leads =
+    by (exec_if_application arguments)
+    (exec_if-held (with_duties exec_if_title (exec_if_duties more plain_duties) plain_duties) claim area
+    (λ name given. (spot : Place) → with_leading exec_if_title (exec_if_leading more leading) leading name own given spot → Covers claim.plan claim.reach spot)
+    (λ name side given fits met spot leads.
+    with-covers exec_if_title _ _ _ _ (exec_if-covers more) plain-covers name claim area side own given inside fits met spot leads)
+    pieces arguments fits met) leads
+  where
+    by : (o : Option (List ℕ × List ℕ))
+        → OfCall (λ name given. (spot : Place) → with_leading exec_if_title (exec_if_leading more leading) leading name own given spot → Covers claim.plan claim.reach spot) o
+        → LeadsIn (with_leading exec_if_title (exec_if_leading more leading) leading) own place o → Covers claim.plan claim.reach place
+    by None held leads = absurd leads
+    by (Some call) held leads = held place leads
+
 pub exchange-covers : (name : List ℕ) → CoversLeading (exchange_duties name) (leading_besides name)
 unfolding exchange_duties
-exchange-covers name = by (same_word name exec_if_title)
-  where
-    by : (b : Bool) → CoversLeading (if b then exec_if_duties 8 plain_duties else if b then anything_owed else met_duties name) (chosen_leading b no_leading (leading name))
-    by true = none-covers (exec_if_duties 8 plain_duties)
-    by false = met-covers name
+exchange-covers = with-covers exec_if_title _ _ _ _ (exec_if-covers 8) plain-covers
 
 -- ---- options
 

@@ -1,7 +1,7 @@
 -- Where a real exchange may lead a call that runs an application with known arguments, besides where this program's machine does: a relation of
 -- the call's own place, the arguments, and a place to which the call, or another one that begins there, may come. It follows the pages of the
--- Asterisk documentation on the applications and on the technology `Local`. What options, names that are set and `ExecIf` run is not in it.
-use Rattle.std.specs.Prelude.{◌≡◌, ◌⊎◌, ℕ, Bool, true, false, ◌||◌, ◌==◌, List, [], ◌∷◌, Option, Some, None, slice_get, unwrap_or, codes, if◌then◌else◌}
+-- Asterisk documentation on the applications and on the technology `Local`. What options and names that are set run is not in it.
+use Rattle.std.specs.Prelude.{◌≡◌, ◌⊎◌, ℕ, zero, suc, Bool, true, false, ◌||◌, ◌==◌, List, [], ◌∷◌, Option, Some, None, slice_get, unwrap_or, codes, if◌then◌else◌}
 use Rattle.std.specs.List.{list_any}
 use Rattle.std.specs.Str.{byte}
 use Rattle.dp_app.specs.declared.place.Place.{Place}
@@ -14,7 +14,7 @@ use Rattle.dp_pieces.specs.Pieces.{Fits, Piece}
 use Rattle.dp_reach.specs.Areas.{Area, Covers, IsIn}
 use Rattle.dp_reach.specs.Bounds.{Duties, MeetsAll}
 use Rattle.dp_reach.specs.Holding.{Claim}
-use Rattle.dp_wide.specs.Choices.{exec_if_title}
+use Rattle.dp_wide.specs.Choices.{exec_if_application, exec_if_title}
 use Rattle.dp_wide_duties.specs.Places.{dialled, listed}
 
 -- the place is an extension of a context
@@ -150,9 +150,20 @@ leading =
     (with_leading (codes "Originate") originate_leading
     (with_leading (codes "AddQueueMember") (device_leads 1) listed_leading)))))
 
--- the same, without what `ExecIf` runs
+-- where the application that an `ExecIf` runs leads, if there is one
+abbrev pub LeadsIn : (List ℕ → Leading) → Place → Place → Option (List ℕ × List ℕ) → Type 0
+LeadsIn leads own place None = ⊥
+LeadsIn leads own place (Some call) = leads call.0 own call.1 place
+
+-- the same, when so many may still run inside each other, including this one
+abbrev pub exec_if_leading : ℕ → (List ℕ → Leading) → Leading
+exec_if_leading zero leads own arguments place = ⊥
+exec_if_leading (suc more) leads own arguments place =
+    LeadsIn (with_leading exec_if_title (exec_if_leading more leads) leads) own place (exec_if_application arguments)
+
+-- the application with a name, which may be `ExecIf`, leads from a place to another
 abbrev pub leading_besides : List ℕ → Leading
-leading_besides = with_leading exec_if_title no_leading leading
+leading_besides = with_leading exec_if_title (exec_if_leading 8 leading) leading
 
 -- what meets these duties covers each place to which the application leads
 abbrev pub CoversLeading : Duties → Leading → Type 0

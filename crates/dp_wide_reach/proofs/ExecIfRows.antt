@@ -88,80 +88,98 @@ known-call pieces text fits call is = by (cut_known 40 pieces) refl (known-fits 
 comma-none : (condition : List Piece) (text : List ℕ) → Fits condition text → cut_level 44 0 condition ≡ Nowhere → cut_outside 44 text ≡ None
 comma-none condition text fits none = subst (λ c. IsCutAs c (cut_outside 44 text)) none (cut-level 44 condition text fits)
 
--- an application that a table runs, or the end of the call
-module _ (duties : List ℕ → Duties) (rows : Rows) (bounded : AreBounded duties rows) (claim : Claim) (area : Area) (cell : CellOf) (good : IsGood claim cell) (inside : IsIn area cell.place)
-    (own : Covers claim.plan claim.reach cell.place) where
-  called-inside : (name : List ℕ) (pieces : List Piece) (arguments : List ℕ) → Fits pieces arguments → MeetsAll claim (duties name area pieces)
-      → IsInside claim cell.place (row_or_end (rows name) arguments cell)
-  called-inside name pieces arguments fits met = by (rows name) refl
-    where
-      by : (o : Option Row) → rows name ≡ o → IsInside claim cell.place (row_or_end o arguments cell)
-      by None is = record { cell = good; next = tt }
-      by (Some row) is = bounded name row is claim area pieces arguments cell good inside own fits met
+-- what holds of a call of an application, if there is one
+abbrev pub OfCall : (List ℕ → List ℕ → Type 0) → Option (List ℕ × List ℕ) → Type 0
+OfCall holds None = Unit {0}
+OfCall holds (Some call) = holds call.0 call.1
 
+-- what holds of each application if its duties are met holds of the one that an `ExecIf` runs
+module _ (duties : List ℕ → Duties) (claim : Claim) (area : Area) (Held : List ℕ → List ℕ → Type 0)
+    (held : (name : List ℕ) (pieces : List Piece) (arguments : List ℕ) → Fits pieces arguments → MeetsAll claim (duties name area pieces) → Held name arguments) where
   -- a side that has more than blanks
-  bare-inside : (pieces : List Piece) (side : List ℕ) → Fits pieces (trim side) → MeetsAll claim (call_duties_by duties area (known_call pieces))
-      → IsInside claim cell.place (run_in rows (Some (called_side side)) cell)
-  bare-inside pieces side fits met = by (known_call pieces) refl met
+  bare-held : (pieces : List Piece) (side : List ℕ) → Fits pieces (trim side) → MeetsAll claim (call_duties_by duties area (known_call pieces))
+      → OfCall Held (Some (called_side side))
+  bare-held pieces side fits met = by (known_call pieces) refl met
     where
-      by : (o : Option (List ℕ × List Piece)) → known_call pieces ≡ o → MeetsAll claim (call_duties_by duties area o)
-          → IsInside claim cell.place (run_in rows (Some (called_side side)) cell)
+      by : (o : Option (List ℕ × List Piece)) → known_call pieces ≡ o → MeetsAll claim (call_duties_by duties area o) → OfCall Held (Some (called_side side))
       by None from met = absurd met.0
       by (Some call) from met =
           let called = known-call pieces (trim side) fits call from in
-          subst (λ name. IsInside claim cell.place (row_or_end (rows name) (called_side side).1 cell)) (sym called.name)
-          (called-inside call.0 call.1 (called_side side).1 called.fits met)
+          subst (λ name. Held name (called_side side).1) (sym called.name) (held call.0 call.1 (called_side side).1 called.fits met)
 
-  side-inside : (pieces : List Piece) (side : List ℕ) → Fits pieces side → (trim side ≡ [] → ⊥) → MeetsAll claim (side_duties duties area pieces)
-      → IsInside claim cell.place (run_in rows (Some (called_side side)) cell)
+  side-held : (pieces : List Piece) (side : List ℕ) → Fits pieces side → (trim side ≡ [] → ⊥) → MeetsAll claim (side_duties duties area pieces)
+      → OfCall Held (Some (called_side side))
   unfolding Fits
-  side-inside pieces side fits present met = by (without_end_blanks pieces) (fits-without_end_blanks pieces side fits) met
+  side-held pieces side fits present met = by (without_end_blanks pieces) (fits-without_end_blanks pieces side fits) met
     where
-      by : (bare : List Piece) → Fits bare (trim side) → MeetsAll claim (bare_side_duties duties area bare) → IsInside claim cell.place (run_in rows (Some (called_side side)) cell)
+      by : (bare : List Piece) → Fits bare (trim side) → MeetsAll claim (bare_side_duties duties area bare) → OfCall Held (Some (called_side side))
       by [] fits met = absurd (present fits)
-      by (piece ∷ bare) fits met = bare-inside (piece ∷ bare) side fits met
+      by (piece ∷ bare) fits met = bare-held (piece ∷ bare) side fits met
 
-  one-side : (sides : List (List Piece)) (side : List ℕ) → FitsOne sides side → (trim side ≡ [] → ⊥) → MeetsAll claim (flat_map (side_duties duties area) sides)
-      → IsInside claim cell.place (run_in rows (Some (called_side side)) cell)
-  one-side [] side fits present met = absurd fits
-  one-side (pieces ∷ more) side (inl here) present met =
-      side-inside pieces side here present (each-front (Meets claim) (side_duties duties area pieces) (flat_map (side_duties duties area) more) met)
-  one-side (pieces ∷ more) side (inr there) present met =
-      one-side more side there present (each-rest (Meets claim) (side_duties duties area pieces) (flat_map (side_duties duties area) more) met)
+  one-held : (sides : List (List Piece)) (side : List ℕ) → FitsOne sides side → (trim side ≡ [] → ⊥) → MeetsAll claim (flat_map (side_duties duties area) sides)
+      → OfCall Held (Some (called_side side))
+  one-held [] side fits present met = absurd fits
+  one-held (pieces ∷ more) side (inl here) present met =
+      side-held pieces side here present (each-front (Meets claim) (side_duties duties area pieces) (flat_map (side_duties duties area) more) met)
+  one-held (pieces ∷ more) side (inr there) present met =
+      one-held more side there present (each-rest (Meets claim) (side_duties duties area pieces) (flat_map (side_duties duties area) more) met)
 
-  taken-inside : (rest : List Piece) (text : List ℕ) (taken : Bool) → Fits rest text → MeetsAll claim (choice_duties duties area (sides_by rest (cut_level 58 0 rest)))
-      → IsInside claim cell.place (run_in rows (option_map called_side (taken_side taken text)) cell)
-  taken-inside rest text taken fits met = by (sides_by rest (cut_level 58 0 rest)) refl met
+  taken-held : (rest : List Piece) (text : List ℕ) (taken : Bool) → Fits rest text → MeetsAll claim (choice_duties duties area (sides_by rest (cut_level 58 0 rest)))
+      → OfCall Held (option_map called_side (taken_side taken text))
+  taken-held rest text taken fits met = by (sides_by rest (cut_level 58 0 rest)) refl met
     where
       by : (o : Option (List (List Piece))) → sides_by rest (cut_level 58 0 rest) ≡ o → MeetsAll claim (choice_duties duties area o)
-          → IsInside claim cell.place (run_in rows (option_map called_side (taken_side taken text)) cell)
+          → OfCall Held (option_map called_side (taken_side taken text))
       by None from met = absurd met.0
       by (Some sides) from met = side (taken_side taken text) refl
         where
-          side : (o : Option (List ℕ)) → taken_side taken text ≡ o → IsInside claim cell.place (run_in rows (option_map called_side o) cell)
-          side None is = record { cell = good; next = tt }
-          side (Some result) is = one-side sides result (taken_side-fits rest text fits sides from taken result is) (taken_side-present text taken result is) met
+          side : (o : Option (List ℕ)) → taken_side taken text ≡ o → OfCall Held (option_map called_side o)
+          side None is = tt
+          side (Some result) is = one-held sides result (taken_side-fits rest text fits sides from taken result is) (taken_side-present text taken result is) met
 
-  exec_if-inside : (pieces : List Piece) (arguments : List ℕ) → Fits pieces arguments → MeetsAll claim (exec_if_duties_by duties area (cut_pieces 63 pieces))
-      → IsInside claim cell.place (exec_if_row rows arguments cell)
+  pub exec_if-held : (pieces : List Piece) (arguments : List ℕ) → Fits pieces arguments → MeetsAll claim (exec_if_duties_by duties area (cut_pieces 63 pieces))
+      → OfCall Held (exec_if_application arguments)
   unfolding exec_if_application chosen_side
-  exec_if-inside pieces arguments fits met = by (cut_pieces 63 pieces) (cut_once 63 arguments) (cut-pieces 63 pieces arguments fits) met
+  exec_if-held pieces arguments fits met = by (cut_pieces 63 pieces) (cut_once 63 arguments) (cut-pieces 63 pieces arguments fits) met
     where
       by : (cutting : Cutting) (cut : Option (List ℕ × List ℕ)) → IsCutAs cutting cut → MeetsAll claim (exec_if_duties_by duties area cutting)
-          → IsInside claim cell.place (run_in rows (if option_map_or (λ cut. is_some (cut_outside 44 cut.0)) cut true then called_old (cut_outside 44 arguments)
-          else option_map called_side (chosen_by cut)) cell)
+          → OfCall Held (if option_map_or (λ cut. is_some (cut_outside 44 cut.0)) cut true then called_old (cut_outside 44 arguments)
+          else option_map called_side (chosen_by cut))
       by Nowhere cut are met = absurd met.0
       by Unsure cut are met = absurd met.0
       by (At condition rest) None are met = absurd are
       by (At condition rest) (Some cut) are met = comma (cut_level 44 0 condition) refl met
         where
           comma : (cutting : Cutting) → cut_level 44 0 condition ≡ cutting → MeetsAll claim (chosen_duties duties area rest cutting)
-              → IsInside claim cell.place (run_in rows (if is_some (cut_outside 44 cut.0) then called_old (cut_outside 44 arguments) else option_map called_side (taken_side (holds cut.0) cut.1)) cell)
+              → OfCall Held (if is_some (cut_outside 44 cut.0) then called_old (cut_outside 44 arguments) else option_map called_side (taken_side (holds cut.0) cut.1))
           comma Unsure from met = absurd met.0
           comma (At name after) from met = absurd met.0
           comma Nowhere from met =
-              subst (λ o. IsInside claim cell.place (run_in rows (if is_some o then called_old (cut_outside 44 arguments) else option_map called_side (taken_side (holds cut.0) cut.1)) cell))
-              (sym (comma-none condition cut.0 are.0 from)) (taken-inside rest cut.1 (holds cut.0) are.1 met)
+              subst (λ o. OfCall Held (if is_some o then called_old (cut_outside 44 arguments) else option_map called_side (taken_side (holds cut.0) cut.1)))
+              (sym (comma-none condition cut.0 are.0 from)) (taken-held rest cut.1 (holds cut.0) are.1 met)
+
+-- an application that a table runs, or the end of the call
+called-inside : (duties : List ℕ → Duties) (rows : Rows) → AreBounded duties rows → (claim : Claim) (area : Area) (cell : CellOf) → IsGood claim cell → IsIn area cell.place
+    → Covers claim.plan claim.reach cell.place → (name : List ℕ) (pieces : List Piece) (arguments : List ℕ) → Fits pieces arguments
+    → MeetsAll claim (duties name area pieces) → IsInside claim cell.place (row_or_end (rows name) arguments cell)
+called-inside duties rows bounded claim area cell good inside own name pieces arguments fits met = by (rows name) refl
+  where
+    by : (o : Option Row) → rows name ≡ o → IsInside claim cell.place (row_or_end o arguments cell)
+    by None is = record { cell = good; next = tt }
+    by (Some row) is = bounded name row is claim area pieces arguments cell good inside own fits met
+
+exec_if-inside : (duties : List ℕ → Duties) (rows : Rows) → AreBounded duties rows → (claim : Claim) (area : Area) (cell : CellOf) → IsGood claim cell → IsIn area cell.place
+    → Covers claim.plan claim.reach cell.place → (pieces : List Piece) (arguments : List ℕ) → Fits pieces arguments
+    → MeetsAll claim (exec_if_duties_by duties area (cut_pieces 63 pieces)) → IsInside claim cell.place (exec_if_row rows arguments cell)
+exec_if-inside duties rows bounded claim area cell good inside own pieces arguments fits met =
+    by (exec_if_application arguments)
+    (exec_if-held duties claim area (λ name given. IsInside claim cell.place (row_or_end (rows name) given cell))
+    (called-inside duties rows bounded claim area cell good inside own) pieces arguments fits met)
+  where
+    by : (o : Option (List ℕ × List ℕ)) → OfCall (λ name given. IsInside claim cell.place (row_or_end (rows name) given cell)) o
+        → IsInside claim cell.place (run_in rows o cell)
+    by None is = record { cell = good; next = tt }
+    by (Some call) is = is
 
 -- the row of an `ExecIf` over a table
 pub exec_if-bounded : (count : ℕ) (duties : List ℕ → Duties) (rows : Rows) → AreBounded duties rows → IsBounded (exec_if_duties count duties) (exec_if_within count rows)
