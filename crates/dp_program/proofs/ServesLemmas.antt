@@ -1,5 +1,8 @@
 -- The output and result of a request that is refused: no output, and the fault.
-use Rattle.std.proofs.Common.{◌≡◌, ℕ, Bool, true, false, List, [], max, Option, Some, None, Result, Ok, Err, refl, sym, ap, ◌∙◌, subst, inl, arith}
+use Rattle.std.proofs.Common.{◌≡◌, ℕ, Bool, true, false, List, [], length, max, Option, Some, None, Result, Ok, Err, refl, sym, ap, ◌∙◌, subst, inl, arith}
+use Rattle.std.proofs.Math.Seq.{take-length}
+use Rattle.std.proofs.lemmas.List.{append-nil}
+use Rattle.std.specs.Io.KnownBytes.{Appends}
 use Rattle.std.specs.Option.{option_map}
 use Rattle.std.proofs.KnownBytes.{Appends-nil}
 use Rattle.dp_conf.specs.Answers.{Refuses, ◌>>=◌}
@@ -9,7 +12,9 @@ use Rattle.dp_commands.specs.Debug.{DebugRun, WritesDebug}
 use Rattle.dp_commands.specs.Faults.{reason_of}
 use Rattle.dp_commands.specs.Report.{Reports}
 use Rattle.dp_commands.specs.Run.{Files, Run, Writes}
-use Rattle.dp_commands.specs.Verbose.{InForce, WritesVerbose, WritesVerboseDebug}
+use Rattle.dp_commands.specs.Trace.{trace_of}
+use Rattle.dp_commands.specs.Turns.{lines_of}
+use Rattle.dp_commands.specs.Verbose.{InForce, WritesVerbose, WritesVerboseDebug, verbose_turn}
 use Rattle.dp_commands.specs.declared.fault.Code.{Code}
 use Rattle.dp_commands.specs.declared.fault.PbxFault.{PbxFault}
 use Rattle.dp_commands.specs.declared.fault.PbxFault.TheVariants.{Coded, NoMemory}
@@ -33,7 +38,7 @@ use Rattle.dp_program.specs.ReachDiffs.{ReachChanges, ReachDiffsFiles}
 use Rattle.dp_program.specs.Reaches.{Reaches, ReachesFiles}
 use Rattle.dp_program.specs.Requests.{DrawingOf, OptionsOf, ReachDiffOf, RequestOf, LookupOf, QuestionOf, joined, check, check_files, check_queue_files, check_both_files, check_queues, check_both, listing, listing_files, auditing, auditing_by, matching, matching_files, explaining, run, run_wide, debug, debug_wide, testing, comparing, comparing_files, comparing_reach, comparing_reach_files, drawing, drawing_files, reaching, reaching_files}
 use Rattle.dp_program.specs.Entries.{explanation_of}
-use Rattle.dp_program.specs.Serves.{AuditsAsked, AuditsFile, AuditsFileBy, AuditsText, ChecksBoth, DebugsAsked, DebugsFiles, DebugsFilesVerbosely, DebugsVerbosely, ListsText, LooksUp, LooksUpText, PlacesOf, ReportsOn, Runs, RunsBeside, RunsPlan, RunsPlans, RunsSecond, RunsAsked, RunsAssuming, RunsFiles, RunsIncluding, RunReading, reading_by, RunsFilesVerbosely, RunsFilesWide, RunsVerbosely, RunsWide, Serves, SharesSome, WritesChoiceBy, audit_by, debug_of_texts, files_read, in_force_at, in_force_at_first, look_up, places_read, run_of_texts, wide_run_of_texts, RunsFilesWideVerbosely, RunsTextsWideVerbosely, RunsWideAsked, RunsWideBy, RunsWideVerbosely, RunManner, RunsQueues, RunsWithQueues, DebugsFilesWide, DebugsFilesWideVerbosely, DebugsTextsWideVerbosely, DebugsWide, DebugsWideVerbosely, debugging, running, wide_debug_of_texts, Compares}
+use Rattle.dp_program.specs.Serves.{AuditsAsked, AuditsFile, AuditsFileBy, AuditsText, ChecksBoth, DebugsAsked, DebugsFiles, DebugsFilesVerbosely, DebugsVerbosely, ListsText, LooksUp, LooksUpText, PlacesOf, ReportsOn, Runs, RunsBeside, RunsPlan, RunsPlans, RunsSecond, RunsAsked, RunsAssuming, RunsFiles, RunsIncluding, RunReading, reading_by, RunsRead, RunsReported, RunsFilesWide, RunsVerbosely, RunsWide, Serves, SharesSome, WritesChoiceBy, audit_by, debug_of_texts, files_read, in_force_at, in_force_at_first, look_up, places_read, run_of_texts, unmodelled_of_texts, wide_run_of_texts, RunsFilesWideVerbosely, RunsTextsWideVerbosely, RunsWideAsked, RunsWideBy, RunsWideVerbosely, RunManner, RunsQueues, RunsWithQueues, DebugsFilesWide, DebugsFilesWideVerbosely, DebugsTextsWideVerbosely, DebugsWide, DebugsWideVerbosely, debugging, running, wide_debug_of_texts, Compares}
 use Rattle.dp_program.specs.ScriptAssumptions.{look_up_use, text_assumptions}
 use Rattle.dp_program.specs.TestSuites.{manner_of}
 use Rattle.dp_program.specs.Texts.{OfRun, ReadsTexts, all_texts, sources_of}
@@ -415,6 +420,24 @@ debug_run_refused paths sources held old unread reads =
       unread_stands unread unread.fault ∙ (is.1 ∙ refused_place_by paths (unread_path paths read) unread.fault (all_texts read) is.0),
     )) reads
 
+-- the same with what the run meets that is not modelled
+read_refused : (is_verbose : Bool) (paths : OfRun (List ℕ)) (old : Option (List ℕ)) (fault : PbxFault) (texts : Result (OfRun (List ℕ)) PbxFault)
+    → Refuses (reason_of fault) texts → RunsRead is_verbose paths old old texts (Err fault)
+read_refused true paths old fault texts is = runs_verbosely_refused paths old fault texts is
+read_refused false paths old fault texts is = runs_refused None old run_of_texts fault texts is
+
+pub run_reported_refused : (paths : OfRun (List ℕ)) (sources : OfRun Source) (is_verbose : Bool) (old : Option (List ℕ)) (unread : Unread)
+    → ReadsTexts sources (IsUnread paths unread.path.now unread.fault) → RunsReported paths sources is_verbose old old (Err (unread_fault unread))
+run_reported_refused paths sources is_verbose old unread reads =
+    ReadsTexts-weaker sources (IsUnread paths unread.path.now unread.fault)
+    (λ read. RunsRead is_verbose paths old old (all_texts read) (Err unread.fault)
+    × (place_of (place_unread unread unread.fault) ≡ place_of_run paths read unread.fault) × Unit {0})
+    (λ read is. (
+      read_refused is_verbose paths old unread.fault (all_texts read) is.0,
+      unread_stands unread unread.fault ∙ (is.1 ∙ refused_place_by paths (unread_path paths read) unread.fault (all_texts read) is.0),
+      tt,
+    )) reads
+
 -- the same over the wide table
 pub run_wide_refused : (paths : OfRun (List ℕ)) (sources : OfRun Source) (old : Option (List ℕ)) (unread : Unread)
     → ReadsTexts sources (IsUnread paths unread.path.now unread.fault) → RunsFilesWide paths sources old old (Err (unread_fault unread))
@@ -427,16 +450,6 @@ run_wide_refused paths sources old unread reads =
     )) reads
 
 -- the same for verbose runs
-pub run_verbose_refused : (paths : OfRun (List ℕ)) (sources : OfRun Source) (old : Option (List ℕ)) (unread : Unread)
-    → ReadsTexts sources (IsUnread paths unread.path.now unread.fault) → RunsFilesVerbosely paths sources old old (Err (unread_fault unread))
-run_verbose_refused paths sources old unread reads =
-    ReadsTexts-weaker sources (IsUnread paths unread.path.now unread.fault)
-    (λ read. RunsVerbosely paths old old (all_texts read) (Err unread.fault) × (place_of (place_unread unread unread.fault) ≡ place_of_run paths read unread.fault))
-    (λ read is. (
-      runs_verbosely_refused paths old unread.fault (all_texts read) is.0,
-      unread_stands unread unread.fault ∙ (is.1 ∙ refused_place_by paths (unread_path paths read) unread.fault (all_texts read) is.0),
-    )) reads
-
 pub run_wide_verbose_refused : (paths : OfRun (List ℕ)) (places : PlacesOf) (sources : OfRun Source) (old : Option (List ℕ)) (unread : Unread)
     → ReadsTexts sources (IsUnread paths unread.path.now unread.fault) → RunsFilesWideVerbosely paths places sources old old (Err (unread_fault unread))
 run_wide_verbose_refused paths places sources old unread reads =
@@ -496,6 +509,47 @@ debug_run_read paths sources held old new texts result answered reads same debug
     (λ read is. subst (λ (joined : Result (OfRun (List ℕ)) PbxFault). WritesDebug old new (joined >>= debug_of_texts held) (without_place answered) × StandsIn (place_by paths (unread_path paths read) joined) answered) (sym is.0)
     (subst (λ result. WritesDebug old new (debug_of_texts held texts) result) (sym same) debugs, stands)) reads
 
+-- the same with what the run meets that is not modelled
+pub run_reported_read : (paths : OfRun (List ℕ)) (sources : OfRun Source) (is_verbose : Bool) (old new : Option (List ℕ)) (texts : OfRun (List ℕ))
+    (result : Result Served PbxFault) (answered : Result Served Faulted) → ReadsTexts sources (λ read. (all_texts read ≡ Ok texts) × Unit {0})
+    → without_place answered ≡ result → RunsRead is_verbose paths old new (Ok texts) (status_in result) → StandsIn (place_in_files paths texts) answered
+    → Tells (unmodelled_of_texts texts) result → RunsReported paths sources is_verbose old new answered
+run_reported_read paths sources is_verbose old new texts result answered reads same runs stands tells =
+    ReadsTexts-weaker sources (λ read. (all_texts read ≡ Ok texts) × Unit {0})
+    (λ read. RunsRead is_verbose paths old new (all_texts read) (status_in (without_place answered)) × StandsIn (place_of_run paths read) answered
+    × Tells (all_texts read >>= unmodelled_of_texts) answered)
+    (λ read is. subst (λ (joined : Result (OfRun (List ℕ)) PbxFault). RunsRead is_verbose paths old new joined (status_in (without_place answered))
+    × StandsIn (place_by paths (unread_path paths read) joined) answered × Tells (joined >>= unmodelled_of_texts) answered) (sym is.0) (
+      subst (λ result. RunsRead is_verbose paths old new (Ok texts) (status_in result)) (sym same) runs,
+      stands,
+      tells_same (unmodelled_of_texts texts) result answered same tells,
+    )) reads
+
+-- all turns of a run may have written their lines before memory runs out
+plain_done : (old new : Option (List ℕ)) (given : Result Run PbxFault) (status : ℕ) → Writes old new given (Ok status) → Writes old new given (Err NoMemory)
+plain_done old new (Ok ran) status writes = record {
+  count = length ran.turns;
+  within = omega arith;
+  written = subst (λ turns. Appends old new (trace_of ran.world turns)) (sym (take-length ran.turns)) writes.0;
+}
+plain_done old new (Err fault) status writes = absurd writes
+
+verbose_done : (in_force : InForce) (old new : Option (List ℕ)) (given : Result Run PbxFault) (status : ℕ)
+    → WritesVerbose explanation_of in_force old new given (Ok status) → WritesVerbose explanation_of in_force old new given (Err NoMemory)
+verbose_done in_force old new (Ok ran) status writes = record {
+  count = length ran.turns;
+  within = omega arith;
+  written =
+      subst (λ turns. Appends old new (lines_of (verbose_turn explanation_of) (in_force, ran.world) turns)) (sym (take-length ran.turns))
+      (subst (Appends old new) (append-nil (lines_of (verbose_turn explanation_of) (in_force, ran.world) ran.turns)) writes.0);
+}
+verbose_done in_force old new (Err fault) status writes = absurd writes
+
+pub read_done : (is_verbose : Bool) (paths : OfRun (List ℕ)) (old new : Option (List ℕ)) (texts : OfRun (List ℕ)) (status : ℕ)
+    → RunsRead is_verbose paths old new (Ok texts) (Ok status) → RunsRead is_verbose paths old new (Ok texts) (Err NoMemory)
+read_done true paths old new texts status runs = verbose_done (in_force_at_first paths texts) old new (run_of_texts texts) status runs
+read_done false paths old new texts status runs = plain_done old new (run_of_texts texts) status runs
+
 -- the same over the wide table
 pub run_wide_read : (paths : OfRun (List ℕ)) (sources : OfRun Source) (old new : Option (List ℕ)) (texts : OfRun (List ℕ))
     (result : Result ℕ PbxFault) (answered : Result ℕ Faulted) → ReadsTexts sources (λ read. (all_texts read ≡ Ok texts) × Unit {0}) → without_place answered ≡ result
@@ -507,16 +561,6 @@ run_wide_read paths sources old new texts result answered reads same runs stands
     (subst (λ result. RunsWide old new (wide_run_of_texts texts) result) (sym same) runs, stands)) reads
 
 -- the same for verbose runs
-pub run_verbose_read : (paths : OfRun (List ℕ)) (sources : OfRun Source) (old new : Option (List ℕ)) (texts : OfRun (List ℕ))
-    (result : Result ℕ PbxFault) (answered : Result ℕ Faulted) → ReadsTexts sources (λ read. (all_texts read ≡ Ok texts) × Unit {0}) → without_place answered ≡ result
-    → WritesVerbose explanation_of (in_force_at_first paths texts) old new (run_of_texts texts) result → StandsIn (place_in_files paths texts) answered
-    → RunsFilesVerbosely paths sources old new answered
-run_verbose_read paths sources old new texts result answered reads same runs stands =
-    ReadsTexts-weaker sources (λ read. (all_texts read ≡ Ok texts) × Unit {0})
-    (λ read. RunsVerbosely paths old new (all_texts read) (without_place answered) × StandsIn (place_of_run paths read) answered)
-    (λ read is. subst (λ (joined : Result (OfRun (List ℕ)) PbxFault). RunsVerbosely paths old new joined (without_place answered) × StandsIn (place_by paths (unread_path paths read) joined) answered) (sym is.0)
-    (subst (λ result. WritesVerbose explanation_of (in_force_at_first paths texts) old new (run_of_texts texts) result) (sym same) runs, stands)) reads
-
 pub run_wide_verbose_read : (paths : OfRun (List ℕ)) (places : PlacesOf) (sources : OfRun Source) (old new : Option (List ℕ)) (texts : OfRun (List ℕ))
     (result : Result ℕ PbxFault) (answered : Result ℕ Faulted) → ReadsTexts sources (λ read. (all_texts read ≡ Ok texts) × Unit {0}) → without_place answered ≡ result
     → RunsWideVerbosely (in_force_at places texts) old new (wide_run_of_texts texts) result → StandsIn (place_in_files paths texts) answered
@@ -651,13 +695,17 @@ audit_asked_lacks true options choice path files old =
     files
 audit_asked_lacks false options choice path files old = audit_lacks options.is_json choice path (files path) old
 
+read_lacks : (is_verbose : Bool) (paths : OfRun (List ℕ)) (old : Option (List ℕ)) (texts : Result (OfRun (List ℕ)) PbxFault)
+    → RunsRead is_verbose paths old old texts (Err NoMemory)
+read_lacks true paths old texts = runs_verbosely_lacks paths old texts
+read_lacks false paths old texts = writes_lacks old (texts >>= run_of_texts)
+
 run_asked_lacks : (paths : OfRun (List ℕ)) (sources : OfRun Source) (threads : Option ℕ) (is_verbose : Bool) (old : Option (List ℕ))
     → RunsAsked paths sources threads is_verbose old old (Err (nowhere NoMemory))
-run_asked_lacks paths sources None true old =
-    ReadsTexts-any sources (λ read. RunsVerbosely paths old old (all_texts read) (Err NoMemory) × (in_none ≡ place_of_run paths read NoMemory))
-    (λ read. (runs_verbosely_lacks paths old (all_texts read), lacks_place_by paths (unread_path paths read) (all_texts read)))
-run_asked_lacks paths sources None false old = run_lacks paths sources None old
-run_asked_lacks paths sources (Some threads) is_verbose old = run_lacks paths sources (Some threads) old
+run_asked_lacks paths sources None is_verbose old =
+    ReadsTexts-any sources (λ read. RunsRead is_verbose paths old old (all_texts read) (Err NoMemory) × (in_none ≡ place_of_run paths read NoMemory) × Unit {0})
+    (λ read. (read_lacks is_verbose paths old (all_texts read), lacks_place_by paths (unread_path paths read) (all_texts read), tt))
+run_asked_lacks paths sources (Some threads) is_verbose old = (run_lacks paths sources (Some threads) old, tt)
 
 debug_asked_lacks : (paths : OfRun (List ℕ)) (sources : OfRun Source) (held : List ℕ) (is_verbose : Bool) (old : Option (List ℕ))
     → DebugsAsked paths sources held is_verbose old old (Err (nowhere NoMemory))
@@ -762,7 +810,7 @@ Serves-lacks files input (matching lookup all) options old = Reads-any (files lo
 Serves-lacks files input (matching_files lookup all) options old =
     dialplan_lacks (LooksUpText lookup files all options old old) lookup.file old (matching_lacks lookup files all options old) (look_up_use options) options.clock files
 Serves-lacks files input (explaining fault) options old = ((Appends-nil old, refl), tt)
-Serves-lacks files input (run paths threads is_verbose) options old = (run_asked_lacks paths (sources_of files paths) threads is_verbose old, tt)
+Serves-lacks files input (run paths threads is_verbose) options old = run_asked_lacks paths (sources_of files paths) threads is_verbose old
 Serves-lacks files input (run_wide paths is_verbose) options old = including_lacks options.clock paths files (running is_verbose) old
 Serves-lacks files input (debug paths held is_verbose) options old = (debug_asked_lacks paths (sources_of files paths) held is_verbose old, tt)
 Serves-lacks files input (debug_wide paths held is_verbose) options old = including_lacks options.clock paths files (debugging held is_verbose) old

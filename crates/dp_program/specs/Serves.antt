@@ -38,6 +38,7 @@ use Rattle.dp_program.specs.declared.dialplans.PlanUse.TheVariants.{Report, Run 
 use Rattle.dp_program.specs.declared.faulted.Faulted.{Faulted}
 use Rattle.dp_program.specs.declared.hints.Served.{Served}
 use Rattle.dp_plan.specs.Plan.{PlanOf}
+use Rattle.dp_unmodelled.specs.Report.{unmodelled_of}
 use Rattle.dp_wide_runs.specs.Debugging.{HasSameStatus, WideDebug, WritesWideDebug, WritesWideVerboseDebug, wide_debug_of}
 use Rattle.dp_wide_runs.specs.Kinds.{ChoiceOf}
 use Rattle.dp_wide_runs.specs.Runs.{IsPlain, WideRun, WritesWide, run_of as wide_run_of}
@@ -148,12 +149,22 @@ DebugsVerbosely paths held old new (Ok texts) result =
     WritesVerboseDebug explanation_of (in_force_at_first paths texts) old new (debug_of_texts held texts) result
 DebugsVerbosely paths held old new (Err fault) result = WritesDebug old new (Err fault) result
 
--- the output and result of a verbose run over the files at these paths, and the place of its fault
-abbrev pub RunsFilesVerbosely : OfRun (List ℕ) → OfRun Source → Option (List ℕ) → Option (List ℕ) → Result ℕ Faulted → Type 0
-RunsFilesVerbosely paths sources old new answered =
-    ReadsTexts sources (λ read. RunsVerbosely paths old new (all_texts read) (without_place answered) × StandsIn (place_of_run paths read) answered)
+-- the lines of what a run of these texts meets that is not modelled, or the fault of the texts
+abbrev pub unmodelled_of_texts : OfRun (List ℕ) → Result (List ℕ) PbxFault
+unmodelled_of_texts texts = unmodelled_of texts.plan texts.queues texts.second_plan texts.script
 
--- the same for a debugged run
+-- the output and result of a run, verbose or not, given its texts or the fault with which they were not read
+abbrev pub RunsRead : Bool → OfRun (List ℕ) → Option (List ℕ) → Option (List ℕ) → Result (OfRun (List ℕ)) PbxFault → Result ℕ PbxFault → Type 0
+RunsRead true paths old new read result = RunsVerbosely paths old new read result
+RunsRead false paths old new read result = Runs None old new (read >>= run_of_texts) result
+
+-- the same over the files at these paths, with the place of its fault, and beside its result the lines of what it meets that is not modelled
+abbrev pub RunsReported : OfRun (List ℕ) → OfRun Source → Bool → Option (List ℕ) → Option (List ℕ) → Result Served Faulted → Type 0
+RunsReported paths sources is_verbose old new answered =
+    ReadsTexts sources (λ read. RunsRead is_verbose paths old new (all_texts read) (status_in (without_place answered)) × StandsIn (place_of_run paths read) answered
+    × Tells (all_texts read >>= unmodelled_of_texts) answered)
+
+-- the output and result of a verbose debugged run over the files at these paths, and the place of its fault
 abbrev pub DebugsFilesVerbosely : OfRun (List ℕ) → OfRun Source → List ℕ → Option (List ℕ) → Option (List ℕ) → Result ℕ Faulted → Type 0
 DebugsFilesVerbosely paths sources held old new answered =
     ReadsTexts sources (λ read. DebugsVerbosely paths held old new (all_texts read) (without_place answered) × StandsIn (place_of_run paths read) answered)
@@ -249,12 +260,6 @@ RunsWideBy paths places sources (Some held) false old new answered = DebugsFiles
 abbrev pub RunsWideAsked : OfRun (List ℕ) → PlacesOf → OfRun Source → RunManner → Option (List ℕ) → Option (List ℕ) → Result ℕ Faulted → Type 0
 RunsWideAsked paths places sources manner old new answered = RunsWideBy paths places sources manner.held manner.is_verbose old new answered
 
--- the output and result of a run: in threads if their number is given, else verbose or not
-abbrev pub RunsAsked : OfRun (List ℕ) → OfRun Source → Option ℕ → Bool → Option (List ℕ) → Option (List ℕ) → Result ℕ Faulted → Type 0
-RunsAsked paths sources None true old new answered = RunsFilesVerbosely paths sources old new answered
-RunsAsked paths sources None false old new answered = RunsFiles paths sources None old new answered
-RunsAsked paths sources (Some threads) is_verbose old new answered = RunsFiles paths sources (Some threads) old new answered
-
 -- the output and result of a debugged run, given whether it is verbose
 abbrev pub DebugsAsked : OfRun (List ℕ) → OfRun Source → List ℕ → Bool → Option (List ℕ) → Option (List ℕ) → Result ℕ Faulted → Type 0
 DebugsAsked paths sources held true old new answered = DebugsFilesVerbosely paths sources held old new answered
@@ -267,6 +272,11 @@ WritesEntry fault old new answered = Reports old new (Ok (entry_of fault)) (with
 -- the output and result of a request without hints
 abbrev pub Quietly : (Result ℕ Faulted → Type 0) → Result Served Faulted → Type 0
 Quietly serves answered = serves (status_in answered) × TellsNothing answered
+
+-- the output and result of a run: in threads if their number is given, and then without a report of what it meets, else verbose or not
+abbrev pub RunsAsked : OfRun (List ℕ) → OfRun Source → Option ℕ → Bool → Option (List ℕ) → Option (List ℕ) → Result Served Faulted → Type 0
+RunsAsked paths sources None is_verbose old new answered = RunsReported paths sources is_verbose old new answered
+RunsAsked paths sources (Some threads) is_verbose old new answered = Quietly (RunsFiles paths sources (Some threads) old new) answered
 
 -- the output and result of a listing of the dialplan at a path, given the text of the dialplan
 abbrev pub ListsText : List ℕ → (List ℕ → Source) → Option (List ℕ) → Option (List ℕ) → PlanTextOf → Result Served Faulted → Type 0
@@ -388,7 +398,7 @@ Serves files input (matching lookup all) options old new answered = LooksUp look
 Serves files input (matching_files lookup all) options old new answered = LooksUpIncluding lookup files all options old new answered
 Serves files input (explaining fault) options old new answered = Quietly (WritesEntry fault old new) answered
 Serves files input (run paths threads is_verbose) options old new answered =
-    Quietly (RunsAsked paths (sources_of files paths) threads is_verbose old new) answered
+    RunsAsked paths (sources_of files paths) threads is_verbose old new answered
 Serves files input (run_wide paths is_verbose) options old new answered =
     RunsIncluding options.clock paths files (running is_verbose) old new answered
 Serves files input (debug paths held is_verbose) options old new answered =

@@ -138,11 +138,11 @@ fn place_in_files<'a>(run: &RunFiles<'a>, texts: &Texts, fault: PbxFault) -> Pla
 }
 
 /// A result for the texts of a run, with the place of its fault.
-pub(crate) fn placed_in_run<'a>(
+pub(crate) fn placed_in_run<'a, T>(
     run: &RunFiles<'a>,
     texts: &Texts,
-    answered: Result<u8, PbxFault>,
-) -> Result<u8, Faulted<'a>>
+    answered: Result<T, PbxFault>,
+) -> Result<T, Faulted<'a>>
     ensures same { spec.without_place result ≡ answered }
     ensures stands { spec.StandsIn (spec.place_in_files (paths_of run.now) (texts_of texts.now)) result }
 {

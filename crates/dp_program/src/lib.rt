@@ -28,6 +28,7 @@ mod program;
 mod queue_texts;
 mod reach_diffs;
 mod reaches;
+mod reported_runs;
 mod reports;
 mod request;
 mod runs;

@@ -21,11 +21,12 @@ use crate::including_reports::{
 use crate::options::Options;
 use crate::reach_diffs::{serve_reach_diff, serve_reach_diff_including};
 use crate::reaches::{serve_reach, serve_reach_including};
+use crate::reported_runs::{ReportedRun, serve_run_reported};
 use crate::reports::{Manner, serve_audit, serve_explain, serve_list, serve_match};
 use crate::request::Request;
-use crate::runs::{PlainRun, serve_debug, serve_joined, serve_run};
+use crate::runs::{ThreadRun, serve_debug, serve_joined, serve_run_in_threads};
 use crate::test_reports::{TestManner, serve_tests};
-use crate::verbose_runs::{serve_debug_verbose, serve_run_verbose};
+use crate::verbose_runs::serve_debug_verbose;
 use crate::wide_audits::{ChosenAudit, serve_audit_by};
 use crate::wide_runs::{WideRun, serve_run_including};
 use dp_conf::{ReadTold, WriteTold};
@@ -127,29 +128,24 @@ pub fn serve<'a, F: ReadFiles, I: ReadTold, W: WriteTold, R: Threads + Wait + Sy
         Request::Run {
             files: run,
             threads: None,
-            is_verbose: true,
-        } => without_hint(alloc, serve_run_verbose(files, alloc, run, output)),
-        Request::Run {
-            files: run,
-            threads: None,
-            is_verbose: false,
+            is_verbose,
         } => {
-            let run = PlainRun {
+            let run = ReportedRun {
                 files: run,
-                threads: None,
+                is_verbose: *is_verbose,
             };
-            without_hint(alloc, serve_run(rt, files, alloc, run, output))
+            serve_run_reported(files, alloc, run, output)
         }
         Request::Run {
             files: run,
             threads: Some(threads),
             is_verbose: _,
         } => {
-            let run = PlainRun {
+            let run = ThreadRun {
                 files: run,
-                threads: Some(*threads),
+                threads: *threads,
             };
-            without_hint(alloc, serve_run(rt, files, alloc, run, output))
+            without_hint(alloc, serve_run_in_threads(rt, files, alloc, run, output))
         }
         Request::RunWide {
             files: run,

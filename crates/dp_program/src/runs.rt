@@ -1,5 +1,5 @@
 //! The requests that run a script.
-ghost use Rattle.std.specs.Prelude.{◌≡◌, ◌||◌, max};
+ghost use Rattle.std.specs.Prelude.{◌≡◌, ◌||◌, Some, max};
 ghost use Rattle.dp_commands.specs.Debug.{WritesDebug};
 ghost use Rattle.dp_commands.specs.Faults.{is_write_failed};
 ghost use Rattle.dp_commands.specs.Run.{Writes};
@@ -87,7 +87,11 @@ fn run_in_threads<W: WriteTold, R: Threads + Wait + Sync>(
 }
 
 /// Runs the script of a run on its dialplan, one turn after another.
-fn run_in_order<W: WriteTold>(alloc: Global, texts: &Texts, output: &mut W) -> Result<u8, PbxFault>
+pub(crate) fn run_in_order<W: WriteTold>(
+    alloc: Global,
+    texts: &Texts,
+    output: &mut W,
+) -> Result<u8, PbxFault>
     ensures writes { Writes (W.contents output.old) (W.contents output.new)
         (spec.run_of_texts (texts_of texts.now)) result }
     ensures told { W.has_failed output.new ≡ (W.has_failed output.old || is_write_failed result) }
@@ -95,47 +99,29 @@ fn run_in_order<W: WriteTold>(alloc: Global, texts: &Texts, output: &mut W) -> R
     run_script(alloc, texts.lend(), output)
 }
 
-/// Runs the script of a run on its dialplan, in threads if their number is given.
-fn run_texts<W: WriteTold, R: Threads + Wait + Sync>(
-    rt: &R,
-    alloc: Global,
-    texts: &Texts,
-    threads: Option<u32>,
-    output: &mut W,
-) -> Result<u8, PbxFault>
-    ensures runs { spec.Runs threads (W.contents output.old) (W.contents output.new)
-        (spec.run_of_texts (texts_of texts.now)) result }
-    ensures told { W.has_failed output.new ≡ (W.has_failed output.old || is_write_failed result) }
-{
-    match threads {
-        None => run_in_order(alloc, texts, output),
-        Some(threads) => run_in_threads(rt, alloc, texts, threads, output),
-    }
-}
-
-/// A run by its files, in threads if their number is given.
+/// A run by its files in this number of threads.
 #[derive(Clone, Copy)]
-pub(crate) struct PlainRun<'r, 'a> {
+pub(crate) struct ThreadRun<'r, 'a> {
     pub(crate) files: &'r RunFiles<'a>,
-    pub(crate) threads: Option<u32>,
+    pub(crate) threads: u32,
 }
 
 /// Runs the script of one file on the dialplan of another, with the queues and the second dialplan of further files if they are named, in
-/// threads if their number is given.
-pub(crate) fn serve_run<'a, F: ReadFiles, W: WriteTold, R: Threads + Wait + Sync>(
+/// threads.
+pub(crate) fn serve_run_in_threads<'a, F: ReadFiles, W: WriteTold, R: Threads + Wait + Sync>(
     rt: &R,
     files: &F,
     alloc: Global,
-    run: PlainRun<'_, 'a>,
+    run: ThreadRun<'_, 'a>,
     output: &mut W,
 ) -> Result<u8, Faulted<'a>>
     ensures serves { spec.RunsFiles (paths_of run.entry.files.now)
-        (sources_of (F.source_at files.now) (paths_of run.entry.files.now)) run.entry.threads (W.contents output.old)
+        (sources_of (F.source_at files.now) (paths_of run.entry.files.now)) (Some run.entry.threads) (W.contents output.old)
         (W.contents output.new) result }
     ensures told { W.has_failed output.new ≡ (W.has_failed output.old || is_write_failed (without_place result)) }
 {
     let texts = read_texts(files, alloc, run.files)?;
-    let answered = run_texts(rt, alloc, &texts, run.threads, output);
+    let answered = run_in_threads(rt, alloc, &texts, run.threads, output);
     placed_in_run(run.files, &texts, answered)
 }
 

@@ -17,7 +17,7 @@ use dp_conf::WriteTold;
 use std::alloc::Global;
 
 /// Runs the script of a run verbosely on its dialplan.
-fn run_texts<W: WriteTold>(
+pub(crate) fn run_verbosely<W: WriteTold>(
     alloc: Global,
     run: &RunFiles<'_>,
     texts: &Texts,
@@ -28,23 +28,6 @@ fn run_texts<W: WriteTold>(
     ensures told { W.has_failed output.new ≡ (W.has_failed output.old || is_write_failed result) }
 {
     run_verbose::<ManualEntries, W>(alloc, texts.lend(), run.plan_names(), output)
-}
-
-/// Runs the script of one file verbosely on the dialplan of another, with the queues and the second dialplan of further files if they are
-/// named.
-pub(crate) fn serve_run_verbose<'a, F: ReadFiles, W: WriteTold>(
-    files: &F,
-    alloc: Global,
-    run: &RunFiles<'a>,
-    output: &mut W,
-) -> Result<u8, Faulted<'a>>
-    ensures serves { spec.RunsFilesVerbosely (paths_of run.now) (sources_of (F.source_at files.now) (paths_of run.now))
-        (W.contents output.old) (W.contents output.new) result }
-    ensures told { W.has_failed output.new ≡ (W.has_failed output.old || is_write_failed (without_place result)) }
-{
-    let texts = read_texts(files, alloc, run)?;
-    let answered = run_texts(alloc, run, &texts, output);
-    placed_in_run(run, &texts, answered)
 }
 
 /// Debugs the script of a run verbosely on its dialplan, with the break that a text names.

@@ -60,6 +60,9 @@ dialling.script→start main s¶step 1¶result 1 BUSY¶show 1 DIALSTATUS¶result
 circling→[main]¶exten => s,1,Answer()¶exten => s,2,Goto(s,1)¶exten => 100,1,NoOp()¶exten => 100,2,While(1)¶exten => _X.,1,NoOp()¶exten => _X.,2,NoOp()¶exten => _X.,3,NoOp(${CUTT(a,-,1)})¶
 asking→[main]¶exten => s,1,Set(A=${DB(x)})¶ same => n,While(1)¶ same => n,Hangup()¶
 asking.script→start main s¶step 1 2¶
+twice→[main]¶exten => s,1,NoOp(${CUT(A,b,1)}${DB(x)})¶ same => n,noop(${LEN(${cut(A)}12345)})¶ same => n,Macro(x)¶
+twice.script→start main s¶step 1 3¶start main s¶step 2¶
+reloading.script→start main s¶reload¶start main s¶step 2¶
 telling.script→start main s¶let 1 DB(x)=5¶step 1¶show 1 A¶pass 1¶step 1¶
 untold.script→start main s¶let 1¶
 joined→[main]¶exten => s,1,NoOp()¶;; reload¶;; script¶exten => s,2,NoOp()¶

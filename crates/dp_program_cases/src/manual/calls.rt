@@ -591,6 +591,8 @@ ran 8 main,8,1 Set -> ready main,8,2
 EXTEN=8
 started 9
 no entry 9 -> ready main,h,1
+pbx: `VoiceMail` is not modelled; --asterisk models it, or stops there
+pbx: `IF` is not modelled; --asterisk models it, or stops there
 ? 0
 @ over.queues
 [help]
@@ -755,4 +757,22 @@ exten => _00X.,1,Dial(PJSIP/carrier/${EXTEN})
 $ pbx diff --from lobby desk-old.conf desk-new.conf
 + reaches trunk
 ? 1
+@ mailbox.conf
+[main]
+exten => 100,1,Dial(PJSIP/100,20)
+ same => n,VoiceMail(100,u)
+@
+@ mailbox.script
+start main 100
+step 1
+result 1 NOANSWER
+step 1
+@
+$ pbx run mailbox.conf mailbox.script
+started 1
+ran 1 main,100,1 Dial -> dialling
+ok 1 -> ready main,100,2
+ran 1 main,100,2 VoiceMail -> ended
+pbx: `VoiceMail` is not modelled; --asterisk models it, or stops there
+? 0
 "##;

@@ -392,7 +392,7 @@ const ASTERISK_RUNS: &str = "\
 # unknown application ends the call, and no line states facts.
 run --asterisk @asking @asking.script→4→started 1¶unknown 1 DB(x) -> ready main,s,1¶→
 run --asterisk @asking @telling.script→0→started 1¶ok 1 -> ready main,s,1¶ran 1 main,s,1 Set -> ready main,s,2¶A=5¶ok 1 -> ready main,s,3¶ran 1 main,s,3 Hangup -> ended¶→
-run @asking @asking.script→0→started 1¶ran 1 main,s,1 Set -> ready main,s,2¶ran 1 main,s,2 While -> ended¶→
+run @asking @asking.script→0→started 1¶ran 1 main,s,1 Set -> ready main,s,2¶ran 1 main,s,2 While -> ended¶→pbx: `DB` is not modelled; --asterisk models it, or stops there¶pbx: `While` is not modelled; --asterisk models it, or stops there¶
 run @asking @telling.script→1→→fault 70 BadScript line 2¶
 # If everything is known, a run goes as without the option.
 run @first @first.script --asterisk→0→started 1¶ran 1 main,100,1 NoOp -> ready main,100,2¶ran 1 main,100,2 Goto -> ready main,200,1¶ran 1 main,200,1 Hangup -> ended¶→
@@ -576,6 +576,10 @@ test @first.test @long @missing→1→→fault 8 TooLong¶
 const VERBOSE_RUNS: &str = "\
 run --verbose @first @first.script→0→started 1¶  @first:2 NoOp(hello)¶ran 1 main,100,1 NoOp -> ready main,100,2¶  @first:3 Goto(200,1)¶ran 1 main,100,2 Goto -> ready main,200,1¶  @first:4 Hangup()¶ran 1 main,200,1 Hangup -> ended¶→
 run @first @refused.script --verbose→1→  40 NoChannel¶  no channel has the number¶  example: `step 1` as the first line¶refused 40 NoChannel¶started 1¶  @first:2 NoOp(hello)¶ran 1 main,100,1 NoOp -> ready main,100,2¶→
+# What is not modelled is named once, in any ASCII case, also if it comes with a second dialplan. Of an entry only the first is named.
+run --verbose @twice @twice.script→0→started 1¶  @twice:2 NoOp()¶ran 1 main,s,1 NoOp -> ready main,s,2¶  @twice:3 noop(5)¶ran 1 main,s,2 noop -> ready main,s,3¶  @twice:4 Macro(x)¶ran 1 main,s,3 Macro -> ended¶started 2¶  @twice:2 NoOp()¶ran 2 main,s,1 NoOp -> ready main,s,2¶→pbx: `CUT` is not modelled; --asterisk models it, or stops there¶pbx: `Macro` is not modelled; --asterisk models it, or stops there¶
+run --reload @macros @first @changing.script→0→started 1¶ran 1 main,100,1 NoOp -> ready main,100,2¶ok¶X=¶Y=¶no entry 1 -> ended¶→
+run --reload @twice @labels @reloading.script→0→started 1¶ok¶started 2¶ran 2 main,s,1 NoOp -> ready main,s,2¶→pbx: `CUT` is not modelled; --asterisk models it, or stops there¶
 # With queues, and with a second dialplan.
 run --verbose --queues @help @callers @callers.script→0→started 1¶  @callers:2 Queue(help,,,,30)¶ran 1 main,s,1 Queue -> queued help¶ok 1 -> ready main,s,2¶  @callers:3 Hangup()¶ran 1 main,s,2 Hangup -> ended¶→
 run --verbose --reload @changed @changing @changing.script→0→started 1¶  @changing:5 NoOp(a)¶ran 1 main,100,1 NoOp -> ready main,100,2¶ok¶X=12¶Y=5¶  @changed:4 Hangup()¶ran 1 main,_1XX,2 Hangup -> ended¶→
@@ -598,6 +602,8 @@ run --threads 2 @pair @pair.script→0→settled 2 seats 2 calls¶→
 run --threads 1 @pair @pair.script→0→settled 1 seats 2 calls¶→
 run @first @first.script --threads=064→0→settled 64 seats 3 calls¶→
 run --threads 3 @empty @empty→0→settled 3 seats 0 calls¶→
+# What it meets that is not modelled is not reported.
+run --threads 1 @asking @asking.script→0→settled 1 seats 2 calls¶→
 # A refused event.
 run --threads 1 @first @refused.script→1→settled 1 seats 3 calls¶→
 # With queues.

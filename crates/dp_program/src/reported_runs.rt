@@ -1,0 +1,88 @@
+//! The requests that run a script one turn after another. Beside the output they report what the run meets and the program does not model.
+ghost use Rattle.std.specs.Prelude.{◌≡◌, ◌||◌, IfOk, Ok};
+ghost use Rattle.dp_commands.specs.Faults.{is_write_failed};
+ghost use Rattle.dp_program.specs.Faulted.{without_place};
+ghost use Rattle.dp_program.specs.Hints.{Tells, status_in};
+ghost use Rattle.dp_program.specs.Serves as spec;
+ghost use Rattle.dp_program.specs.Texts.{paths_of, sources_of, texts_of};
+
+use crate::faulted::{Faulted, placed_in_run};
+use crate::files::ReadFiles;
+use crate::hints::Served;
+use crate::request::RunFiles;
+use crate::runs::run_in_order;
+use crate::texts::{Texts, read_texts};
+use crate::verbose_runs::run_verbosely;
+use dp_commands::PbxFault;
+use dp_conf::WriteTold;
+use dp_plan::NoMemory;
+use dp_unmodelled::unmodelled_lines;
+use std::alloc::Global;
+
+/// A run by its files, verbose or not.
+#[derive(Clone, Copy)]
+pub(crate) struct ReportedRun<'r, 'a> {
+    pub(crate) files: &'r RunFiles<'a>,
+    pub(crate) is_verbose: bool,
+}
+
+/// Runs the script of a run on its dialplan.
+fn run_texts<W: WriteTold>(
+    alloc: Global,
+    run: ReportedRun<'_, '_>,
+    texts: &Texts,
+    output: &mut W,
+) -> Result<u8, PbxFault>
+    ensures runs { spec.RunsRead run.entry.is_verbose (paths_of run.entry.files.now) (W.contents output.old) (W.contents output.new)
+        (Ok (texts_of texts.now)) result }
+    ensures told { W.has_failed output.new ≡ (W.has_failed output.old || is_write_failed result) }
+{
+    if run.is_verbose {
+        return run_verbosely(alloc, run.files, texts, output);
+    }
+    run_in_order(alloc, texts, output)
+}
+
+/// The lines of what a run meets that is not modelled. Its texts have no fault, so it fails only if memory runs out.
+fn unmodelled(alloc: Global, texts: &Texts) -> Result<Vec<u8>, NoMemory>
+    ensures { IfOk result (λ lines. Ok lines.items ≡ spec.unmodelled_of_texts (texts_of texts.now)) }
+{
+    match unmodelled_lines(alloc, texts.lend()) {
+        Ok(lines) => Ok(lines),
+        Err(_) => Err(NoMemory),
+    }
+}
+
+/// Runs the script of a run on its dialplan, and gives the lines of what it meets that is not modelled beside its status.
+fn run_reported<W: WriteTold>(
+    alloc: Global,
+    run: ReportedRun<'_, '_>,
+    texts: &Texts,
+    output: &mut W,
+) -> Result<Served, PbxFault>
+    ensures runs { spec.RunsRead run.entry.is_verbose (paths_of run.entry.files.now) (W.contents output.old) (W.contents output.new)
+        (Ok (texts_of texts.now)) (status_in result) }
+    ensures tells { Tells (spec.unmodelled_of_texts (texts_of texts.now)) result }
+    ensures told { W.has_failed output.new ≡ (W.has_failed output.old || is_write_failed result) }
+{
+    let status = run_texts(alloc, run, texts, output)?;
+    let hint = unmodelled(alloc, texts)?;
+    Ok(Served { status, hint })
+}
+
+/// Runs the script of one file on the dialplan of another, verbosely or not, with the queues and the second dialplan of further files if they
+/// are named. The hint has a line for each application and function that the run meets and that is not modelled.
+pub(crate) fn serve_run_reported<'a, F: ReadFiles, W: WriteTold>(
+    files: &F,
+    alloc: Global,
+    run: ReportedRun<'_, 'a>,
+    output: &mut W,
+) -> Result<Served, Faulted<'a>>
+    ensures serves { spec.RunsReported (paths_of run.entry.files.now) (sources_of (F.source_at files.now) (paths_of run.entry.files.now))
+        run.entry.is_verbose (W.contents output.old) (W.contents output.new) result }
+    ensures told { W.has_failed output.new ≡ (W.has_failed output.old || is_write_failed (without_place result)) }
+{
+    let texts = read_texts(files, alloc, run.files)?;
+    let answered = run_reported(alloc, run, &texts, output);
+    placed_in_run(run.files, &texts, answered)
+}

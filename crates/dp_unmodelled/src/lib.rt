@@ -1,0 +1,11 @@
+//! The names of applications and functions that a run without `--asterisk` meets and that the program does not model.
+#![tactic(auto)]
+
+mod begun;
+mod lines;
+mod meeting;
+mod modelled;
+mod report;
+mod written;
+
+pub use report::unmodelled_lines;
