@@ -3,9 +3,9 @@ ghost use Rattle.std.specs.Prelude.{◌≡◌};
 ghost use Rattle.dp_commands.specs.Codes.{code_number, code_name};
 
 use dp_board::SettleFault;
-use dp_conf::{ConfFault, LineKind, ReadFault, WriteFailed};
-use dp_plan::{LoadFault, NameFault, NoMemory, PlanKind};
-use dp_queue::{QueueFault, QueueKind};
+use dp_conf::{LineKind, ReadFault, WriteFailed};
+use dp_plan::{LoadFault, LoadKind, NameFault, NoMemory, PlanKind};
+use dp_queue::{QueueFault, QueueKind, QueueLoadKind};
 use std::alloc::AllocFailed;
 
 /// The kind of a fault. It tells which text has the line of the fault, if there is one.
@@ -75,6 +75,35 @@ impl Code {
     }
 }
 
+impl From<LoadKind> for Code {
+    ghost use Rattle.std.specs.Prelude.{◌≡◌};
+    ghost use Rattle.dp_commands.specs.Faults.{code_of_load};
+
+    ghost from_gives = { λ kind code. code ≡ code_of_load kind };
+
+    fn from(kind: LoadKind) -> Self {
+        match kind {
+            LoadKind::Conf(kind) => Code::Line(kind),
+            LoadKind::Pattern(fault) => Code::Name(fault),
+            LoadKind::Plan(kind) => Code::Plan(kind),
+        }
+    }
+}
+
+impl From<QueueLoadKind> for Code {
+    ghost use Rattle.std.specs.Prelude.{◌≡◌};
+    ghost use Rattle.dp_commands.specs.Faults.{code_of_queue};
+
+    ghost from_gives = { λ kind code. code ≡ code_of_queue kind };
+
+    fn from(kind: QueueLoadKind) -> Self {
+        match kind {
+            QueueLoadKind::Conf(kind) => Code::QueueLine(kind),
+            QueueLoadKind::Queue(kind) => Code::Queue(kind),
+        }
+    }
+}
+
 /// A fault with its line, counted from 1 in its own text, if it has one; or that memory ran out.
 #[derive(Clone, Copy, Debug, PartialEq, Eq)]
 pub enum PbxFault {
@@ -90,17 +119,8 @@ impl From<LoadFault> for PbxFault {
 
     fn from(load: LoadFault) -> Self {
         match load {
-            LoadFault::Conf(ConfFault::At { line, kind }) => PbxFault::Coded {
-                code: Code::Line(kind),
-                line: Some(line),
-            },
-            LoadFault::Conf(ConfFault::NoMemory) => PbxFault::NoMemory,
-            LoadFault::Pattern { line, fault } => PbxFault::Coded {
-                code: Code::Name(fault),
-                line: Some(line),
-            },
-            LoadFault::Plan { line, kind } => PbxFault::Coded {
-                code: Code::Plan(kind),
+            LoadFault::Line { line, kind } => PbxFault::Coded {
+                code: Code::from(kind),
                 line: Some(line),
             },
             LoadFault::NoMemory => PbxFault::NoMemory,
@@ -116,13 +136,8 @@ impl From<QueueFault> for PbxFault {
 
     fn from(queue: QueueFault) -> Self {
         match queue {
-            QueueFault::Conf(ConfFault::At { line, kind }) => PbxFault::Coded {
-                code: Code::QueueLine(kind),
-                line: Some(line),
-            },
-            QueueFault::Conf(ConfFault::NoMemory) => PbxFault::NoMemory,
-            QueueFault::Queue { line, kind } => PbxFault::Coded {
-                code: Code::Queue(kind),
+            QueueFault::Line { line, kind } => PbxFault::Coded {
+                code: Code::from(kind),
                 line: Some(line),
             },
             QueueFault::NoMemory => PbxFault::NoMemory,

@@ -3,7 +3,6 @@ use Rattle.std.specs.Prelude.{ℕ, ◌-◌, List, [], ◌∷◌, ◌++◌, lengt
 use Rattle.std.specs.List.{flat_map}
 use Rattle.std.specs.Option.{option_to_list}
 use Rattle.dp_conf.specs.Changes.{changed_at}
-use Rattle.dp_conf.specs.declared.fault.ConfFault.TheVariants.{At, NoMemory as conf_no_memory}
 use Rattle.dp_files.specs.DialplanText.{text_of}
 use Rattle.dp_files.specs.declared.remark.Fault.TheVariants.{Line, NoClock}
 use Rattle.dp_files.specs.declared.source_line.MadeLine.{MadeLine}
@@ -21,7 +20,9 @@ use Rattle.dp_plan.specs.Contexts.{PlanContext}
 use Rattle.dp_plan.specs.Loaded.{plan_and_notes}
 use Rattle.dp_plan.specs.Plan.{PlanOf}
 use Rattle.dp_plan.specs.declared.fault.LoadFault.{LoadFault}
-use Rattle.dp_plan.specs.declared.fault.LoadFault.TheVariants.{Conf, Pattern, Plan as plan_fault, NoMemory}
+use Rattle.dp_plan.specs.declared.fault.LoadFault.TheVariants.{Line as load_line, NoMemory}
+use Rattle.dp_plan.specs.declared.fault.LoadKind.{LoadKind}
+use Rattle.dp_plan.specs.declared.fault.LoadKind.TheVariants.{Conf, Pattern, Plan as load_plan}
 use Rattle.dp_plan.specs.declared.fault.PlanKind.{PlanKind}
 use Rattle.dp_plan.specs.declared.fault.PlanKind.TheVariants.{LeftOut}
 use Rattle.dp_plan.specs.declared.fault.Word.{Word}
@@ -37,17 +38,20 @@ abbrev pub left_out_fault : Word → NoticeFault
 left_out_fault IncludeTimes = Reading NoClock
 left_out_fault word = Plan (LeftOut word)
 
--- why a line that the loader refuses is left out
+-- why a line of a context is left out
 abbrev pub loader_fault : PlanKind → NoticeFault
 loader_fault (LeftOut word) = left_out_fault word
 loader_fault kind = Plan kind
 
+-- why a line that the loader refuses is left out
+abbrev pub line_fault : LoadKind → NoticeFault
+line_fault (Conf kind) = Reading (Line kind)
+line_fault (Pattern fault) = Name fault
+line_fault (load_plan kind) = loader_fault kind
+
 -- the notice of a fault, if the fault is at a line
 abbrev pub fault_notice : LoadFault → Option NumberedNotice
-fault_notice (Conf (At line kind)) = Some (numbered line (fault_kind (Reading (Line kind))))
-fault_notice (Conf conf_no_memory) = None
-fault_notice (Pattern line fault) = Some (numbered line (fault_kind (Name fault)))
-fault_notice (plan_fault line kind) = Some (numbered line (fault_kind (loader_fault kind)))
+fault_notice (load_line line kind) = Some (numbered line (fault_kind (line_fault kind)))
 fault_notice NoMemory = None
 
 -- the same as a list

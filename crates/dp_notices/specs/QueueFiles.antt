@@ -3,7 +3,6 @@ use Rattle.std.specs.Prelude.{ℕ, false, List, ◌++◌, length, map, Option, S
 use Rattle.std.specs.List.{flat_map}
 use Rattle.std.specs.Option.{option_to_list}
 use Rattle.dp_conf.specs.Answers.{◌>>=◌}
-use Rattle.dp_conf.specs.declared.fault.ConfFault.TheVariants.{At, NoMemory as conf_no_memory}
 use Rattle.dp_files.specs.Configuration.{ConfigurationOf, configuration_of}
 use Rattle.dp_files.specs.DialplanText.{text_of}
 use Rattle.dp_files.specs.Sources.{Files}
@@ -27,15 +26,20 @@ use Rattle.dp_queue.specs.AllFaults as faults
 use Rattle.dp_queue.specs.File.{queues_in as queues_in_text}
 use Rattle.dp_queue.specs.Queues.{QueuesOf}
 use Rattle.dp_queue.specs.declared.fault.QueueFault.{QueueFault}
-use Rattle.dp_queue.specs.declared.fault.QueueFault.TheVariants.{Conf, Queue, NoMemory}
+use Rattle.dp_queue.specs.declared.fault.QueueFault.TheVariants.{Line as load_line, NoMemory}
+use Rattle.dp_queue.specs.declared.fault.QueueLoadKind.{QueueLoadKind}
+use Rattle.dp_queue.specs.declared.fault.QueueLoadKind.TheVariants.{Conf, Queue}
 
 -- ---- the faults of a text
 
+-- why a line that the loader refuses is left out
+abbrev pub queue_line_fault : QueueLoadKind → NoticeFault
+queue_line_fault (Conf kind) = Reading (Line kind)
+queue_line_fault (Queue kind) = queue_fault kind
+
 -- the notice of a fault, if the fault is at a line
 abbrev pub queue_fault_notice : QueueFault → Option NumberedNotice
-queue_fault_notice (Conf (At line kind)) = Some (numbered line (fault_kind (Reading (Line kind))))
-queue_fault_notice (Conf conf_no_memory) = None
-queue_fault_notice (Queue line kind) = Some (numbered line (fault_kind (queue_fault kind)))
+queue_fault_notice (load_line line kind) = Some (numbered line (fault_kind (queue_line_fault kind)))
 queue_fault_notice NoMemory = None
 
 -- the same as a list

@@ -10,10 +10,10 @@ ghost use Rattle.dp_plan.specs.Loaded.{plan_and_notes};
 use crate::line_notices::NoticeAt;
 use crate::macro_ends::{AddedLine, macro_ends};
 use crate::notice::{Notice, NoticeFault};
-use dp_conf::{ConfFault, NoMemory, Text};
+use dp_conf::{NoMemory, Text};
 use dp_files::{Fault, LineText, MadeLine, text_of};
 use dp_plan::{
-    Context, Dialplan, LoadFault, LoadedPlan, Note, PlanKind, Word, plan_faults,
+    Context, Dialplan, LoadFault, LoadKind, LoadedPlan, Note, PlanKind, Word, plan_faults,
     show_faults_decide_loading,
 };
 use std::alloc::Global;
@@ -42,7 +42,7 @@ pub(crate) struct LoadedLines {
     pub(crate) counts: PlanCounts,
 }
 
-/// Why a line that the loader refuses is left out. For an include with times, the reason is that no moment is given.
+/// Why a line of a context is left out. For an include with times, the reason is that no moment is given.
 fn loader_fault(kind: PlanKind) -> NoticeFault
     ensures { result ≡ spec.loader_fault kind }
 {
@@ -52,24 +52,27 @@ fn loader_fault(kind: PlanKind) -> NoticeFault
     }
 }
 
+/// Why a line that the loader refuses is left out.
+fn line_fault(kind: LoadKind) -> NoticeFault
+    ensures { result ≡ spec.line_fault kind }
+{
+    match kind {
+        LoadKind::Conf(kind) => NoticeFault::Reading(Fault::Line(kind)),
+        LoadKind::Pattern(fault) => NoticeFault::Name(fault),
+        LoadKind::Plan(kind) => loader_fault(kind),
+    }
+}
+
 /// The notice of a fault, if the fault is at a line.
 fn fault_notice(fault: LoadFault) -> Option<NumberedNotice>
     ensures { result ≡ spec.fault_notice fault }
 {
     match fault {
-        LoadFault::Conf(ConfFault::At { line, kind }) => Some(NumberedNotice {
+        LoadFault::Line { line, kind } => Some(NumberedNotice {
             line,
-            notice: Notice::Fault(NoticeFault::Reading(Fault::Line(kind))),
+            notice: Notice::Fault(line_fault(kind)),
         }),
-        LoadFault::Pattern { line, fault } => Some(NumberedNotice {
-            line,
-            notice: Notice::Fault(NoticeFault::Name(fault)),
-        }),
-        LoadFault::Plan { line, kind } => Some(NumberedNotice {
-            line,
-            notice: Notice::Fault(loader_fault(kind)),
-        }),
-        LoadFault::Conf(ConfFault::NoMemory) | LoadFault::NoMemory => None,
+        LoadFault::NoMemory => None,
     }
 }
 

@@ -15,12 +15,12 @@ use crate::loading::{NumberedNotice, empty_lines, push_notices};
 use crate::notice::{Notice, NoticeFault};
 use crate::plan_files::push_remarks;
 use crate::queue_lines::{QueueLines, read_queue_lines};
-use dp_conf::{ConfFault, NoMemory};
+use dp_conf::NoMemory;
 use dp_files::{
     ConfigurationFiles, Fault, MadeLine, Paths, ReadingFault, Remark, Source, SourceFile,
     read_configuration, read_folder_configuration, text_of,
 };
-use dp_queue::{QueueFault, Queues, queue_faults};
+use dp_queue::{QueueFault, QueueLoadKind, Queues, queue_faults};
 use std::alloc::Global;
 
 /// A file of queues, read with the files that it includes.
@@ -54,8 +54,8 @@ impl QueueFiles {
         let text = self.text(alloc)?;
         match Queues::load(alloc, &text) {
             Ok(queues) => Ok(queues.queues().len()),
-            Err(QueueFault::Conf(ConfFault::At { .. }) | QueueFault::Queue { .. }) => Ok(0),
-            Err(QueueFault::Conf(ConfFault::NoMemory) | QueueFault::NoMemory) => Err(NoMemory),
+            Err(QueueFault::Line { .. }) => Ok(0),
+            Err(QueueFault::NoMemory) => Err(NoMemory),
         }
     }
 
@@ -67,20 +67,26 @@ impl QueueFiles {
     }
 }
 
+/// Why a line that the loader refuses is left out.
+fn line_fault(kind: QueueLoadKind) -> NoticeFault
+    ensures { result ≡ spec.queue_line_fault kind }
+{
+    match kind {
+        QueueLoadKind::Conf(kind) => NoticeFault::Reading(Fault::Line(kind)),
+        QueueLoadKind::Queue(kind) => NoticeFault::Queue(kind),
+    }
+}
+
 /// The notice of a fault, if the fault is at a line.
 fn fault_notice(fault: QueueFault) -> Option<NumberedNotice>
     ensures { result ≡ spec.queue_fault_notice fault }
 {
     match fault {
-        QueueFault::Conf(ConfFault::At { line, kind }) => Some(NumberedNotice {
+        QueueFault::Line { line, kind } => Some(NumberedNotice {
             line,
-            notice: Notice::Fault(NoticeFault::Reading(Fault::Line(kind))),
+            notice: Notice::Fault(line_fault(kind)),
         }),
-        QueueFault::Queue { line, kind } => Some(NumberedNotice {
-            line,
-            notice: Notice::Fault(NoticeFault::Queue(kind)),
-        }),
-        QueueFault::Conf(ConfFault::NoMemory) | QueueFault::NoMemory => None,
+        QueueFault::NoMemory => None,
     }
 }
 

@@ -19,14 +19,13 @@ use Rattle.dp_pattern.specs.declared.fault.NameFault.{NameFault}
 use Rattle.dp_pattern.proofs.NameLemmas.{each_of}
 use Rattle.dp_pattern.proofs.SpelledBytes.{spells_cleanly}
 use Rattle.dp_plan.specs.EntryLine.{has_variable, without_last, name_without_variable, name_of, name_again, is_priority_word, written_number, written_of, before_label, is_no_label, label_within, label_of, number_after, written_priority, called_with, application_parts, application_by, application_of, shallow_at, entry_by, entry_of, exten_rest, exten_cut, exten_entry, same_cut, same_entry}
-use Rattle.dp_plan.specs.Faults.{at_line, name_at_line}
+use Rattle.dp_plan.specs.Faults.{at_line, name_at_line, plan_fault}
 use Rattle.dp_plan.specs.History.{History}
 use Rattle.dp_plan.specs.Priority.{IsPriority}
 use Rattle.dp_plan.specs.declared.fault.Word.TheVariants.{Hint, CallerId, Variable, OldForm, PriorityWord}
 use Rattle.dp_plan.specs.declared.fault.PlanKind.{PlanKind}
 use Rattle.dp_plan.specs.declared.fault.PlanKind.TheVariants.{BadPriority, BadLabel, LeftOut, TooDeep, PriorityLimit}
 use Rattle.dp_plan.specs.declared.fault.LoadFault.{LoadFault}
-use Rattle.dp_plan.specs.declared.fault.LoadFault.TheVariants.{Plan}
 use Rattle.dp_plan.specs.declared.numbering.Written.{Written}
 use Rattle.dp_plan.specs.declared.numbering.Written.TheVariants.{Number, TooGreat, Next}
 use Rattle.dp_plan.proofs.PartsKnown.{IsExtension, IsLabel, IsLabelled, IsApplication, IsEntry}
@@ -80,7 +79,7 @@ unfolding name_of
 name_of-known line text bytes avoids = by (has_variable text) (list_any (λ b. b == 47) text) refl
   where
     named_by : (name : Meaning) → meaning_of text ≡ Ok name → list_any (λ b. b == 47) text ≡ false → (t : Bool) → has_variable (spelling name) ≡ t
-        → IfOk (cond {A = Result Meaning LoadFault} t (Err (Plan line (LeftOut Variable))) (Ok name)) IsExtension
+        → IfOk (cond {A = Result Meaning LoadFault} t (Err (plan_fault line (LeftOut Variable))) (Ok name)) IsExtension
     named_by name read slash true variable = tt
     named_by name read slash false variable = record {
       known = record { text = text; bytes = λ k within. each_of (λ b. b < 256) text (small text bytes) k within; read = read };
@@ -95,7 +94,7 @@ name_of-known line text bytes avoids = by (has_variable text) (list_any (λ b. b
     read_by slash (Ok name) read = named_by name read slash (has_variable (spelling name)) refl
 
     by : (v s : Bool) → list_any (λ b. b == 47) text ≡ s
-        → IfOk (cond {A = Result Meaning LoadFault} v (Err (Plan line (LeftOut Variable))) (cond s (Err (Plan line (LeftOut CallerId))) (name_at_line line (meaning_of text) >>= λ n. name_without_variable line n))) IsExtension
+        → IfOk (cond {A = Result Meaning LoadFault} v (Err (plan_fault line (LeftOut Variable))) (cond s (Err (plan_fault line (LeftOut CallerId))) (name_at_line line (meaning_of text) >>= λ n. name_without_variable line n))) IsExtension
     by true s slash = tt
     by false true slash = tt
     by false false slash = read_by slash (meaning_of text) refl
@@ -237,7 +236,7 @@ pub shallow-known : (P : List ℕ → Type 0) (line : ℕ) (text : List ℕ) →
 shallow-known P line text fine = by (is_too_deep text) refl
   where
     by : (t : Bool) → is_too_deep text ≡ t
-        → IfOk (cond {A = Result (List ℕ) LoadFault} t (Err (Plan line TooDeep)) (Ok text)) (λ shallow. P shallow × (is_too_deep shallow ≡ false))
+        → IfOk (cond {A = Result (List ℕ) LoadFault} t (Err (plan_fault line TooDeep)) (Ok text)) (λ shallow. P shallow × (is_too_deep shallow ≡ false))
     by true deep = tt
     by false deep = (fine, deep)
 

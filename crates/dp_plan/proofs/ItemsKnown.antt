@@ -12,12 +12,12 @@ use Rattle.dp_pattern.specs.Name.{Meaning}
 use Rattle.dp_plan.specs.EntryLine.{shallow_at, exten_entry, same_entry}
 use Rattle.dp_plan.specs.History.{History, latest, section_in, name_in, history_of}
 use Rattle.dp_plan.specs.Items.{section_named, global_item, include_item, refused_key, other_item, entry_item, context_item, just, pair_item, line_item, items_after}
+use Rattle.dp_plan.specs.Faults.{plan_fault}
 use Rattle.dp_plan.specs.declared.entry.Entry.{Entry}
 use Rattle.dp_plan.specs.declared.fault.Word.TheVariants.{IncludeTimes}
 use Rattle.dp_plan.specs.declared.fault.PlanKind.{PlanKind}
 use Rattle.dp_plan.specs.declared.fault.PlanKind.TheVariants.{LeftOut}
 use Rattle.dp_plan.specs.declared.fault.LoadFault.{LoadFault}
-use Rattle.dp_plan.specs.declared.fault.LoadFault.TheVariants.{Plan}
 use Rattle.dp_plan.specs.Item.{Item, Begins, Sets, Adds, Includes, Unknown}
 use Rattle.dp_plan.specs.declared.section.Section.{Section}
 use Rattle.dp_plan.specs.declared.section.Section.TheVariants.{General, Globals, Context}
@@ -84,7 +84,7 @@ include_item-known : (line : ℕ) (context key value : List ℕ) → IsContextNa
 include_item-known line context key value fine pair = by (list_any (λ b. b == 44) value) refl
   where
     by : (t : Bool) → list_any (λ b. b == 44) value ≡ t
-        → IfOk (cond {A = Result Item LoadFault} t (Err (Plan line (LeftOut IncludeTimes))) (Ok (Includes line context value))) IsFine
+        → IfOk (cond {A = Result Item LoadFault} t (Err (plan_fault line (LeftOut IncludeTimes))) (Ok (Includes line context value))) IsFine
     by true comma = tt
     by false comma = (fine, record { value = value-known key value pair; no_comma = none-any (λ b. b == 44) value comma })
 

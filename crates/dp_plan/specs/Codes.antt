@@ -1,9 +1,11 @@
 -- The numbers of the faults of a dialplan, the names printed next to them, and the text of a fault at a line.
 use Rattle.std.specs.Prelude.{ℕ, List, ◌++◌, codes, decimal}
-use Rattle.dp_conf.specs.Codes.{conf_fault_text}
-use Rattle.dp_pattern.specs.Codes.{fault_name}
+use Rattle.dp_conf.specs.Codes.{line_code, line_name}
+use Rattle.dp_pattern.specs.Codes.{name_code, fault_name}
 use Rattle.dp_plan.specs.declared.fault.LoadFault.{LoadFault}
-use Rattle.dp_plan.specs.declared.fault.LoadFault.TheVariants.{Conf, Pattern, Plan, NoMemory}
+use Rattle.dp_plan.specs.declared.fault.LoadFault.TheVariants.{Line, NoMemory}
+use Rattle.dp_plan.specs.declared.fault.LoadKind.{LoadKind}
+use Rattle.dp_plan.specs.declared.fault.LoadKind.TheVariants.{Conf, Pattern, Plan}
 use Rattle.dp_plan.specs.declared.fault.PlanKind.{PlanKind}
 use Rattle.dp_plan.specs.declared.fault.PlanKind.TheVariants.{BadPriority, NoPrevious, BadLabel, BadApplication, LeftOut, TooDeep, NoExten, PriorityLimit, ShortLine}
 use Rattle.dp_plan.specs.declared.note.NoteKind.{NoteKind}
@@ -33,11 +35,21 @@ plan_name NoExten = codes "NoExten"
 plan_name PriorityLimit = codes "PriorityLimit"
 plan_name ShortLine = codes "ShortLine"
 
+-- the number of the fault of a line, whatever its reason
+abbrev pub load_code : LoadKind → ℕ
+load_code (Conf kind) = line_code kind
+load_code (Pattern fault) = name_code fault
+load_code (Plan kind) = plan_code kind
+
+-- the printed name of the fault of a line, whatever its reason
+abbrev pub load_name : LoadKind → List ℕ
+load_name (Conf kind) = line_name kind
+load_name (Pattern fault) = fault_name fault
+load_name (Plan kind) = plan_name kind
+
 -- what is printed if a dialplan did not load
 abbrev pub load_fault_text : LoadFault → List ℕ
-load_fault_text (Conf fault) = conf_fault_text fault
-load_fault_text (Pattern line fault) = fault_name fault ++ codes " line " ++ decimal line
-load_fault_text (Plan line kind) = plan_name kind ++ codes " line " ++ decimal line
+load_fault_text (Line line kind) = load_name kind ++ codes " line " ++ decimal line
 load_fault_text NoMemory = codes "out of memory"
 
 -- the printed name of a note

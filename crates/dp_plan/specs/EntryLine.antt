@@ -16,13 +16,12 @@ use Rattle.dp_conf.specs.Shallow.{is_too_deep}
 use Rattle.dp_conf.specs.Words.{same_text}
 use Rattle.dp_pattern.specs.Name.{Meaning, meaning_of}
 use Rattle.dp_pattern.specs.Spelling.{spelling}
-use Rattle.dp_plan.specs.Faults.{at_line, name_at_line}
+use Rattle.dp_plan.specs.Faults.{at_line, name_at_line, plan_fault}
 use Rattle.dp_plan.specs.History.{History}
 use Rattle.dp_plan.specs.declared.fault.Word.TheVariants.{Hint, CallerId, Variable, OldForm, PriorityWord}
 use Rattle.dp_plan.specs.declared.fault.PlanKind.{PlanKind}
 use Rattle.dp_plan.specs.declared.fault.PlanKind.TheVariants.{BadPriority, NoPrevious, BadLabel, BadApplication, LeftOut, TooDeep, NoExten, PriorityLimit, ShortLine}
 use Rattle.dp_plan.specs.declared.fault.LoadFault.{LoadFault}
-use Rattle.dp_plan.specs.declared.fault.LoadFault.TheVariants.{Plan}
 use Rattle.dp_plan.specs.declared.numbering.Written.{Written}
 use Rattle.dp_plan.specs.declared.numbering.Written.TheVariants.{Number, TooGreat, Next}
 use Rattle.dp_plan.specs.declared.numbering.Numbering.{Numbering}
@@ -44,18 +43,18 @@ without_last last (b ∷ c ∷ bs) = option_map (λ front. b ∷ front) (without
 
 -- a name that has been read, unless its canonical spelling has a `${`
 abbrev pub name_without_variable : ℕ → Meaning → Result Meaning LoadFault
-name_without_variable line name = if has_variable (spelling name) then Err (Plan line (LeftOut Variable)) else Ok name
+name_without_variable line name = if has_variable (spelling name) then Err (plan_fault line (LeftOut Variable)) else Ok name
 
 -- the name of a line: variables and callers' numbers are not supported, and are checked before the faults of names
 unfoldable pub name_of : ℕ → List ℕ → Result Meaning LoadFault
 name_of line text =
-    if has_variable text then Err (Plan line (LeftOut Variable))
-    else if list_any (λ b. b == byte "/") text then Err (Plan line (LeftOut CallerId))
+    if has_variable text then Err (plan_fault line (LeftOut Variable))
+    else if list_any (λ b. b == byte "/") text then Err (plan_fault line (LeftOut CallerId))
     else name_at_line line (meaning_of text) >>= λ name. name_without_variable line name
 
 -- the name of a line that continues the one before it
 abbrev pub name_again : ℕ → Option Meaning → Result Meaning LoadFault
-name_again line None = Err (Plan line NoExten)
+name_again line None = Err (plan_fault line NoExten)
 name_again line (Some name) = Ok name
 
 -- ---- the priority
@@ -157,7 +156,7 @@ called_now (Err kind) = Err kind
 
 -- a text that is expanded later, unless its groups are nested more deeply than is read then
 abbrev pub shallow_at : ℕ → List ℕ → Result (List ℕ) LoadFault
-shallow_at line text = if is_too_deep text then Err (Plan line TooDeep) else Ok text
+shallow_at line text = if is_too_deep text then Err (plan_fault line TooDeep) else Ok text
 
 -- ---- the line
 
@@ -177,13 +176,13 @@ entry_of history line context name priority application =
 
 -- an `exten` line, given its name and the rest cut at the second comma
 abbrev pub exten_rest : History → ℕ → List ℕ → List ℕ → Option (List ℕ × List ℕ) → Result Entry LoadFault
-exten_rest history line context name None = Err (Plan line ShortLine)
+exten_rest history line context name None = Err (plan_fault line ShortLine)
 exten_rest history line context name (Some cut) =
     entry_of history line context (name_of line name) (trim cut.0) (trim cut.1)
 
 -- the same, given the value cut at the first comma
 abbrev pub exten_cut : History → ℕ → List ℕ → Option (List ℕ × List ℕ) → Result Entry LoadFault
-exten_cut history line context None = Err (Plan line ShortLine)
+exten_cut history line context None = Err (plan_fault line ShortLine)
 exten_cut history line context (Some cut) = exten_rest history line context (trim cut.0) (cut_once (byte ",") cut.1)
 
 -- the entry that the value of an `exten` line writes
@@ -192,7 +191,7 @@ exten_entry history line context value = exten_cut history line context (cut_onc
 
 -- a `same` line, given the value cut at its comma
 abbrev pub same_cut : History → ℕ → List ℕ → Option (List ℕ × List ℕ) → Result Entry LoadFault
-same_cut history line context None = name_again line history.name >>= λ name. Err (Plan line ShortLine)
+same_cut history line context None = name_again line history.name >>= λ name. Err (plan_fault line ShortLine)
 same_cut history line context (Some cut) =
     entry_of history line context (name_again line history.name) (trim cut.0) (trim cut.1)
 

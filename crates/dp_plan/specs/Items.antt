@@ -6,13 +6,13 @@ use Rattle.dp_conf.specs.Answers.{◌>>=◌, with_front}
 use Rattle.dp_conf.specs.Lines.{LineOf, Header, Pair}
 use Rattle.dp_conf.specs.Words.{same_word}
 use Rattle.dp_plan.specs.EntryLine.{shallow_at, exten_entry, same_entry}
+use Rattle.dp_plan.specs.Faults.{plan_fault}
 use Rattle.dp_plan.specs.History.{History, history_of}
 use Rattle.dp_plan.specs.declared.entry.Entry.{Entry}
 use Rattle.dp_plan.specs.declared.fault.Word.TheVariants.{Switch, IgnorePat, IncludeTimes}
 use Rattle.dp_plan.specs.declared.fault.PlanKind.{PlanKind}
 use Rattle.dp_plan.specs.declared.fault.PlanKind.TheVariants.{LeftOut}
 use Rattle.dp_plan.specs.declared.fault.LoadFault.{LoadFault}
-use Rattle.dp_plan.specs.declared.fault.LoadFault.TheVariants.{Plan}
 use Rattle.dp_plan.specs.declared.section.Section.{Section}
 use Rattle.dp_plan.specs.declared.section.Section.TheVariants.{General, Globals, Context}
 use Rattle.dp_plan.specs.Item.{Item, Begins, Sets, Adds, Includes, Unknown}
@@ -33,7 +33,7 @@ global_item line (k ∷ key) value =
 -- an include of one context, without times
 abbrev pub include_item : ℕ → List ℕ → List ℕ → Result Item LoadFault
 include_item line context name =
-    if list_any (λ b. b == byte ",") name then Err (Plan line (LeftOut IncludeTimes)) else Ok (Includes line context name)
+    if list_any (λ b. b == byte ",") name then Err (plan_fault line (LeftOut IncludeTimes)) else Ok (Includes line context name)
 
 -- the reason why a key is refused, if it is one of the unsupported ones
 abbrev pub refused_key : List ℕ → Option PlanKind
@@ -45,7 +45,7 @@ refused_key key =
 
 -- a pair that has no meaning in a context
 abbrev pub other_item : ℕ → Option PlanKind → Result Item LoadFault
-other_item line (Some kind) = Err (Plan line kind)
+other_item line (Some kind) = Err (plan_fault line kind)
 other_item line None = Ok (Unknown line)
 
 -- the entry of a line is added to the context

@@ -9,7 +9,7 @@ ghost use Rattle.dp_plan.specs.Items.{items_after};
 ghost use Rattle.dp_plan.specs.Loaded.{plan_and_notes};
 ghost use Rattle.dp_plan.specs.steps.Sifting as spec;
 
-use crate::fault::{ItemKind, LoadFault};
+use crate::fault::{LoadFault, LoadKind};
 use crate::made::Made;
 use dp_conf::{FaultyLine, Line, NoMemory, TakeFault, TakeLine, beside, take_lines};
 use std::alloc::Global;
@@ -42,7 +42,7 @@ impl PlanFaults {
     }
 
     /// Adds the fault of a line.
-    fn push(&mut self, fault: FaultyLine<ItemKind>) -> Result<(), NoMemory>
+    fn push(&mut self, fault: FaultyLine<LoadKind>) -> Result<(), NoMemory>
         ensures { OnOk result (self.new ≡ spec.with_fault self.old (fault_of_line fault)) }
     {
         self.faults.push(LoadFault::from(fault))?;
@@ -79,7 +79,7 @@ impl TakeLine for PlanFaults {
 /// and an `n` counts on from the line before it. The list is empty exactly if the text loads; otherwise its first fault is the one for
 /// which [`Dialplan::load`](crate::Dialplan::load) refuses the text: see [`show_faults_decide_loading`].
 ///
-/// A fault of the text itself is the error, as `LoadFault::Conf`, because it leaves open how the lines after it are read. The error is
+/// A fault of the text itself is the error, as `LoadKind::Conf`, because it leaves open how the lines after it are read. The error is
 /// `NoMemory` if memory runs out.
 pub fn plan_faults(alloc: Global, text: &[u8]) -> Result<Vec<LoadFault>, LoadFault>
     ensures { Answers (λ faults. faults.items) reason_of result (faults_of text.now) }

@@ -1,9 +1,9 @@
 //! The faults for which a dialplan is refused, with their numbers and their printed names.
 ghost use Rattle.std.specs.Prelude.{◌≡◌, Some};
 ghost use Rattle.dp_conf.specs.declared.first_fault.TakeFault.TheVariants.{Line};
-ghost use Rattle.dp_plan.specs.Codes.{plan_code, plan_name, load_fault_text};
+ghost use Rattle.dp_plan.specs.Codes.{plan_code, plan_name, load_code, load_name, load_fault_text};
 
-use dp_conf::{ConfFault, FaultyLine, NoMemory, TakeFault};
+use dp_conf::{ConfFault, FaultyLine, LineKind, NoMemory, TakeFault};
 use dp_pattern::NameFault;
 use std::alloc::AllocFailed;
 use std::error::Error;
@@ -89,51 +89,70 @@ impl PlanKind {
     }
 }
 
-/// Why a line of a context or of the global variables is refused, including for its name.
-#[derive(Clone, Copy)]
-pub(crate) enum ItemKind {
-    /// The name of the line is not valid.
-    BadName(NameFault),
-    /// The rest of a line is refused.
-    BadLine(PlanKind),
+/// Why a line of the text of a dialplan is refused.
+#[derive(Clone, Copy, Debug, PartialEq, Eq)]
+pub enum LoadKind {
+    /// The line is refused whatever its section.
+    Conf(LineKind),
+    /// The name of an extension is not valid.
+    Pattern(NameFault),
+    /// A line of a context or of the global variables is refused for another reason.
+    Plan(PlanKind),
+}
+
+impl LoadKind {
+    /// The number of the fault: 1 to 6, 10 to 16, or 20 to 28.
+    pub fn code(self) -> u8
+        ensures { result ≡ load_code self }
+    {
+        match self {
+            LoadKind::Conf(kind) => kind.code(),
+            LoadKind::Pattern(fault) => fault.code(),
+            LoadKind::Plan(kind) => kind.code(),
+        }
+    }
+
+    /// The name of the fault, as it is printed next to its number.
+    pub fn name(self) -> &'static str
+        ensures { result.now ≡ load_name self }
+    {
+        match self {
+            LoadKind::Conf(kind) => kind.name(),
+            LoadKind::Pattern(fault) => fault.name(),
+            LoadKind::Plan(kind) => kind.name(),
+        }
+    }
 }
 
 /// Why a line has no item.
-pub(crate) type ItemFault = TakeFault<ItemKind>;
+pub(crate) type ItemFault = TakeFault<LoadKind>;
 
-/// The fault of a refused line.
+/// The fault of a refused line of a context or of the global variables.
 pub(crate) fn fault(line: usize, kind: PlanKind) -> ItemFault
-    ensures { result ≡ Line (record { line = line; kind = ItemKind.BadLine kind }) }
+    ensures { result ≡ Line (record { line = line; kind = LoadKind.Plan kind }) }
 {
-    let kind = ItemKind::BadLine(kind);
+    let kind = LoadKind::Plan(kind);
     TakeFault::Line(FaultyLine { line, kind })
 }
 
-/// Why a dialplan did not load. Out-of-memory is always `NoMemory`, and never within `Conf`.
+/// Why a dialplan did not load.
 #[derive(Clone, Copy, Debug, PartialEq, Eq)]
 pub enum LoadFault {
-    /// A line of the text is refused, whatever its section.
-    Conf(ConfFault),
-    /// The name of the line is not valid; lines are counted from 1.
-    Pattern { line: usize, fault: NameFault },
-    /// A line of a context or of the global variables is refused; lines are counted from 1.
-    Plan { line: usize, kind: PlanKind },
+    /// A line is refused; lines are counted from 1.
+    Line { line: usize, kind: LoadKind },
     /// Memory ran out.
     NoMemory,
 }
 
-impl From<FaultyLine<ItemKind>> for LoadFault {
+impl From<FaultyLine<LoadKind>> for LoadFault {
     ghost use Rattle.std.specs.Prelude.{◌≡◌};
     ghost use Rattle.dp_plan.specs.Faults.{fault_of_line};
 
     ghost from_gives = { λ faulty fault. fault ≡ fault_of_line faulty };
 
-    fn from(faulty: FaultyLine<ItemKind>) -> Self {
+    fn from(faulty: FaultyLine<LoadKind>) -> Self {
         let FaultyLine { line, kind } = faulty;
-        match kind {
-            ItemKind::BadName(fault) => LoadFault::Pattern { line, fault },
-            ItemKind::BadLine(kind) => LoadFault::Plan { line, kind },
-        }
+        LoadFault::Line { line, kind }
     }
 }
 
@@ -142,9 +161,7 @@ impl fmt::Display for LoadFault {
 
     fn fmt<W: fmt::Write>(&self, f: &mut fmt::Formatter<W>) -> fmt::Result {
         match self {
-            LoadFault::Conf(conf) => write!(f, "{conf}"),
-            LoadFault::Pattern { line, fault } => write!(f, "{fault} line {line}"),
-            LoadFault::Plan { line, kind } => write!(f, "{} line {line}", kind.name()),
+            LoadFault::Line { line, kind } => write!(f, "{} line {line}", kind.name()),
             LoadFault::NoMemory => f.write_str("out of memory"),
         }
     }
@@ -160,7 +177,10 @@ impl From<ConfFault> for LoadFault {
 
     fn from(conf: ConfFault) -> Self {
         match conf {
-            ConfFault::At { line, kind } => LoadFault::Conf(ConfFault::At { line, kind }),
+            ConfFault::At { line, kind } => LoadFault::Line {
+                line,
+                kind: LoadKind::Conf(kind),
+            },
             ConfFault::NoMemory => LoadFault::NoMemory,
         }
     }

@@ -37,7 +37,7 @@ pub use dp_pattern::{Name, NameFault};
 pub use entry::{Entry, EntryId};
 pub use entry_lines::EntryLines;
 pub use extension::same_names_are_equal;
-pub use fault::{LoadFault, PlanKind, Word};
+pub use fault::{LoadFault, LoadKind, PlanKind, Word};
 pub use note::{Note, NoteKind};
 pub use plan::{Dialplan, GlobalVariable, LoadedPlan, show_loaded_entries_known};
 pub use priority::{MOST_PRIORITY, Priority};

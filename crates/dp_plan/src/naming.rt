@@ -6,7 +6,7 @@ ghost use Rattle.dp_plan.specs.Faults.{name_at_line};
 ghost use Rattle.dp_plan.specs.steps.ItemFaults.{item_reason};
 ghost use Rattle.dp_pattern.specs.Name.{meaning_of};
 
-use crate::fault::{ItemFault, ItemKind, PlanKind, Word, fault};
+use crate::fault::{ItemFault, LoadKind, PlanKind, Word, fault};
 use crate::shared_name::SharedName;
 use dp_conf::{FaultyLine, TakeFault};
 use dp_pattern::{Name, PatternFault};
@@ -37,7 +37,7 @@ fn name_at(alloc: Global, line: usize, text: &[u8]) -> Result<Name, ItemFault>
     match Name::read(alloc, text) {
         Ok(name) => Ok(name),
         Err(PatternFault::Name(fault)) => {
-            let kind = ItemKind::BadName(fault);
+            let kind = LoadKind::Pattern(fault);
             Err(TakeFault::Line(FaultyLine { line, kind }))
         }
         Err(PatternFault::NoMemory) => Err(TakeFault::NoMemory),

@@ -94,9 +94,9 @@ impl Dialplan {
 
     /// Loads a dialplan, with notes on the lines that were dropped, in the order of the lines.
     ///
-    /// The error is, in this order: `LoadFault::Conf` if the text itself has a fault; else the fault of the first
-    /// faulty line of a context or of the global variables, as `LoadFault::Pattern` if it is in a name and as
-    /// `LoadFault::Plan` otherwise. It is `NoMemory` if memory runs out.
+    /// The error is, in this order: the first fault of the text itself, as `LoadKind::Conf`; else the fault of the first
+    /// faulty line of a context or of the global variables, as `LoadKind::Pattern` if it is in a name and as
+    /// `LoadKind::Plan` otherwise. It is `NoMemory` if memory runs out.
     pub fn load(alloc: Global, text: &[u8]) -> Result<(Self, Vec<Note>), LoadFault>
         ensures { Answers (λ read. (read.0, read.1.items)) reason_of result (plan_and_notes text.now) }
     {

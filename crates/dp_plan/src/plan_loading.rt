@@ -5,7 +5,7 @@ ghost use Rattle.dp_plan.specs.Faults.{reason_of};
 ghost use Rattle.dp_plan.specs.steps.Loading as spec;
 
 use crate::draft::Draft;
-use crate::fault::{ItemKind, LoadFault};
+use crate::fault::{LoadFault, LoadKind};
 use crate::made::Made;
 use dp_conf::{FirstFault, Line, NoMemory, TakeLine, beside, take_lines};
 use std::alloc::Global;
@@ -16,7 +16,7 @@ use std::marker::Model;
 #[derive(Drop)]
 struct PlanLoading {
     made: Made,
-    fault: FirstFault<ItemKind>,
+    fault: FirstFault<LoadKind>,
 }
 
 impl Model for PlanLoading {

@@ -1,5 +1,5 @@
 //! The numbers and the printed names of faults and notes.
-use dp_plan::{ConfFault, LineKind, LoadFault, NameFault, NoteKind, PlanKind, Word};
+use dp_plan::{ConfFault, LineKind, LoadFault, LoadKind, NameFault, NoteKind, PlanKind, Word};
 use std::alloc::Global;
 use std::process::Abort;
 use std::test::Fail;
@@ -89,17 +89,17 @@ fn check_note_names(rt: &impl Abort) {
 }
 
 fn check_printed_faults(rt: &impl Abort, alloc: Global) -> Result<(), Fail> {
-    let of_text = LoadFault::Conf(ConfFault::At {
+    let of_text = LoadFault::Line {
         line: 12,
-        kind: LineKind::NoEquals,
-    });
-    let of_name = LoadFault::Pattern {
-        line: 7,
-        fault: NameFault::AfterWildcard,
+        kind: LoadKind::Conf(LineKind::NoEquals),
     };
-    let of_context = LoadFault::Plan {
+    let of_name = LoadFault::Line {
+        line: 7,
+        kind: LoadKind::Pattern(NameFault::AfterWildcard),
+    };
+    let of_context = LoadFault::Line {
         line: 3,
-        kind: PlanKind::LeftOut(Word::Hint),
+        kind: LoadKind::Plan(PlanKind::LeftOut(Word::Hint)),
     };
     let printed = format!(in alloc;
         "{of_text}, {of_name}, {of_context}, {}",
@@ -112,14 +112,18 @@ fn check_printed_faults(rt: &impl Abort, alloc: Global) -> Result<(), Fail> {
     Ok(())
 }
 
-/// Out of memory is the outermost fault, whichever call met it.
+/// Out of memory is the same fault, whichever call met it, and a fault of the text keeps its line.
 fn check_out_of_memory(rt: &impl Abort) {
     assert_eq!(rt; LoadFault::from(ConfFault::NoMemory), LoadFault::NoMemory);
     let fault = ConfFault::At {
         line: 1,
         kind: LineKind::Directive,
     };
-    assert_eq!(rt; LoadFault::from(fault), LoadFault::Conf(fault));
+    let of_text = LoadFault::Line {
+        line: 1,
+        kind: LoadKind::Conf(LineKind::Directive),
+    };
+    assert_eq!(rt; LoadFault::from(fault), of_text);
 }
 
 fn check_codes(rt: &impl Abort, alloc: Global) -> Result<(), Fail> {

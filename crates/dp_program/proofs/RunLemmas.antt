@@ -2,13 +2,14 @@
 use Rattle.std.proofs.Common.{◌≡◌, ℕ, ◌+◌, false, List, [], ◌∷◌, ◌++◌, length, Option, Some, None, Result, Ok, Err, refl, ap, sym, ◌∙◌}
 use Rattle.dp_conf.specs.Answers.{◌>>=◌, all_of, each_after, with_front}
 use Rattle.dp_conf.specs.Lines.{parts_of}
-use Rattle.dp_conf.specs.declared.fault.ConfFault.TheVariants.{At, NoMemory as conf_no_memory}
 use Rattle.dp_plan.specs.Loaded.{plan_and_notes}
 use Rattle.dp_plan.specs.declared.fault.LoadFault.{LoadFault}
-use Rattle.dp_plan.specs.declared.fault.LoadFault.TheVariants.{Conf, Pattern, Plan, NoMemory as load_no_memory}
+use Rattle.dp_plan.specs.declared.fault.LoadFault.TheVariants.{Line as load_line, NoMemory as load_no_memory}
+use Rattle.dp_plan.specs.declared.fault.LoadKind.TheVariants.{Conf, Pattern, Plan}
 use Rattle.dp_queue.specs.File.{queues_in as queues_loaded}
 use Rattle.dp_queue.specs.declared.fault.QueueFault.{QueueFault}
-use Rattle.dp_queue.specs.declared.fault.QueueFault.TheVariants.{Conf as queue_conf, Queue, NoMemory as queue_no_memory}
+use Rattle.dp_queue.specs.declared.fault.QueueFault.TheVariants.{Line as queue_line, NoMemory as queue_no_memory}
+use Rattle.dp_queue.specs.declared.fault.QueueLoadKind.TheVariants.{Conf as queue_conf, Queue}
 use Rattle.dp_machine.specs.World.{opening}
 use Rattle.dp_commands.specs.Run.{Files, Run, RunContents, Writes, contents_of, files_of, plan_fault, queue_fault, queues_of, run_of, run_on}
 use Rattle.dp_commands.specs.Script.{line_in, reading_at, reading_by, script_of, turns_of}
@@ -25,17 +26,15 @@ next_reads (Err fault) next quiet all = quiet
 
 plan_reads : {X : Type 0} (read : Result X LoadFault) → has_read_failed (plan_fault read) ≡ false
 plan_reads (Ok x) = refl
-plan_reads (Err (Conf (At line kind))) = refl
-plan_reads (Err (Conf conf_no_memory)) = refl
-plan_reads (Err (Pattern line fault)) = refl
-plan_reads (Err (Plan line kind)) = refl
+plan_reads (Err (load_line line (Conf kind))) = refl
+plan_reads (Err (load_line line (Pattern fault))) = refl
+plan_reads (Err (load_line line (Plan kind))) = refl
 plan_reads (Err load_no_memory) = refl
 
 queue_reads : {X : Type 0} (read : Result X QueueFault) → has_read_failed (queue_fault read) ≡ false
 queue_reads (Ok x) = refl
-queue_reads (Err (queue_conf (At line kind))) = refl
-queue_reads (Err (queue_conf conf_no_memory)) = refl
-queue_reads (Err (Queue line kind)) = refl
+queue_reads (Err (queue_line line (queue_conf kind))) = refl
+queue_reads (Err (queue_line line (Queue kind))) = refl
 queue_reads (Err queue_no_memory) = refl
 
 queues_read : (text : Option (List ℕ)) → has_read_failed (queues_of text) ≡ false

@@ -78,7 +78,7 @@ impl TakeLine for QueueFaults {
 /// read as those of the section before it. The list is empty exactly if the file loads; otherwise its first fault is the one for which
 /// [`Queues::load`](crate::Queues::load) refuses the file: see [`show_faults_decide_loading`].
 ///
-/// A fault of the text itself is the error, as `QueueFault::Conf`, because it leaves open how the lines after it are read. The error is
+/// A fault of the text itself is the error, as `QueueLoadKind::Conf`, because it leaves open how the lines after it are read. The error is
 /// `NoMemory` if memory runs out.
 pub fn queue_faults(alloc: Global, text: &[u8]) -> Result<Vec<QueueFault>, QueueFault>
     ensures { Answers (λ faults. faults.items) reason_of result (faults_in text.now) }

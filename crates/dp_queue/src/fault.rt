@@ -1,9 +1,8 @@
 //! The faults of a file of queues and the refusals of an offer, with their numbers and their printed names.
 ghost use Rattle.std.specs.Prelude.{◌≡◌, ◌++◌, Some, codes, decimal};
-ghost use Rattle.dp_conf.specs.Codes.{conf_fault_text};
-ghost use Rattle.dp_queue.specs.Codes.{queue_code, queue_name, offer_code, offer_name, queue_fault_text};
+ghost use Rattle.dp_queue.specs.Codes.{queue_code, queue_name, queue_load_code, queue_load_name, offer_code, offer_name, queue_fault_text};
 
-use dp_conf::{ConfFault, FaultyLine, NoMemory};
+use dp_conf::{ConfFault, FaultyLine, LineKind, NoMemory};
 use std::alloc::AllocFailed;
 use std::error::Error;
 use std::fmt;
@@ -47,13 +46,42 @@ impl QueueKind {
     }
 }
 
-/// Why a file of queues did not load. Out-of-memory is always `NoMemory`, and never within `Conf`.
+/// Why a line of a file of queues is refused.
+#[derive(Clone, Copy, Debug, PartialEq, Eq)]
+pub enum QueueLoadKind {
+    /// The line is refused whatever its section.
+    Conf(LineKind),
+    /// A line of a queue is refused.
+    Queue(QueueKind),
+}
+
+impl QueueLoadKind {
+    /// The number of the fault: 1 to 6, or 30 to 33.
+    pub fn code(self) -> u8
+        ensures { result ≡ queue_load_code self }
+    {
+        match self {
+            QueueLoadKind::Conf(kind) => kind.code(),
+            QueueLoadKind::Queue(kind) => kind.code(),
+        }
+    }
+
+    /// The name of the fault, as it is printed next to its number.
+    pub fn name(self) -> &'static str
+        ensures { result.now ≡ queue_load_name self }
+    {
+        match self {
+            QueueLoadKind::Conf(kind) => kind.name(),
+            QueueLoadKind::Queue(kind) => kind.name(),
+        }
+    }
+}
+
+/// Why a file of queues did not load.
 #[derive(Clone, Copy, Debug, PartialEq, Eq)]
 pub enum QueueFault {
-    /// A line of the text is refused, whatever its section.
-    Conf(ConfFault),
-    /// A line of a queue is refused; lines are counted from 1.
-    Queue { line: usize, kind: QueueKind },
+    /// A line is refused; lines are counted from 1.
+    Line { line: usize, kind: QueueLoadKind },
     /// Memory ran out.
     NoMemory,
 }
@@ -66,7 +94,10 @@ impl From<ConfFault> for QueueFault {
 
     fn from(conf: ConfFault) -> Self {
         match conf {
-            ConfFault::At { line, kind } => QueueFault::Conf(ConfFault::At { line, kind }),
+            ConfFault::At { line, kind } => QueueFault::Line {
+                line,
+                kind: QueueLoadKind::Conf(kind),
+            },
             ConfFault::NoMemory => QueueFault::NoMemory,
         }
     }
@@ -80,7 +111,10 @@ impl From<FaultyLine<QueueKind>> for QueueFault {
 
     fn from(faulty: FaultyLine<QueueKind>) -> Self {
         let FaultyLine { line, kind } = faulty;
-        QueueFault::Queue { line, kind }
+        QueueFault::Line {
+            line,
+            kind: QueueLoadKind::Queue(kind),
+        }
     }
 }
 
@@ -111,8 +145,7 @@ impl fmt::Display for QueueFault {
 
     fn fmt<W: fmt::Write>(&self, f: &mut fmt::Formatter<W>) -> fmt::Result {
         match self {
-            QueueFault::Conf(fault) => fmt::Display::fmt(fault, f),
-            QueueFault::Queue { line, kind } => write!(f, "{} line {line}", kind.name()),
+            QueueFault::Line { line, kind } => write!(f, "{} line {line}", kind.name()),
             QueueFault::NoMemory => f.write_str("out of memory"),
         }
     }

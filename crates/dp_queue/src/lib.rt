@@ -33,7 +33,7 @@ pub use all_faults::{queue_faults, show_faultless_lines_stand_alone, show_faults
 pub use call::Call;
 pub use change::{Added, Removed};
 pub use dp_conf::{NoMemory, Text};
-pub use fault::{OfferFault, QueueFault, QueueKind};
+pub use fault::{OfferFault, QueueFault, QueueKind, QueueLoadKind};
 pub use join::Join;
 pub use member::Member;
 pub use offer::Offered;

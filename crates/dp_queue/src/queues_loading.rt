@@ -81,8 +81,8 @@ impl Queues {
     /// Loads the queues of a file.
     ///
     /// A section is a queue, and `[general]` in any ASCII case is ignored. A repeated key takes its last value, but
-    /// each `member` adds a member, unless it is one already. The error is `QueueFault::Conf` if the text itself has a
-    /// fault; else it is the fault of the first faulty line of a queue, as `QueueFault::Queue`: see
+    /// each `member` adds a member, unless it is one already. The error is the first fault of the text itself, as
+    /// `QueueLoadKind::Conf`; else it is the fault of the first faulty line of a queue, as `QueueLoadKind::Queue`: see
     /// [`QueueKind`](crate::QueueKind). It is `NoMemory` if memory runs out. No calls wait in the queues, and their
     /// agents are idle.
     pub fn load(alloc: Global, text: &[u8]) -> Result<Self, QueueFault>

@@ -4,7 +4,6 @@ use Rattle.std.specs.Prelude.{codes}
 use Rattle.dp_conf.specs.Groups.{depth_of}
 use Rattle.dp_conf.specs.GroupsRead.{levels, reading_of, nesting_of}
 use Rattle.dp_conf.specs.Lines.{lines_of}
-use Rattle.dp_conf.specs.declared.fault.ConfFault.TheVariants.{At}
 use Rattle.dp_conf.specs.declared.fault.LineKind.TheVariants.{NoEquals}
 use Rattle.dp_pattern.specs.Name.{Plain, meaning_of}
 use Rattle.dp_pattern.specs.Spelling.{spelling}
@@ -13,7 +12,9 @@ use Rattle.dp_plan.specs.Items.{context_item}
 use Rattle.dp_plan.specs.EntryLine.{name_of, written_priority, number_after, application_of, exten_entry, same_entry}
 use Rattle.dp_plan.specs.Loaded.{plan_and_notes}
 use Rattle.dp_plan.specs.Plan.{plan_of, notes_of}
-use Rattle.dp_plan.specs.declared.fault.LoadFault.TheVariants.{Conf, Pattern, Plan}
+use Rattle.dp_plan.specs.Faults.{plan_fault}
+use Rattle.dp_plan.specs.declared.fault.LoadFault.TheVariants.{Line}
+use Rattle.dp_plan.specs.declared.fault.LoadKind.TheVariants.{Conf, Pattern}
 use Rattle.dp_plan.specs.declared.fault.PlanKind.TheVariants.{BadPriority, NoPrevious, BadLabel, BadApplication, LeftOut, TooDeep, NoExten, PriorityLimit, ShortLine}
 use Rattle.dp_plan.specs.declared.fault.Word.TheVariants.{CallerId, Variable, OldForm, PriorityWord}
 use Rattle.dp_plan.specs.declared.note.NoteKind.TheVariants.{DoublePriority, DoubleLabel, UnknownContext, UnknownKey}
@@ -21,19 +22,19 @@ use Rattle.dp_plan.specs.declared.numbering.Written.TheVariants.{Number, TooGrea
 
 -- ---- names
 
-name-variable_first : name_of 3 (codes "${X}/1") ≡ Err (Plan 3 (LeftOut Variable))
+name-variable_first : name_of 3 (codes "${X}/1") ≡ Err (plan_fault 3 (LeftOut Variable))
 unfolding name_of
 name-variable_first = refl
 
-name-caller_before_the_set : name_of 3 (codes "_[/") ≡ Err (Plan 3 (LeftOut CallerId))
+name-caller_before_the_set : name_of 3 (codes "_[/") ≡ Err (plan_fault 3 (LeftOut CallerId))
 unfolding name_of
 name-caller_before_the_set = refl
 
-name-variable_of_the_spelling : name_of 3 (codes "$-{x") ≡ Err (Plan 3 (LeftOut Variable))
+name-variable_of_the_spelling : name_of 3 (codes "$-{x") ≡ Err (plan_fault 3 (LeftOut Variable))
 unfolding name_of meaning_of spelling
 name-variable_of_the_spelling = refl
 
-name-blank : name_of 3 (codes "a b") ≡ Err (Pattern 3 BadByte)
+name-blank : name_of 3 (codes "a b") ≡ Err (Line 3 (Pattern BadByte))
 unfolding name_of meaning_of
 name-blank = refl
 
@@ -103,7 +104,7 @@ nested zero = []
 nested (suc depth) = codes "${" ++ (nested depth ++ codes "}")
 
 -- groups nested 33 deep are too deep, 32 are not
-plan_and_notes-too_deep : plan_and_notes (codes "[globals]" ++ 10 ∷ codes "A=" ++ nested 33) ≡ Err (Plan 2 TooDeep)
+plan_and_notes-too_deep : plan_and_notes (codes "[globals]" ++ 10 ∷ codes "A=" ++ nested 33) ≡ Err (plan_fault 2 TooDeep)
 unfolding plan_and_notes lines_of context_item nesting_of reading_of levels depth_of nested
 plan_and_notes-too_deep = refl
 
@@ -113,17 +114,17 @@ unfolding plan_and_notes lines_of plan_of notes_of context_item nesting_of readi
 plan_and_notes-deep = refl
 
 -- a malformed application has no arguments whose depth could be checked
-plan_and_notes-bad_application : plan_and_notes (codes "[m]" ++ 10 ∷ codes "exten=s,1,A(" ++ nested 33) ≡ Err (Plan 2 BadApplication)
+plan_and_notes-bad_application : plan_and_notes (codes "[m]" ++ 10 ∷ codes "exten=s,1,A(" ++ nested 33) ≡ Err (plan_fault 2 BadApplication)
 unfolding plan_and_notes lines_of exten_entry name_of meaning_of spelling written_priority application_of context_item nesting_of reading_of levels depth_of nested
 plan_and_notes-bad_application = refl
 
 -- a line with one comma is too short, whatever its name
-plan_and_notes-short : plan_and_notes (codes "[m]" ++ 10 ∷ codes "exten=a b,1") ≡ Err (Plan 2 ShortLine)
+plan_and_notes-short : plan_and_notes (codes "[m]" ++ 10 ∷ codes "exten=a b,1") ≡ Err (plan_fault 2 ShortLine)
 unfolding plan_and_notes lines_of exten_entry context_item
 plan_and_notes-short = refl
 
 -- a line that continues no extension, although it is too short
-plan_and_notes-no_exten : plan_and_notes (codes "[m]" ++ 10 ∷ codes "same=1") ≡ Err (Plan 2 NoExten)
+plan_and_notes-no_exten : plan_and_notes (codes "[m]" ++ 10 ∷ codes "same=1") ≡ Err (plan_fault 2 NoExten)
 unfolding plan_and_notes lines_of same_entry context_item
 plan_and_notes-no_exten = refl
 
@@ -170,10 +171,10 @@ unfolding plan_and_notes lines_of plan_of notes_of context_item nesting_of readi
 plan_and_notes-globals = refl
 
 -- a fault of the text comes before a fault of an earlier line
-plan_and_notes-text_first : plan_and_notes (codes "[m]" ++ 10 ∷ codes "exten=s,0,A" ++ 10 ∷ codes "abc") ≡ Err (Conf (At 3 NoEquals))
+plan_and_notes-text_first : plan_and_notes (codes "[m]" ++ 10 ∷ codes "exten=s,0,A" ++ 10 ∷ codes "abc") ≡ Err (Line 3 (Conf NoEquals))
 unfolding plan_and_notes lines_of context_item
 plan_and_notes-text_first = refl
 
-plan_and_notes-lowest_line : plan_and_notes (codes "[m]" ++ 10 ∷ codes "exten=s,1" ++ 10 ∷ codes "exten=s,0,A") ≡ Err (Plan 2 ShortLine)
+plan_and_notes-lowest_line : plan_and_notes (codes "[m]" ++ 10 ∷ codes "exten=s,1" ++ 10 ∷ codes "exten=s,0,A") ≡ Err (plan_fault 2 ShortLine)
 unfolding plan_and_notes lines_of exten_entry context_item
 plan_and_notes-lowest_line = refl

@@ -12,8 +12,8 @@ use Rattle.dp_plan.specs.steps.Open.{reading_in}
 use Rattle.dp_plan.specs.declared.lines.Lines.{Lines}
 use Rattle.dp_plan.specs.declared.section.OpenSection.{OpenSection}
 use Rattle.dp_plan.specs.steps.Reader.{Reading, unread, after, history_in}
-use Rattle.dp_plan.specs.declared.fault.ItemKind.{ItemKind}
 use Rattle.dp_plan.specs.declared.fault.LoadFault.{LoadFault}
+use Rattle.dp_plan.specs.declared.fault.LoadKind.{LoadKind}
 use Rattle.dp_plan.specs.Item.{Item}
 
 -- what the lines so far leave for the next one, and the dialplan under construction
@@ -53,7 +53,7 @@ abbrev pub after_one : Result MadeOf LoadFault → LineOf → Result MadeOf Load
 after_one state line = state >>= λ made. after_line made line
 
 -- the result, or the fault that was kept
-abbrev pub outcome : Option (FaultyLine ItemKind) → MadeOf → Result MadeOf LoadFault
+abbrev pub outcome : Option (FaultyLine LoadKind) → MadeOf → Result MadeOf LoadFault
 outcome = made_or_fault fault_of_line
 
 -- the draft in the result

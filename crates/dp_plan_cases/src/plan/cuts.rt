@@ -1,6 +1,6 @@
 //! Dialplans that are cut short.
 use dp_case_tables::{Question, bytes_of};
-use dp_plan::{ConfFault, Dialplan, LoadFault, NoMemory};
+use dp_plan::{Dialplan, LoadFault, NoMemory};
 use std::alloc::Global;
 use std::test::Fail;
 
@@ -27,10 +27,8 @@ impl Question for Fronts {
 /// The line of a fault.
 fn line_of(fault: LoadFault) -> Option<usize> {
     match fault {
-        LoadFault::Conf(ConfFault::At { line, .. }) => Some(line),
-        LoadFault::Pattern { line, .. } => Some(line),
-        LoadFault::Plan { line, .. } => Some(line),
-        LoadFault::Conf(ConfFault::NoMemory) | LoadFault::NoMemory => None,
+        LoadFault::Line { line, .. } => Some(line),
+        LoadFault::NoMemory => None,
     }
 }
 

@@ -1,7 +1,7 @@
 //! Loaded dialplans and faults, rendered as one line of text.
 use dp_case_tables::{Question, bytes_of};
 use dp_plan::{
-    ConfFault, Context, Dialplan, Entry, LoadFault, Name, NoMemory, Note, PlanKind, SharedText,
+    Context, Dialplan, Entry, LoadFault, LoadKind, Name, NoMemory, Note, PlanKind, SharedText,
     Text,
 };
 use std::alloc::Global;
@@ -76,10 +76,12 @@ pub(crate) fn shown_plan(alloc: Global, plan: &Dialplan) -> Result<String, NoMem
     Ok(out)
 }
 
-fn push_fault_of_plan(out: &mut String, line: usize, kind: PlanKind) -> Result<(), NoMemory> {
+fn push_line_fault(out: &mut String, line: usize, kind: LoadKind) -> Result<(), NoMemory> {
     let code = kind.code();
     match kind {
-        PlanKind::LeftOut(word) => write!(out, "fault {code} {word:?} line {line}"),
+        LoadKind::Plan(PlanKind::LeftOut(word)) => {
+            write!(out, "fault {code} {word:?} line {line}")
+        }
         _ => write!(out, "fault {code} line {line}"),
     }
 }
@@ -87,12 +89,7 @@ fn push_fault_of_plan(out: &mut String, line: usize, kind: PlanKind) -> Result<(
 /// Adds a fault, written as `plan_text` says.
 pub(super) fn push_fault(out: &mut String, fault: LoadFault) -> Result<(), NoMemory> {
     match fault {
-        LoadFault::Conf(ConfFault::At { line, kind }) => {
-            write!(out, "fault {} line {line}", kind.code())
-        }
-        LoadFault::Pattern { line, fault } => { write!(out, "fault {} line {line}", fault.code()) }
-        LoadFault::Plan { line, kind } => push_fault_of_plan(out, line, kind),
-        LoadFault::Conf(ConfFault::NoMemory) => out.push_str("no memory within a fault"),
+        LoadFault::Line { line, kind } => push_line_fault(out, line, kind),
         LoadFault::NoMemory => out.push_str("no memory"),
     }
 }

@@ -1,5 +1,4 @@
 //! Queues rendered as one line of text.
-use dp_conf::ConfFault;
 use dp_queue::{
     Agent, AgentState, EmptyRule, Member, NoMemory, Queue, QueueFault, Queues, Settings, Strategy,
 };
@@ -119,11 +118,7 @@ pub(super) fn push_queues(
 /// A fault as `fault CODE` and its text; out of memory has no code.
 pub(super) fn push_fault(out: &mut String, fault: QueueFault) -> Result<(), NoMemory> {
     match fault {
-        QueueFault::Conf(ConfFault::At { line: _, kind }) => {
-            write!(out, "fault {} {fault}", kind.code())
-        }
-        QueueFault::Queue { line: _, kind } => write!(out, "fault {} {fault}", kind.code()),
-        QueueFault::Conf(ConfFault::NoMemory) => out.push_str("no memory within a fault"),
+        QueueFault::Line { line: _, kind } => write!(out, "fault {} {fault}", kind.code()),
         QueueFault::NoMemory => write!(out, "fault {fault}"),
     }
 }
