@@ -1,13 +1,11 @@
 -- Contents that say nothing to a pass over lines for names with groups.
-use Rattle.std.proofs.Common.{◌≡◌, ℕ, Bool, true, false, not, ◌&&◌, ◌||◌, cond, eqb, List, [], ◌∷◌, codes, Option, Some, None, Result, Ok, Err, refl, ap, sym, ◌∙◌}
+use Rattle.std.proofs.Common.{◌≡◌, ℕ, Bool, true, false, not, ◌&&◌, ◌||◌, cond, eqb, List, [], ◌∷◌, Option, Some, None, Err, refl, ap, sym, ◌∙◌}
 use Rattle.std.specs.List.{AllByRecursion, list_any}
 use Rattle.std.specs.Option.{is_some}
-use Rattle.dp_conf.specs.Blanks.{trim, trim_start}
+use Rattle.dp_conf.specs.Blanks.{trim}
 use Rattle.dp_conf.specs.Cut.{begins_with, cut_once}
 use Rattle.dp_conf.specs.Groups.{kind_of, opening}
-use Rattle.dp_conf.specs.Lines.{LineOf, Header, Pair, after_sign, header_by, header_of, item_of, pair_of}
-use Rattle.dp_conf.specs.Words.{same_word}
-use Rattle.dp_conf.specs.declared.fault.LineKind.{LineKind}
+use Rattle.dp_conf.specs.Lines.{after_sign, header_of, item_of, pair_of}
 use Rattle.dp_conf.specs.declared.fault.LineKind.TheVariants.{Directive}
 use Rattle.dp_conf.specs.declared.groups.GroupKind.{GroupKind}
 use Rattle.dp_conf.proofs.TextLemmas.{Avoids, cut_once-is, each-cut_front, each-cut_rest, each-trim, none-any}

@@ -1,6 +1,6 @@
 use Rattle.std.proofs.Common.{◌≡◌, ◌+◌, ◌++◌, ◌∷◌, List, [], drop, map, sym, ap, append_assoc, ◌∙◌}
 use Rattle.std.proofs.lemmas.List.{drop_more}
-use Rattle.dp_test_runs.specs.Points.{point_in, points_in}
+use Rattle.dp_test_runs.specs.Points.{point_in}
 use Rattle.dp_test_runs.specs.Tests.{beginning}
 use Rattle.dp_test_runs.specs.declared.course.Course.{Course}
 use Rattle.dp_test_runs.specs.declared.tap.Point.{Point}
