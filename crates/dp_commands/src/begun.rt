@@ -6,6 +6,7 @@ ghost use Rattle.dp_queue.specs.Rest.{IsAtRest};
 ghost use Rattle.dp_commands.specs.Faults.{is_write_failed, reason_of};
 ghost use Rattle.dp_commands.specs.Run as spec;
 ghost use Rattle.dp_commands.specs.Script.{turns_of};
+ghost use Rattle.dp_machine.specs.World.{opening};
 
 use crate::fault::PbxFault;
 use crate::script::{ScriptLine, read_script};
@@ -77,16 +78,21 @@ pub fn read_files(alloc: Global, plan: &[u8], queues: Option<&[u8]>) -> Result<F
 
 /// The contents of a run's texts.
 #[derive(Drop)]
-struct RunContents {
-    files: Files,
-    lines: Vec<ScriptLine>,
+pub struct RunContents {
+    /// The dialplan and its queues.
+    pub files: Files,
+    /// The lines of the script, in order.
+    pub lines: Vec<ScriptLine>,
 }
 
-/// The contents of a run's texts: its files are read first, then the script.
-fn read_texts(alloc: Global, texts: RunTexts<'_>) -> Result<RunContents, PbxFault>
+/// The contents of a run's texts. The dialplan is read first, then the queues, then the script. The error is the first fault.
+#[tactic(auto, unfolding(crate::specs::Run::run_of))]
+pub fn read_run(alloc: Global, texts: RunTexts<'_>) -> Result<RunContents, PbxFault>
     ensures told { Answers (λ told. record { plan = told.files.plan; queues = told.files.queues; lines = told.lines.items }) reason_of result
         (spec.contents_of texts.entry.plan.now (option_map (λ text. text.now) texts.entry.queues)
         (option_map (λ text. text.now) texts.entry.second_plan) texts.entry.script.now) }
+    ensures run { Answers (λ told. spec.run_on (opening told.files.plan told.files.queues) (turns_of told.lines.items)) reason_of result
+        (spec.run_of_texts texts.entry) }
     ensures rest { IfOk result (λ told. IsAtRest told.files.queues) }
     ensures quiet { is_write_failed result ≡ false }
 {
@@ -140,7 +146,7 @@ pub(crate) fn begin(alloc: Global, texts: RunTexts<'_>) -> Result<Begun, PbxFaul
         (spec.run_of_texts texts.entry) }
     ensures quiet { is_write_failed result ≡ false }
 {
-    let RunContents { files, lines } = read_texts(alloc, texts)?;
+    let RunContents { files, lines } = read_run(alloc, texts)?;
     match files.into_machine(alloc) {
         Ok(machine) => Ok(Begun { machine, lines }),
         Err(_) => Err(PbxFault::NoMemory),

@@ -25,7 +25,7 @@ mod trace;
 mod verbose;
 mod verbose_debug;
 
-pub use begun::{Files, read_files};
+pub use begun::{Files, RunContents, read_files, read_run};
 pub use block::Block;
 pub use candidates::{find_candidates, match_all};
 pub use debug::{debug_script, push_end, read_break};
@@ -40,7 +40,7 @@ pub use reading::{ReadLine, read_script_by};
 pub use report::{
     LoadedPlan, check, check_explained, find_answer, list_plan, match_one, read_plan,
 };
-pub use run::{run_lines, run_script, take_event, take_show};
+pub use run::{run_contents, run_lines, run_script, take_event, take_show};
 pub use script::{PlainLines, ScriptLine, Turn, read_script};
 pub use script_line::{number_within, read_channel, words};
 pub use taker::Taker;

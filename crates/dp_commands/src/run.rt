@@ -10,8 +10,10 @@ ghost use Rattle.dp_commands.specs.steps.Texts.{WritesRun};
 ghost use Rattle.dp_commands.specs.Trace.{after_turn_by};
 ghost use Rattle.dp_commands.specs.Turns.{WritesTurnsBy};
 ghost use Rattle.dp_app.specs.Rows.{with_functions};
+ghost use Rattle.dp_machine.specs.World.{opening};
+ghost use Rattle.dp_queue.specs.Rest.{IsAtRest};
 
-use crate::begun::{Begun, begin};
+use crate::begun::{Begun, RunContents, begin};
 use crate::block::{Block, ROOM};
 use crate::fault::PbxFault;
 use crate::script::{ScriptLine, Turn};
@@ -311,4 +313,20 @@ pub fn run_script<W: WriteTold>(
     ensures told { W.has_failed writer.new ≡ (W.has_failed writer.old || is_write_failed result) }
 {
     run_texts(alloc, texts, Plain, writer)
+}
+
+/// Runs a script on a dialplan with its queues as [`run_script`] does, after their texts were read.
+pub fn run_contents<W: WriteTold>(
+    alloc: Global,
+    contents: RunContents,
+    writer: &mut W,
+) -> Result<u8, PbxFault>
+    requires { IsAtRest contents.files.queues }
+    ensures writes { spec.Writes (W.contents writer.old) (W.contents writer.new)
+        (Ok (spec.run_on (opening contents.files.plan contents.files.queues) (turns_of contents.lines.items))) result }
+    ensures told { W.has_failed writer.new ≡ (W.has_failed writer.old || is_write_failed result) }
+{
+    let RunContents { files, lines } = contents;
+    let machine = files.into_machine(alloc)?;
+    run_begun(alloc, Plain, Begun { machine, lines }, writer)
 }

@@ -12,7 +12,6 @@ use Rattle.dp_commands.specs.Debug.{DebugRun, WritesDebug}
 use Rattle.dp_commands.specs.Faults.{reason_of}
 use Rattle.dp_commands.specs.Report.{Reports}
 use Rattle.dp_commands.specs.Run.{Files, Run, Writes}
-use Rattle.dp_commands.specs.Trace.{trace_of}
 use Rattle.dp_commands.specs.Turns.{lines_of}
 use Rattle.dp_commands.specs.Verbose.{InForce, WritesVerbose, WritesVerboseDebug, verbose_turn}
 use Rattle.dp_commands.specs.declared.fault.Code.{Code}
@@ -51,6 +50,7 @@ use Rattle.dp_wide_runs.specs.Debugging.{WideDebug}
 use Rattle.dp_wide_runs.specs.Kinds.{ChoiceOf}
 use Rattle.dp_wide_runs.specs.Runs.{WideRun}
 use Rattle.dp_wide_runs.specs.WideAudits.{plan_of}
+use Rattle.dp_commands.proofs.TextsLemmas.{Writes_lacks}
 use Rattle.dp_program.proofs.DialplanLemmas.{dialplan_lacks}
 use Rattle.dp_program.proofs.DiffLemmas.{diffs_lack, on_both_lacks}
 use Rattle.dp_program.proofs.PlanQuestionLemmas.{over_both_lacks, over_included_lacks}
@@ -80,10 +80,6 @@ choices_fault true choice old code line = (Appends-nil old, refl)
 choices_fault false choice old code line = (Appends-nil old, refl)
 
 -- if memory runs out before anything was written
-
-writes_lacks : (old : Option (List ℕ)) (given : Result Run PbxFault) → Writes old old given (Err NoMemory)
-writes_lacks old (Ok ran) = record { count = 0; within = omega arith; written = Appends-nil old }
-writes_lacks old (Err fault) = Appends-nil old
 
 debug_lacks : (old : Option (List ℕ)) (given : Result DebugRun PbxFault) → WritesDebug old old given (Err NoMemory)
 debug_lacks old (Ok ran) = record { count = 0; within = omega arith; written = Appends-nil old }
@@ -138,7 +134,7 @@ shares_lacks count old (Ok ran) = inl (Appends-nil old, refl)
 shares_lacks count old (Err fault) = Appends-nil old
 
 runs_lacks : (threads : Option ℕ) (old : Option (List ℕ)) (given : Result Run PbxFault) → Runs threads old old given (Err NoMemory)
-runs_lacks None old given = writes_lacks old given
+runs_lacks None old given = Writes_lacks old given
 runs_lacks (Some threads) old given = shares_lacks (max 1 threads) old given
 
 pub reaches_lacks : (meanings : Meanings) (question : QuestionOf) (options : OptionsOf) (old : Option (List ℕ)) (given : Result Files PbxFault)
@@ -167,7 +163,7 @@ choices_refused is_json choice old =
 pub writes_refused : {X : Type 0} (old : Option (List ℕ)) (next : X → Result Run PbxFault) (fault : PbxFault) (text : Result X PbxFault)
     → Refuses (reason_of fault) text → Writes old old (text >>= next) (Err fault)
 writes_refused old next =
-    by_reason (λ fault text. Writes old old (text >>= next) (Err fault)) (λ code line. (Appends-nil old, refl)) (λ text. writes_lacks old (text >>= next))
+    by_reason (λ fault text. Writes old old (text >>= next) (Err fault)) (λ code line. (Appends-nil old, refl)) (λ text. Writes_lacks old (text >>= next))
 
 wide_refused : {X : Type 0} (old : Option (List ℕ)) (next : X → Result WideRun PbxFault) (fault : PbxFault) (text : Result X PbxFault)
     → Refuses (reason_of fault) text → RunsWide old old (text >>= next) (Err fault)
@@ -525,16 +521,8 @@ run_reported_read paths sources is_verbose old new texts result answered reads s
       tells_same (unmodelled_of_texts texts) result answered same tells,
     )) reads
 
--- all turns of a run may have written their lines before memory runs out
-plain_done : (old new : Option (List ℕ)) (given : Result Run PbxFault) (status : ℕ) → Writes old new given (Ok status) → Writes old new given (Err NoMemory)
-plain_done old new (Ok ran) status writes = record {
-  count = length ran.turns;
-  within = omega arith;
-  written = subst (λ turns. Appends old new (trace_of ran.world turns)) (sym (take-length ran.turns)) writes.0;
-}
-plain_done old new (Err fault) status writes = absurd writes
-
-verbose_done : (in_force : InForce) (old new : Option (List ℕ)) (given : Result Run PbxFault) (status : ℕ)
+-- all turns of a verbose run may have written their lines before memory runs out
+pub verbose_done : (in_force : InForce) (old new : Option (List ℕ)) (given : Result Run PbxFault) (status : ℕ)
     → WritesVerbose explanation_of in_force old new given (Ok status) → WritesVerbose explanation_of in_force old new given (Err NoMemory)
 verbose_done in_force old new (Ok ran) status writes = record {
   count = length ran.turns;
@@ -544,11 +532,6 @@ verbose_done in_force old new (Ok ran) status writes = record {
       (subst (Appends old new) (append-nil (lines_of (verbose_turn explanation_of) (in_force, ran.world) ran.turns)) writes.0);
 }
 verbose_done in_force old new (Err fault) status writes = absurd writes
-
-pub read_done : (is_verbose : Bool) (paths : OfRun (List ℕ)) (old new : Option (List ℕ)) (texts : OfRun (List ℕ)) (status : ℕ)
-    → RunsRead is_verbose paths old new (Ok texts) (Ok status) → RunsRead is_verbose paths old new (Ok texts) (Err NoMemory)
-read_done true paths old new texts status runs = verbose_done (in_force_at_first paths texts) old new (run_of_texts texts) status runs
-read_done false paths old new texts status runs = plain_done old new (run_of_texts texts) status runs
 
 -- the same over the wide table
 pub run_wide_read : (paths : OfRun (List ℕ)) (sources : OfRun Source) (old new : Option (List ℕ)) (texts : OfRun (List ℕ))
@@ -698,7 +681,7 @@ audit_asked_lacks false options choice path files old = audit_lacks options.is_j
 read_lacks : (is_verbose : Bool) (paths : OfRun (List ℕ)) (old : Option (List ℕ)) (texts : Result (OfRun (List ℕ)) PbxFault)
     → RunsRead is_verbose paths old old texts (Err NoMemory)
 read_lacks true paths old texts = runs_verbosely_lacks paths old texts
-read_lacks false paths old texts = writes_lacks old (texts >>= run_of_texts)
+read_lacks false paths old texts = Writes_lacks old (texts >>= run_of_texts)
 
 run_asked_lacks : (paths : OfRun (List ℕ)) (sources : OfRun Source) (threads : Option ℕ) (is_verbose : Bool) (old : Option (List ℕ))
     → RunsAsked paths sources threads is_verbose old old (Err (nowhere NoMemory))
@@ -779,7 +762,7 @@ reaches_files_lack meanings files question options old =
 
 -- memory may run out before a request does anything
 pub Serves-lacks : (files : List ℕ → Source) (input : Source) (want : RequestOf) (options : OptionsOf) (old : Option (List ℕ)) → Serves files input want options old old (Err (nowhere NoMemory))
-Serves-lacks files input joined options old = ((Reads-any input _ (λ text. writes_lacks old _), refl), tt)
+Serves-lacks files input joined options old = ((Reads-any input _ (λ text. Writes_lacks old _), refl), tt)
 Serves-lacks files input (check file) options old = (Reads-any (files file) _ (λ text. (reports_lacks old _, lacks_report_place file text)), tt)
 Serves-lacks files input (check_files file) options old =
     ((nothing_known, record { texts = λ name. tt; names = λ pattern. tt }, λ has agrees. check_lacks options.is_json file old (read_plan_of (moment_in options.clock) has file)), tt)

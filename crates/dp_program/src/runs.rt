@@ -2,7 +2,6 @@
 ghost use Rattle.std.specs.Prelude.{◌≡◌, ◌||◌, Some, max};
 ghost use Rattle.dp_commands.specs.Debug.{WritesDebug};
 ghost use Rattle.dp_commands.specs.Faults.{is_write_failed};
-ghost use Rattle.dp_commands.specs.Run.{Writes};
 ghost use Rattle.dp_program.specs.Faulted.{without_place};
 ghost use Rattle.dp_program.specs.Files.{has_read_failed, source};
 ghost use Rattle.dp_program.specs.Serves as spec;
@@ -13,7 +12,7 @@ use crate::files::{ReadFiles, read_source};
 use crate::request::RunFiles;
 use crate::texts::{Texts, read_texts};
 use dp_board::Gate;
-use dp_commands::{PbxFault, Sharing, debug_script, run_joined, run_script, run_threads};
+use dp_commands::{PbxFault, Sharing, debug_script, run_joined, run_threads};
 use dp_conf::{ReadTold, WriteTold};
 use dp_machine::Reply;
 use std::alloc::Global;
@@ -84,19 +83,6 @@ fn run_in_threads<W: WriteTold, R: Threads + Wait + Sync>(
     };
     let ran = run_threads(rt, alloc, texts.lend(), sharing, output)?;
     Ok(status_of(ran))
-}
-
-/// Runs the script of a run on its dialplan, one turn after another.
-pub(crate) fn run_in_order<W: WriteTold>(
-    alloc: Global,
-    texts: &Texts,
-    output: &mut W,
-) -> Result<u8, PbxFault>
-    ensures writes { Writes (W.contents output.old) (W.contents output.new)
-        (spec.run_of_texts (texts_of texts.now)) result }
-    ensures told { W.has_failed output.new ≡ (W.has_failed output.old || is_write_failed result) }
-{
-    run_script(alloc, texts.lend(), output)
 }
 
 /// A run by its files in this number of threads.

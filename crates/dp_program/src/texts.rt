@@ -32,19 +32,17 @@ pub(crate) struct Texts {
 
 impl Texts {
     ghost use Rattle.std.specs.Prelude.{◌≡◌};
-    ghost use Rattle.std.specs.Option.{option_map};
     ghost use Rattle.dp_commands.specs.Run.{run_of_texts};
     ghost use Rattle.dp_program.specs.Serves as serves;
     ghost use Rattle.dp_program.specs.Texts.{texts_of};
-    ghost use Rattle.dp_unmodelled.specs.Report.{unmodelled_of};
+    ghost use Rattle.dp_unmodelled.specs.Report.{unmodelled_in};
     ghost use Rattle.dp_wide_runs.specs.Runs as wide;
 
     /// The texts as the run takes them.
     pub(crate) fn lend(&self) -> RunTexts<'_>
         ensures run { run_of_texts result ≡ serves.run_of_texts (texts_of self.now) }
         ensures wide { wide.run_of_texts result ≡ serves.wide_run_of_texts (texts_of self.now) }
-        ensures unmodelled { unmodelled_of result.plan.now (option_map (λ text. text.now) result.queues)
-            (option_map (λ text. text.now) result.second_plan) result.script.now ≡ serves.unmodelled_of_texts (texts_of self.now) }
+        ensures unmodelled { unmodelled_in result ≡ serves.unmodelled_of_texts (texts_of self.now) }
         ensures plan { result.plan.now ≡ (texts_of self.now).plan }
     {
         RunTexts {

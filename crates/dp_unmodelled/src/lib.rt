@@ -1,11 +1,10 @@
 //! The names of applications and functions that a run without `--asterisk` meets and that the program does not model.
 #![tactic(auto)]
 
-mod begun;
 mod lines;
 mod meeting;
 mod modelled;
 mod report;
 mod written;
 
-pub use report::unmodelled_lines;
+pub use report::{RunReport, run_reported, unmodelled_lines};

@@ -1,18 +1,19 @@
 //! The report of the names that a run meets and that the program does not model.
-ghost use Rattle.std.specs.Prelude.{◌≡◌, IfOk, false};
+ghost use Rattle.std.specs.Prelude.{◌≡◌, ◌||◌, [], IfOk, Ok, false, if◌then◌else◌};
 ghost use Rattle.std.specs.List.{list_any};
 ghost use Rattle.std.specs.Option.{option_map};
 ghost use Rattle.dp_conf.specs.Answers.{Answers};
 ghost use Rattle.dp_queue.specs.Rest.{IsAtRest};
 ghost use Rattle.dp_commands.specs.Faults.{is_write_failed, reason_of};
+ghost use Rattle.dp_commands.specs.Run.{Writes, run_of_texts};
 ghost use Rattle.dp_unmodelled.specs.Report as spec;
 
-use crate::begun::{RunContents, read_texts};
 use crate::lines::Reported;
 use crate::modelled::ModelledApps;
 use crate::written::WrittenLines;
 use dp_app::AppTable;
-use dp_commands::{PbxFault, RunTexts, run_lines};
+use dp_commands::{PbxFault, RunContents, RunTexts, read_run, run_contents, run_lines};
+use dp_conf::WriteTold;
 use dp_machine::NoMemory;
 use dp_plan::{Dialplan, Entry};
 use dp_table::StandardApps;
@@ -52,6 +53,13 @@ fn plan_may_meet(plan: &Dialplan) -> bool
         .any(|context| any_may_meet(context.entries()))
 }
 
+/// Whether a run meets nothing that is not modelled, whatever its script: no entry of its dialplan may, and there is no second dialplan.
+fn meets_nothing(second_plan: Option<&[u8]>, plan: &Dialplan) -> bool
+    ensures { result ≡ spec.meets_nothing (option_map (λ text. text.now) second_plan.entry) plan.now }
+{
+    second_plan.is_none() && !plan_may_meet(plan)
+}
+
 /// The lines of the names that a run meets.
 fn met_lines(alloc: Global, contents: RunContents) -> Result<Vec<u8>, NoMemory>
     requires { IsAtRest contents.files.queues }
@@ -78,10 +86,54 @@ pub fn unmodelled_lines(alloc: Global, texts: RunTexts<'_>) -> Result<Vec<u8>, P
         (option_map (λ text. text.now) texts.entry.second_plan) texts.entry.script.now) }
     ensures quiet { is_write_failed result ≡ false }
 {
-    let contents = read_texts(alloc, texts)?;
-    if texts.second_plan.is_none() && !plan_may_meet(&contents.files.plan) {
+    let contents = read_run(alloc, texts)?;
+    if meets_nothing(texts.second_plan, &contents.files.plan) {
         return Ok(Vec::new(alloc));
     }
     let lines = met_lines(alloc, contents)?;
     Ok(lines)
+}
+
+/// The result of a run whose names are reported.
+#[derive(Drop)]
+pub struct RunReport {
+    /// The status: 1 if a turn was refused, else 0.
+    pub status: u8,
+    /// The lines of the applications and functions that the run met and that the program does not model.
+    pub lines: Vec<u8>,
+}
+
+/// The lines of a run whose texts have no fault, so that the error is only that memory ran out. A quiet run meets nothing, and has none.
+fn report_lines(
+    alloc: Global,
+    is_quiet: bool,
+    texts: RunTexts<'_>,
+) -> Result<Vec<u8>, NoMemory>
+    ensures { IfOk result (λ lines. Ok lines.items ≡ (if is_quiet then Ok [] else spec.unmodelled_in texts.entry)) }
+{
+    if is_quiet {
+        return Ok(Vec::new(alloc));
+    }
+    match unmodelled_lines(alloc, texts) {
+        Ok(lines) => Ok(lines),
+        Err(_) => Err(NoMemory),
+    }
+}
+
+/// Runs a script on a dialplan with its queues as [`dp_commands::run_script`] does, and gives the lines of [`unmodelled_lines`] beside the
+/// status. Its texts are read a second time only if the run may meet a name that is not modelled.
+pub fn run_reported<W: WriteTold>(
+    alloc: Global,
+    texts: RunTexts<'_>,
+    writer: &mut W,
+) -> Result<RunReport, PbxFault>
+    ensures writes { Writes (W.contents writer.old) (W.contents writer.new) (run_of_texts texts.entry) (spec.status_in result) }
+    ensures lines { IfOk result (λ report. spec.unmodelled_in texts.entry ≡ Ok report.lines.items) }
+    ensures told { W.has_failed writer.new ≡ (W.has_failed writer.old || is_write_failed result) }
+{
+    let contents = read_run(alloc, texts)?;
+    let is_quiet = meets_nothing(texts.second_plan, &contents.files.plan);
+    let status = run_contents(alloc, contents, writer)?;
+    let lines = report_lines(alloc, is_quiet, texts)?;
+    Ok(RunReport { status, lines })
 }

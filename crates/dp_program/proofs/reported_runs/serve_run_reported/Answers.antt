@@ -12,5 +12,5 @@ returns-in_err-texts-clause-serves g c =
 pub returns-clause-serves : goal.returns-clause-serves
 returns-clause-serves g c =
     run_reported_read (paths_of c.args.run.files.now) (sources_of (g.F.ReadFiles.source_at c.args.files.now) (paths_of c.args.run.files.now)) c.args.run.is_verbose (g.W.WriteTold.contents c.args.output.now)
-    (g.W.WriteTold.contents c.run_reported-answered.new.output) (texts_of c.in_ok-texts.texts) c.run_reported-answered.result c.placed_in_run.result c.in_ok-texts.ensures.read c.placed_in_run.ensures.same
-    c.run_reported-answered.ensures.runs c.placed_in_run.ensures.stands c.run_reported-answered.ensures.tells
+    (g.W.WriteTold.contents c.run_texts-answered.new.output) (texts_of c.in_ok-texts.texts) c.run_texts-answered.result c.placed_in_run.result c.in_ok-texts.ensures.read c.placed_in_run.ensures.same
+    c.run_texts-answered.ensures.runs c.placed_in_run.ensures.stands c.run_texts-answered.ensures.tells
