@@ -5,7 +5,7 @@ use Rattle.std.specs.Global.{Vec}
 use Rattle.std.specs.Option.{option_map_or}
 use Rattle.dp_app.specs.Rows.{Meanings}
 use Rattle.dp_answer.specs.Asks.{AskOf, is_lacking, outside_of, starts_of}
-use Rattle.dp_answer.specs.Reports.{IsReport, IsReportBy, IsRight, ReportOf, Told, answer_text, assumptions, has_answer, head_text, may_reach, nothing_told, status_by, no_proof_line, verdict}
+use Rattle.dp_answer.specs.Reports.{IsReport, IsReportBy, IsRight, ReportOf, ToldText, answer_text, assumptions, has_answer, head_text, may_reach, nothing_told, status_by, no_proof_line, verdict}
 use Rattle.dp_answer.specs.Steps.{AreTerms, IsFoundBy, IsTold, answers_by, answers_of}
 use Rattle.dp_answer.specs.declared.terms.Terms.{Terms}
 use Rattle.dp_answer.specs.declared.trails.Found.{Found}
@@ -45,7 +45,7 @@ right-told meanings plan settings ask report outside is_proved marks same runs t
     }
 
 -- a report on all entries gives the answers
-pub told-all : (plan : PlanOf) (head : List ℕ) (marks found : Option (List (Vec Bool))) (told : Told) (report : ReportOf)
+pub told-all : (plan : PlanOf) (head : List ℕ) (marks found : Option (List (Vec Bool))) (told : ToldText) (report : ReportOf)
     → marks ≡ found → report.text ≡ head ++ answer_text plan (answers_in marks) None told → report.status ≡ 0 → IsTold plan head found None report
 told-all plan head marks found told report same text status = record {
   told = told;
@@ -55,7 +55,7 @@ told-all plan head marks found told report same text status = record {
 
 -- and so does one on a named context
 pub told-target : (plan : PlanOf) (head : List ℕ) (marks found : Option (List (Vec Bool))) (name : List ℕ) (number : Option ℕ) (reached : Bool)
-    (told : Told) (report : ReportOf)
+    (told : ToldText) (report : ReportOf)
     → marks ≡ found → number ≡ number_of plan name → reached ≡ option_map_or (has_answer plan (answers_in marks)) number false
     → report.text ≡ head ++ (verdict name reached ++ told.tail) → report.status ≡ status_by reached → IsTold plan head found (Some name) report
 told-target plan head marks found name number reached told report same numbered reaches text status =

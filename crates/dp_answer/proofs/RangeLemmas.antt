@@ -7,7 +7,7 @@ use Rattle.std.proofs.Math.Bool.{or-false}
 use Rattle.dp_answer.specs.RangeSteps.{upper}
 use Rattle.dp_answer.specs.Ranges.{between, only, ranges}
 use Rattle.dp_closed.specs.Answers.{shown_outside}
-use Rattle.dp_closed.specs.declared.outside.Outside.{Outside}
+use Rattle.dp_closed.specs.declared.outside.KeptOutside.{KeptOutside}
 use Rattle.dp_pieces.specs.Bytes.{Bytes, either}
 use Rattle.dp_pieces.specs.Sets.{set_by}
 
@@ -71,7 +71,7 @@ byte-put set new low left rest text b split up put all =
     ∙ all))
 
 -- what may come in, given its sets
-pub outside-same : (outside : Outside) (extens callers facts : Bytes) (names : List (List ℕ))
+pub outside-same : (outside : KeptOutside) (extens callers facts : Bytes) (names : List (List ℕ))
     → ((b : ℕ) → set_by outside.exten b ≡ extens b) → ((b : ℕ) → set_by outside.caller b ≡ callers b) → ((b : ℕ) → set_by outside.facts b ≡ facts b)
     → map (λ name. name.items) outside.contexts.items ≡ names
     → shown_outside outside ≡ record { exten = extens; caller = callers; facts = facts; contexts = names }

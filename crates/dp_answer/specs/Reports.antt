@@ -81,7 +81,7 @@ abbrev pub head_text : PlanOf → AskOf → Option (List (Vec Bool)) → List �
 head_text plan ask marks = assumptions ask (starts_of plan ask) ++ no_proof_line (is_some marks)
 
 -- the further text: for each context how a call gets there, and the text after the answer
-pub record Told : Type 0 where
+pub record ToldText : Type 0 where
   pub chains : List (Vec ℕ)
   pub tail : List ℕ
 
@@ -108,7 +108,7 @@ verdict name true = codes "may reach: "
 verdict name false = codes "unreachable: " ++ name ++ codes "\n"
 
 -- the text of the answers, given the further text
-abbrev pub answer_text : PlanOf → (EntryId → Bool) → Option (List ℕ) → Told → List ℕ
+abbrev pub answer_text : PlanOf → (EntryId → Bool) → Option (List ℕ) → ToldText → List ℕ
 answer_text plan answers None told = all_lines plan answers told.chains ++ told.tail
 answer_text plan answers (Some target) told = verdict target (may_reach plan answers target) ++ told.tail
 
@@ -132,7 +132,7 @@ pub record ReportOf : Type 0 where
 pub record IsRight (meanings : Meanings) (plan : PlanOf) (settings : List Settings) (ask : AskOf) (report : ReportOf) : Type 0 where
   pub marks : Option (List (Vec Bool))
   pub runs : RunsOnly meanings (outside_of plan ask) ask.context plan settings (answers_in marks)
-  pub told : Told
+  pub told : ToldText
   pub text : report.text ≡ head_text plan ask marks ++ answer_text plan (answers_in marks) ask.target told
   pub status : report.status ≡ answer_status plan (answers_in marks) ask.target
 

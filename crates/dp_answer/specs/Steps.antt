@@ -4,7 +4,7 @@ use Rattle.std.specs.Global.{Vec}
 use Rattle.dp_app.specs.Rows.{Meanings}
 use Rattle.dp_answer.specs.Asks.{AskOf, is_lacking, outside_of}
 use Rattle.dp_answer.specs.ReachAnswers.{Finds}
-use Rattle.dp_answer.specs.Reports.{ReportOf, Told, answer_status, answer_text}
+use Rattle.dp_answer.specs.Reports.{ReportOf, ToldText, answer_status, answer_text}
 use Rattle.dp_answer.specs.declared.answer.OutsideQuestion.{OutsideQuestion}
 use Rattle.dp_answer.specs.declared.reach_answer.ToldAnswer.{ToldAnswer}
 use Rattle.dp_answer.specs.declared.report.Report.{Report}
@@ -50,7 +50,7 @@ shown_report report = record { text = report.text.items; status = report.status 
 
 -- the report has these answers after a text
 pub record IsTold (plan : PlanOf) (head : List ℕ) (marks : Option (List (Vec Bool))) (target : Option (List ℕ)) (report : ReportOf) : Type 0 where
-  pub told : Told
+  pub told : ToldText
   pub text : report.text ≡ head ++ answer_text plan (answers_in marks) target told
   pub status : report.status ≡ answer_status plan (answers_in marks) target
 

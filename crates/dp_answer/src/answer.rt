@@ -5,9 +5,9 @@ ghost use Rattle.dp_answer.specs.Steps.{IsProvedBy};
 
 use crate::names::opening_names;
 use crate::route::Cause;
-use crate::search::{Search, pieces_in};
+use crate::search::{AreaSearch, pieces_in};
 use crate::trails::Found;
-use dp_closed::{Audit, Claim, DutyTable, Marks, Outside, Reach};
+use dp_closed::{Audit, DutyTable, KeptClaim, KeptOutside, Marks, ReachShapes};
 use dp_conf::NoMemory;
 use dp_pieces::{NameTable, Piece};
 use dp_plan::Dialplan;
@@ -19,14 +19,14 @@ pub(crate) struct OutsideQuestion<'a> {
     pub(crate) plan: &'a Dialplan,
     /// The contexts of the queues' ways out, each as the pieces of its name.
     pub(crate) ways: &'a [Vec<Piece>],
-    pub(crate) outside: &'a Outside,
+    pub(crate) outside: &'a KeptOutside,
     pub(crate) context: &'a [u8],
 }
 
 /// Lets calls come in at each of these contexts.
 fn enter_all(
     alloc: Global,
-    search: &mut Search<'_>,
+    search: &mut AreaSearch<'_>,
     contexts: &[Vec<u8>],
     exten: &[Piece],
 ) -> Result<(), NoMemory> {
@@ -41,9 +41,9 @@ fn enter_all(
 fn find_all<'a, T: DutyTable>(
     alloc: Global,
     question: OutsideQuestion<'a>,
-) -> Result<(Search<'a>, bool), NoMemory> {
+) -> Result<(AreaSearch<'a>, bool), NoMemory> {
     let names = opening_names(alloc, question.outside)?;
-    let mut search = Search::new(alloc, question.plan, question.ways, names)?;
+    let mut search = AreaSearch::new(alloc, question.plan, question.ways, names)?;
     let any = [Piece::AnyOf(question.outside.exten)];
     enter_all(alloc, &mut search, &question.outside.contexts, &any)?;
     let is_whole = search.go::<T>(alloc)?;
@@ -57,8 +57,8 @@ fn find_one<'a, T: DutyTable>(
     question: OutsideQuestion<'a>,
     names: NameTable,
     unknown: Marks,
-) -> Result<(Search<'a>, bool), NoMemory> {
-    let mut search = Search::new(alloc, question.plan, question.ways, names)?;
+) -> Result<(AreaSearch<'a>, bool), NoMemory> {
+    let mut search = AreaSearch::new(alloc, question.plan, question.ways, names)?;
     search.unknown = unknown;
     let any = [Piece::AnyOf(question.outside.exten)];
     let name = pieces_in(alloc, question.context)?;
@@ -71,13 +71,13 @@ fn find_one<'a, T: DutyTable>(
 fn is_proved<T: DutyTable>(
     alloc: Global,
     question: OutsideQuestion<'_>,
-    search: &Search<'_>,
-    reach: &Reach,
+    search: &AreaSearch<'_>,
+    reach: &ReachShapes,
 ) -> Result<bool, NoMemory>
     ensures { IfOk result (λ yes. IsTrue yes → IsProvedBy (with_functions T.rows T.Functions.table) question.entry search.now.marks) }
 {
     let audit = Audit {
-        wide: Claim {
+        wide: KeptClaim {
             plan: question.plan,
             names: &search.names,
             reach,
@@ -99,7 +99,7 @@ fn nothing_proved<'a>(
     ensures { IfOk result (λ found. found.is_proved ≡ false) }
 {
     let names = opening_names(alloc, question.outside)?;
-    let mut search = Search::new(alloc, question.plan, question.ways, names)?;
+    let mut search = AreaSearch::new(alloc, question.plan, question.ways, names)?;
     search.unknown = unknown;
     Ok(Found {
         search,
@@ -111,8 +111,8 @@ fn nothing_proved<'a>(
 fn is_found<T: DutyTable>(
     alloc: Global,
     question: OutsideQuestion<'_>,
-    found: &(Search<'_>, bool),
-    reach: &Reach,
+    found: &(AreaSearch<'_>, bool),
+    reach: &ReachShapes,
 ) -> Result<bool, NoMemory>
     ensures { IfOk result (λ yes. IsTrue yes → IsProvedBy (with_functions T.rows T.Functions.table) question.entry found.now.0.marks) }
 {

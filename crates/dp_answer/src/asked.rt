@@ -8,7 +8,7 @@ ghost use Rattle.dp_plan.specs.Lookup.{number_of};
 
 use crate::ask::Ask;
 use crate::ranges::set_of_ranges;
-use dp_closed::Outside;
+use dp_closed::KeptOutside;
 use dp_conf::{NoMemory, split_args};
 use dp_plan::{Dialplan, Text};
 use std::alloc::Global;
@@ -75,11 +75,15 @@ pub(crate) fn given_or<'a>(given: Option<&'a [u8]>, usual: &'a [u8]) -> &'a [u8]
 }
 
 /// Everything that may come in.
-pub(crate) fn outside_of(alloc: Global, plan: &Dialplan, ask: &Ask<'_>) -> Result<Outside, NoMemory>
+pub(crate) fn outside_of(
+    alloc: Global,
+    plan: &Dialplan,
+    ask: &Ask<'_>,
+) -> Result<KeptOutside, NoMemory>
     ensures { IfOk result (λ outside. shown_outside outside ≡ outside_of plan.now (ask_of ask.now)) }
 {
     let contexts = starts_of(alloc, plan, ask)?;
-    Ok(Outside {
+    Ok(KeptOutside {
         exten: set_of_ranges(given_or(ask.exten, USUAL_EXTEN)),
         caller: set_of_ranges(given_or(ask.caller, USUAL_CALLER)),
         facts: set_of_ranges(given_or(ask.facts, USUAL_FACTS)),

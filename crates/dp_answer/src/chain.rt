@@ -1,6 +1,6 @@
 //! How a call gets to an area, as it is printed.
 use crate::route::{Cause, Route};
-use crate::search::Search;
+use crate::search::AreaSearch;
 use crate::text::{context_name, push_area, push_entry};
 use dp_conf::NoMemory;
 use dp_plan::Dialplan;
@@ -71,7 +71,7 @@ fn push_route(out: &mut Vec<u8>, plan: &Dialplan, route: &Route) -> Result<(), N
 pub(crate) fn push_chain(
     alloc: Global,
     out: &mut Vec<u8>,
-    search: &Search<'_>,
+    search: &AreaSearch<'_>,
     route: usize,
 ) -> Result<(), NoMemory> {
     let way = way_back(alloc, &search.routes, route)?;

@@ -1,8 +1,8 @@
 //! The jumps by which a call first gets to a place where an entry of a context may be found.
 use crate::names::{TELEPHONE_DIGITS, set_in};
-use crate::search::{Search, pieces_in};
+use crate::search::{AreaSearch, pieces_in};
 use crate::turned_orders::TurnedOrders;
-use dp_closed::{Area, Duty, DutyTable, Marks, found_shape};
+use dp_closed::{DutyTable, KeptArea, KeptDuty, Marks, found_shape};
 use dp_conf::NoMemory;
 use dp_pieces::{Piece, may_fit};
 use dp_plan::{Dialplan, Entry, EntryId};
@@ -70,17 +70,17 @@ impl JumpTarget<'_> {
     }
 
     /// Whether the duty leads to an area from which an entry of the target may be found, as anything may.
-    fn is_led_by(&self, alloc: Global, duty: &Duty) -> Result<bool, NoMemory> {
+    fn is_led_by(&self, alloc: Global, duty: &KeptDuty) -> Result<bool, NoMemory> {
         match duty {
-            Duty::Leads(area) => self.is_seen(alloc, &area.context, &area.exten),
-            Duty::Waits => self.is_way_out(alloc),
-            Duty::Anything => Ok(true),
-            Duty::Holds(_, _) | Duty::HoldsAll(_) | Duty::Calls(_) => Ok(false),
+            KeptDuty::Leads(area) => self.is_seen(alloc, &area.context, &area.exten),
+            KeptDuty::Waits => self.is_way_out(alloc),
+            KeptDuty::Anything => Ok(true),
+            KeptDuty::Holds(_, _) | KeptDuty::HoldsAll(_) | KeptDuty::Calls(_) => Ok(false),
         }
     }
 
     /// Whether one of the duties leads to such an area.
-    fn is_led_to(&self, alloc: Global, duties: &[Duty]) -> Result<bool, NoMemory> {
+    fn is_led_to(&self, alloc: Global, duties: &[KeptDuty]) -> Result<bool, NoMemory> {
         for duty in duties {
             if self.is_led_by(alloc, duty)? {
                 return Ok(true);
@@ -92,13 +92,13 @@ impl JumpTarget<'_> {
 
 /// The marks of the entries that lead from an area where no entry of a target may be found to an area where one may.
 #[derive(Drop)]
-struct Jumps<'a> {
-    search: &'a Search<'a>,
+struct AreaJumps<'a> {
+    search: &'a AreaSearch<'a>,
     target: JumpTarget<'a>,
     marks: Marks,
 }
 
-impl Jumps<'_> {
+impl AreaJumps<'_> {
     /// Marks the entry, if it is found from an area and is such a jump.
     fn take_entry<T: DutyTable>(
         &mut self,
@@ -121,7 +121,7 @@ impl Jumps<'_> {
         let Some(met) = found_shape(alloc, entries, entry, exten)? else {
             return Ok(());
         };
-        let area = Area {
+        let area = KeptArea {
             context: pieces_in(alloc, name)?,
             exten: met,
         };
@@ -182,7 +182,7 @@ impl Jumps<'_> {
 /// The entries that lead from an area where no entry of the context with this number may be found to an area where one may.
 pub(crate) fn jumps_to<T: DutyTable>(
     alloc: Global,
-    search: &Search<'_>,
+    search: &AreaSearch<'_>,
     target: usize,
 ) -> Result<Marks, NoMemory> {
     let plan = search.plan;
@@ -190,7 +190,7 @@ pub(crate) fn jumps_to<T: DutyTable>(
         Some(context) => context.entries(),
         None => &[],
     };
-    let mut jumps = Jumps {
+    let mut jumps = AreaJumps {
         search,
         target: JumpTarget {
             plan,
@@ -204,7 +204,7 @@ pub(crate) fn jumps_to<T: DutyTable>(
     for route in 0..search.routes.len() {
         jumps.take_route::<T>(alloc, &mut order, route)?;
     }
-    let Jumps {
+    let AreaJumps {
         search: _,
         target: _,
         marks,

@@ -1,5 +1,5 @@
 //! The bytes that the machine itself puts into names.
-use dp_closed::Outside;
+use dp_closed::KeptOutside;
 use dp_conf::NoMemory;
 use dp_pieces::{ByteSet, NameTable};
 use std::alloc::Global;
@@ -29,7 +29,7 @@ const MACHINE_NAMES: &[(&str, &str)] = &[
 
 /// The bytes that names and the caller's number may have before any entry runs: those of the caller's number and of what is set from
 /// outside among them.
-pub(crate) fn opening_names(alloc: Global, outside: &Outside) -> Result<NameTable, NoMemory> {
+pub(crate) fn opening_names(alloc: Global, outside: &KeptOutside) -> Result<NameTable, NoMemory> {
     let mut names = NameTable::new(alloc);
     names.hold_anywhere(&set_in(b"0123456789"));
     names.hold_caller(&outside.caller);

@@ -14,7 +14,7 @@ use crate::report::{chain_at, may_reach};
 use crate::terms::Terms;
 use crate::text_lines::lines_of;
 use crate::trails::{Found, told_of_target, ways_of_all};
-use dp_closed::{DutyTable, Marks, Outside};
+use dp_closed::{DutyTable, KeptOutside, Marks};
 use dp_conf::NoMemory;
 use dp_plan::{Dialplan, EntryId, Text};
 use dp_queue::Queues;
@@ -175,7 +175,7 @@ fn answer_of(terms: Terms, told: ToldAnswer) -> ReachAnswer
     ensures status { result.status ≡ told.status }
 {
     let Terms { outside, ways: _ } = terms;
-    let Outside {
+    let KeptOutside {
         exten: _,
         caller: _,
         facts: _,

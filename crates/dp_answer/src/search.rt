@@ -6,7 +6,7 @@ ghost use Rattle.dp_pieces.specs.Shown.{shown_all};
 use crate::names::{TELEPHONE_DIGITS, set_in};
 use crate::route::{Cause, Route};
 use crate::turned_orders::TurnedOrders;
-use dp_closed::{Area, Duty, DutyTable, Marks, Meeting, Reach, is_excluded};
+use dp_closed::{DutyTable, KeptArea, KeptDuty, Marks, Meeting, ReachShapes, is_excluded};
 use dp_conf::NoMemory;
 use dp_pieces::{ByteSet, NameTable, NamesAt, Piece, add_pieces, bytes_of, known_text, may_fit};
 use dp_plan::{Dialplan, Entry, EntryId, Text};
@@ -24,16 +24,16 @@ const MOST_ROUNDS: usize = 100;
 
 /// A search: the bytes that names may have, the areas found so far, and how a call gets to each.
 #[derive(Drop)]
-pub(crate) struct Search<'a> {
+pub(crate) struct AreaSearch<'a> {
     pub(crate) plan: &'a Dialplan,
     pub(crate) ways: &'a [Vec<Piece>],
     pub(crate) names: NameTable,
-    pub(crate) reach: Reach,
+    pub(crate) reach: ReachShapes,
     pub(crate) routes: Vec<Route>,
     /// The entries that were found.
     pub(crate) marks: Marks,
     /// For each context, where one of its entries was first found.
-    pub(crate) firsts: Vec<Option<First>>,
+    pub(crate) firsts: Vec<Option<FirstFound>>,
     /// The entries that may jump to contexts whose names are unknown.
     pub(crate) computed: Marks,
     /// The entries of which nothing is known of what they do. The search does not follow them.
@@ -48,13 +48,13 @@ pub(crate) struct Search<'a> {
 
 /// Where an entry of a context was first found.
 #[derive(Clone, Copy)]
-pub(crate) struct First {
+pub(crate) struct FirstFound {
     pub(crate) route: usize,
     pub(crate) entry: EntryId,
 }
 
 /// For each context of the dialplan, that none of its entries was found.
-fn no_firsts(alloc: Global, plan: &Dialplan) -> Result<Vec<Option<First>>, NoMemory> {
+fn no_firsts(alloc: Global, plan: &Dialplan) -> Result<Vec<Option<FirstFound>>, NoMemory> {
     let mut firsts = Vec::new(alloc);
     for _context in plan.contexts() {
         firsts.push(None)?;
@@ -81,15 +81,15 @@ pub(crate) fn copy_of(alloc: Global, pieces: &[Piece]) -> Result<Vec<Piece>, NoM
 }
 
 /// No shapes in each context of the dialplan.
-fn no_shapes(alloc: Global, plan: &Dialplan) -> Result<Reach, NoMemory> {
+fn no_shapes(alloc: Global, plan: &Dialplan) -> Result<ReachShapes, NoMemory> {
     let mut shapes = Vec::new(alloc);
     for _context in plan.contexts() {
         shapes.push(Vec::new(alloc))?;
     }
-    Ok(Reach { shapes })
+    Ok(ReachShapes { shapes })
 }
 
-impl<'a> Search<'a> {
+impl<'a> AreaSearch<'a> {
     /// A search that has found nothing.
     pub(crate) fn new(
         alloc: Global,
@@ -102,7 +102,7 @@ impl<'a> Search<'a> {
         let firsts = no_firsts(alloc, plan)?;
         let computed = Marks::none(alloc, plan)?;
         let unknown = Marks::none(alloc, plan)?;
-        Ok(Search {
+        Ok(AreaSearch {
             plan,
             ways,
             names,
@@ -119,8 +119,8 @@ impl<'a> Search<'a> {
     }
 
     /// The bytes that names may have, the areas, and the entries of which nothing is known.
-    pub(crate) fn into_parts(self) -> (NameTable, Reach, Marks) {
-        let Search {
+    pub(crate) fn into_parts(self) -> (NameTable, ReachShapes, Marks) {
+        let AreaSearch {
             plan: _,
             ways: _,
             names,
@@ -290,20 +290,20 @@ impl<'a> Search<'a> {
     }
 
     /// Does what a duty asks for. What may do anything is only recorded: no proof is found then.
-    fn meet(&mut self, alloc: Global, duty: &Duty, cause: Cause) -> Result<(), NoMemory> {
+    fn meet(&mut self, alloc: Global, duty: &KeptDuty, cause: Cause) -> Result<(), NoMemory> {
         match duty {
-            Duty::Leads(area) => self.lead(alloc, &area.context, &area.exten, cause),
-            Duty::Holds(name, set) => self.hold(alloc, name, set),
-            Duty::HoldsAll(set) => {
+            KeptDuty::Leads(area) => self.lead(alloc, &area.context, &area.exten, cause),
+            KeptDuty::Holds(name, set) => self.hold(alloc, name, set),
+            KeptDuty::HoldsAll(set) => {
                 self.hold_everywhere(set);
                 Ok(())
             }
-            Duty::Calls(set) => {
+            KeptDuty::Calls(set) => {
                 self.hold_caller(set);
                 Ok(())
             }
-            Duty::Waits => self.lead_out(alloc, cause),
-            Duty::Anything => {
+            KeptDuty::Waits => self.lead_out(alloc, cause),
+            KeptDuty::Anything => {
                 self.note_unknown(cause);
                 Ok(())
             }
@@ -311,7 +311,12 @@ impl<'a> Search<'a> {
     }
 
     /// Does what the duties ask for.
-    fn meet_all(&mut self, alloc: Global, duties: &[Duty], cause: Cause) -> Result<(), NoMemory> {
+    fn meet_all(
+        &mut self,
+        alloc: Global,
+        duties: &[KeptDuty],
+        cause: Cause,
+    ) -> Result<(), NoMemory> {
         for duty in duties {
             self.meet(alloc, duty, cause)?;
         }
@@ -323,14 +328,14 @@ impl<'a> Search<'a> {
         &self,
         alloc: Global,
         entry: &Entry,
-        area: &Area,
-    ) -> Result<Vec<Duty>, NoMemory> {
+        area: &KeptArea,
+    ) -> Result<Vec<KeptDuty>, NoMemory> {
         let names = NamesAt {
             table: &self.names,
             context: &area.context,
             exten: &area.exten,
         };
-        T::owed(
+        T::duties_of(
             alloc,
             &names,
             area,
@@ -344,7 +349,7 @@ impl<'a> Search<'a> {
         self.marks.mark(id);
         if let Some(first) = self.firsts.get_mut(id.context) {
             if first.is_none() {
-                *first = Some(First { route, entry: id });
+                *first = Some(FirstFound { route, entry: id });
             }
         }
     }
@@ -355,7 +360,7 @@ impl<'a> Search<'a> {
         alloc: Global,
         cause: Cause,
         entry: &Entry,
-        met: &Area,
+        met: &KeptArea,
     ) -> Result<(), NoMemory> {
         let duties = self.duties_of::<T>(alloc, entry, met)?;
         self.meet_all(alloc, &duties, cause)
@@ -383,7 +388,7 @@ impl<'a> Search<'a> {
                 continue;
             }
             let meeting = Meeting::after(alloc, &seen.area, &entry.name, before)?;
-            if let Some(met) = meeting.found(entries, entry) {
+            if let Some(met) = meeting.found_area(entries, entry) {
                 let id = EntryId {
                     context: number,
                     entry: place,
@@ -433,7 +438,7 @@ impl<'a> Search<'a> {
         let Some(context) = plan.contexts().get(number) else {
             return Ok(());
         };
-        let area = Area {
+        let area = KeptArea {
             context: pieces_in(alloc, context.name().bytes())?,
             exten,
         };
@@ -520,6 +525,6 @@ impl<'a> Search<'a> {
 struct Seen {
     route: usize,
     context: usize,
-    area: Area,
+    area: KeptArea,
     is_again: bool,
 }

@@ -9,7 +9,7 @@ use crate::ask::Ask;
 use crate::asked::{is_lacking, outside_of};
 use crate::trails::Found;
 use crate::ways::ways_of;
-use dp_closed::{DutyTable, Outside};
+use dp_closed::{DutyTable, KeptOutside};
 use dp_conf::NoMemory;
 use dp_pieces::Piece;
 use dp_plan::Dialplan;
@@ -19,7 +19,7 @@ use std::alloc::Global;
 /// Everything that may come in, and the contexts of the queues' ways out, each as the pieces of its name.
 #[derive(Drop)]
 pub(crate) struct Terms {
-    pub(crate) outside: Outside,
+    pub(crate) outside: KeptOutside,
     pub(crate) ways: Vec<Vec<Piece>>,
 }
 

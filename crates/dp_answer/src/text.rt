@@ -64,13 +64,13 @@ fn push_byte(out: &mut Vec<u8>, byte: u8) -> Result<(), NoMemory> {
 
 /// Consecutive bytes of a set.
 #[derive(Clone, Copy)]
-struct Run {
+struct ByteRun {
     first: u8,
     last: u8,
 }
 
 /// Adds the bytes of a run, if there is one: three or more as a range.
-fn push_run(out: &mut Vec<u8>, run: Option<Run>) -> Result<(), NoMemory> {
+fn push_run(out: &mut Vec<u8>, run: Option<ByteRun>) -> Result<(), NoMemory> {
     let Some(run) = run else {
         return Ok(());
     };
@@ -86,19 +86,19 @@ fn push_run(out: &mut Vec<u8>, run: Option<Run>) -> Result<(), NoMemory> {
 
 /// Adds a set of bytes in braces, such as `{0-9A-D*#}`.
 fn push_set(out: &mut Vec<u8>, set: &ByteSet) -> Result<(), NoMemory> {
-    let mut run: Option<Run> = None;
+    let mut run: Option<ByteRun> = None;
     out.push(b'{')?;
     for place in 0..=255u8 {
         let byte = printed_at(place);
         if set.has(byte) {
             run = match run {
-                Some(run) if run.last.saturating_add(1) == byte => Some(Run {
+                Some(run) if run.last.saturating_add(1) == byte => Some(ByteRun {
                     first: run.first,
                     last: byte,
                 }),
                 _ => {
                     push_run(out, run)?;
-                    Some(Run {
+                    Some(ByteRun {
                         first: byte,
                         last: byte,
                     })

@@ -4,7 +4,7 @@ ghost use Rattle.dp_answer.specs.Steps.{answers_of};
 
 use crate::chain::push_chain;
 use crate::jumps::jumps_to;
-use crate::search::{First, Search};
+use crate::search::{AreaSearch, FirstFound};
 use crate::text::{context_name, example, push_entry, push_number};
 use dp_closed::{DutyTable, Marks, found_shape};
 use dp_conf::{NoMemory, same_word};
@@ -21,7 +21,7 @@ pub(crate) struct Trails {
 /// The findings, and whether they are proved; else a call may run each entry.
 #[derive(Drop)]
 pub(crate) struct Found<'a> {
-    pub(crate) search: Search<'a>,
+    pub(crate) search: AreaSearch<'a>,
     pub(crate) is_proved: bool,
 }
 
@@ -48,7 +48,11 @@ impl Found<'_> {
 }
 
 /// How a call gets to a context of which an entry was found, if there is one.
-fn chain_to(alloc: Global, search: &Search<'_>, first: Option<First>) -> Result<Vec<u8>, NoMemory> {
+fn chain_to(
+    alloc: Global,
+    search: &AreaSearch<'_>,
+    first: Option<FirstFound>,
+) -> Result<Vec<u8>, NoMemory> {
     let mut chain = Vec::new(alloc);
     if let Some(first) = first {
         push_chain(alloc, &mut chain, search, first.route)?;
@@ -57,7 +61,7 @@ fn chain_to(alloc: Global, search: &Search<'_>, first: Option<First>) -> Result<
 }
 
 /// How a call gets to each context.
-fn chains_of(alloc: Global, search: &Search<'_>) -> Result<Vec<Vec<u8>>, NoMemory> {
+fn chains_of(alloc: Global, search: &AreaSearch<'_>) -> Result<Vec<Vec<u8>>, NoMemory> {
     let mut chains = Vec::new(alloc);
     for first in &search.firsts {
         let chain = chain_to(alloc, search, *first)?;
@@ -163,7 +167,7 @@ fn push_marked(
 
 /// What is remarked of an entry because of its application.
 #[derive(Clone, Copy)]
-enum Remark {
+enum EntryRemark {
     /// The table lacks the application.
     Lacking,
     /// The application hands the call to a program, which may send it to any place.
@@ -179,31 +183,31 @@ fn is_program(application: &[u8]) -> bool {
         || same_word(application, b"Stasis")
 }
 
-impl Remark {
+impl EntryRemark {
     /// Whether it applies to an application.
     fn holds<T: DutyTable>(self, application: &[u8]) -> bool {
         let is_known = T::number_of(application).is_some();
         match self {
-            Remark::Lacking => !is_known,
-            Remark::Program => is_known && is_program(application),
+            EntryRemark::Lacking => !is_known,
+            EntryRemark::Program => is_known && is_program(application),
         }
     }
 
     /// The text before an entry.
     fn before(self) -> &'static [u8] {
         match self {
-            Remark::Lacking => b"no such application: ",
-            Remark::Program => b"handed to a program: ",
+            EntryRemark::Lacking => b"no such application: ",
+            EntryRemark::Program => b"handed to a program: ",
         }
     }
 
     /// The line behind the entries.
     fn after(self) -> &'static [u8] {
         match self {
-            Remark::Lacking => {
+            EntryRemark::Lacking => {
                 b"of what an exchange does that has this application, nothing is claimed\n"
             }
-            Remark::Program => b"of where such a program sends the call, nothing is claimed\n",
+            EntryRemark::Program => b"of where such a program sends the call, nothing is claimed\n",
         }
     }
 }
@@ -212,7 +216,7 @@ impl Remark {
 fn push_remarked_of<T: DutyTable>(
     out: &mut Vec<u8>,
     found: &Found<'_>,
-    remark: Remark,
+    remark: EntryRemark,
     context: usize,
     entries: &[Entry],
 ) -> Result<(), NoMemory> {
@@ -232,7 +236,7 @@ fn push_remarked_of<T: DutyTable>(
 fn push_remarked<T: DutyTable>(
     out: &mut Vec<u8>,
     found: &Found<'_>,
-    remark: Remark,
+    remark: EntryRemark,
 ) -> Result<(), NoMemory> {
     let before = out.len();
     for (number, context) in found.plan().contexts().iter().enumerate() {
@@ -255,8 +259,8 @@ fn push_remarks<T: DutyTable>(out: &mut Vec<u8>, found: &Found<'_>) -> Result<()
         b"may lead to any context: ",
     )?;
     push_marked(out, search.plan, &search.unknown, b"may do anything: ")?;
-    push_remarked::<T>(out, found, Remark::Lacking)?;
-    push_remarked::<T>(out, found, Remark::Program)
+    push_remarked::<T>(out, found, EntryRemark::Lacking)?;
+    push_remarked::<T>(out, found, EntryRemark::Program)
 }
 
 /// The further text on all entries that a call may run, without how many there are.
@@ -284,8 +288,8 @@ pub(crate) fn told_of_all<T: DutyTable>(
 fn push_example(
     alloc: Global,
     out: &mut Vec<u8>,
-    search: &Search<'_>,
-    first: First,
+    search: &AreaSearch<'_>,
+    first: FirstFound,
 ) -> Result<(), NoMemory> {
     let Some(context) = search.plan.contexts().get(first.entry.context) else {
         return Ok(());
@@ -310,7 +314,7 @@ fn push_example(
 fn push_jumps<T: DutyTable>(
     alloc: Global,
     out: &mut Vec<u8>,
-    search: &Search<'_>,
+    search: &AreaSearch<'_>,
     target: usize,
 ) -> Result<(), NoMemory> {
     let jumps = jumps_to::<T>(alloc, search, target)?;
@@ -328,8 +332,8 @@ fn push_jumps<T: DutyTable>(
 fn push_way<T: DutyTable>(
     alloc: Global,
     out: &mut Vec<u8>,
-    search: &Search<'_>,
-    first: First,
+    search: &AreaSearch<'_>,
+    first: FirstFound,
 ) -> Result<(), NoMemory> {
     push_entry(out, search.plan, first.entry)?;
     push_example(alloc, out, search, first)?;

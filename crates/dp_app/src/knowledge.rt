@@ -21,7 +21,7 @@ pub trait KnownTable: AppTable {
     /// name of an application that it would run, or of a value that nothing has set. It is empty if everything is known.
     ///
     /// It fails only if memory runs out.
-    fn asked<B, C: Counts>(
+    fn unknown_need<B, C: Counts>(
         alloc: Global,
         scope: &Scope<'_, B, C>,
         name: &[u8],

@@ -12,7 +12,7 @@ use Rattle.dp_pattern.specs.Matches.{Matches}
 use Rattle.dp_pattern.specs.Name.{Meaning, IsName, meaning_of}
 use Rattle.dp_pattern.specs.Spelling.{spelling}
 use Rattle.dp_pattern.proofs.SpellingLemmas.{spelled_again}
-use Rattle.dp_pattern.proofs.WalkLemmas.{matched}
+use Rattle.dp_pattern.proofs.WalkLemmas.{walk_decides_match}
 use Rattle.dp_plan.specs.Contexts.{PlanContext, AreNamed}
 use Rattle.dp_plan.specs.Extensions.{same_name}
 use Rattle.dp_plan.specs.Lookup.{entry_at}
@@ -32,7 +32,7 @@ use Rattle.dp_audit.proofs.CandidatesOrder.{all_at, ranked_is_ranking}
 -- a test that decides whether the text matches the entry's name
 pub matched_at : (plan : PlanOf) (text : List ℕ) (id : EntryId) (entry : Entry) (r : Bool) → Some entry ≡ entry_at plan id → IsTrue r ↔ Matches entry.name text → r ≡ is_matched plan text id
 matched_at plan text id entry r here decides =
-    same_from_decides r (matches_name entry.name text) decides (matched entry.name text)
+    same_from_decides r (matches_name entry.name text) decides (walk_decides_match entry.name text)
     ∙ ap (λ o. option_map_or (λ (e : Entry). matches_name e.name text) o false) here
 
 -- ---- the first extension

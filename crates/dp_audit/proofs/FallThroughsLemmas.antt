@@ -123,9 +123,9 @@ record Dialled (plan : PlanOf) (order : List ℕ) (name : Meaning) (priority : �
   plain : name ≡ Plain text
   found : found_entry plan order text priority ≡ Some next
 
-dialled : (plan : PlanOf) (order : List ℕ) (name : Meaning) (priority : ℕ) (next : EntryId) → entry_met plan order name priority ≡ Some next → Dialled plan order name priority next
-dialled plan order (Plain text) priority next is = record { text = text; plain = refl; found = is }
-dialled plan order (Pattern classes tail) priority next is = absurd (none-some next is)
+met_is_dialled : (plan : PlanOf) (order : List ℕ) (name : Meaning) (priority : ℕ) (next : EntryId) → entry_met plan order name priority ≡ Some next → Dialled plan order name priority next
+met_is_dialled plan order (Plain text) priority next is = record { text = text; plain = refl; found = is }
+met_is_dialled plan order (Pattern classes tail) priority next is = absurd (none-some next is)
 
 -- the entry that is found is the one that a look-up finds
 as_found : (plan : PlanOf) (order text : List ℕ) (priority : ℕ) (next : EntryId) → found_entry plan order text priority ≡ Some next → IsFound plan order text priority next
@@ -148,7 +148,7 @@ there_as plan name next entry there = ap (λ (o : Option Entry). option_map_or (
 falls_by : (plan : PlanOf) (id next : EntryId) (entry : Entry) → entry_at plan id ≡ Some entry → next_of plan id entry ≡ Some next → FallsThrough plan id next
 falls_by plan id next entry here is =
     let other = other_of plan entry.name (entry_met plan (order_at plan id.context) entry.name (entry.priority + 1)) next is in
-    let plain = dialled plan (order_at plan id.context) entry.name (entry.priority + 1) next other.found in
+    let plain = met_is_dialled plan (order_at plan id.context) entry.name (entry.priority + 1) next other.found in
     let found = as_found plan (order_at plan id.context) plain.text (entry.priority + 1) next plain.found in
     record {
       text = plain.text;

@@ -86,8 +86,8 @@ module _ (id : EntryId) (marks : Marks) where
 -- ---- the number of entries that are not marked
 
 -- one that is not marked counts
-abbrev counted : Bool → ℕ
-counted mark = cond (not mark) 1 0
+abbrev count_of_mark : Bool → ℕ
+count_of_mark mark = cond (not mark) 1 0
 
 abbrev marked_at : ℕ → List Bool → List Bool
 marked_at k entries = changed_at (λ mark. true) k entries
@@ -98,10 +98,10 @@ fewer_in (mark ∷ entries) zero there = by mark (same_Some mark false there)
   where
     by : (mark : Bool) → mark ≡ false → count_by not (true ∷ entries) < count_by not (mark ∷ entries)
     by true is = absurd (true≢false is)
-    by false is = omega (arith, sum_by-cons counted true entries, sum_by-cons counted false entries)
+    by false is = omega (arith, sum_by-cons count_of_mark true entries, sum_by-cons count_of_mark false entries)
 fewer_in (mark ∷ entries) (suc k) there =
     let fewer = fewer_in entries k there in
-    omega (arith, fewer, sum_by-cons counted mark (marked_at k entries), sum_by-cons counted mark entries)
+    omega (arith, fewer, sum_by-cons count_of_mark mark (marked_at k entries), sum_by-cons count_of_mark mark entries)
 
 fewer_by : (context entry : ℕ) (marks : Marks) → option_and_then (λ entries. slice_get entries entry) (slice_get marks context) ≡ Some false
     → unmarked_count (changed_at (marked_at entry) context marks) < unmarked_count marks

@@ -16,7 +16,7 @@ use Rattle.dp_plan.specs.Plan.{PlanOf}
 use Rattle.dp_plan.specs.declared.entry.Entry.{Entry}
 use Rattle.dp_plan.specs.declared.entry.EntryId.{EntryId}
 use Rattle.dp_audit.specs.Labels.{is_computing, is_unused, names_of, unused_by}
-use Rattle.dp_audit.specs.Pieces.{Stands, begins_cut, cuts, ends_cut, first_of, first_piece, holds, is_held, pieces}
+use Rattle.dp_audit.specs.Pieces.{StandsBetween, begins_cut, cuts, ends_cut, first_of, first_piece, holds, is_held, pieces}
 
 -- the pieces of the remaining text
 abbrev pub pieces_left : Option (Bor (List ℕ)) → List (List ℕ)
@@ -132,7 +132,7 @@ passes_whole test [] text ends held = held
 passes_whole test (b ∷ bs) text ends held = passes_later test (slice_split cuts (b ∷ bs ++ text)) (passes_after test b bs text ends held)
 
 -- the first piece of a label in arguments is one of theirs
-stands_held : (label arguments : List ℕ) → Stands label arguments → list_any (same_text (first_piece label)) (pieces arguments) ≡ true
+stands_held : (label arguments : List ℕ) → StandsBetween label arguments → list_any (same_text (first_piece label)) (pieces arguments) ≡ true
 stands_held label arguments stands =
     let test = same_text (first_piece label) in
     let after = label ++ stands.after in
@@ -143,7 +143,7 @@ stands_held label arguments stands =
     ∙ passes_whole test stands.before after stands.ends (passes_first test (slice_split cuts after) (some_part after) first)
 
 -- the entry of an application that the table lacks, with such arguments, has it
-held_by : (known : List ℕ → Bool) (label : List ℕ) (other : Entry) → known other.application ≡ false → Stands label other.arguments →
+held_by : (known : List ℕ → Bool) (label : List ℕ) (other : Entry) → known other.application ≡ false → StandsBetween label other.arguments →
     holds known (first_piece label) other ≡ true
 held_by known label other lacks stands =
     ap (λ o. not o && list_any (same_text (first_piece label)) (pieces other.arguments)) lacks ∙ stands_held label other.arguments stands
@@ -165,7 +165,7 @@ not_both false b held = refl
 
 -- such a label is not unused
 pub never_unused : (known : List ℕ → Bool) (plan : PlanOf) (id : EntryId) (other entry : Entry) (label : List ℕ) →
-    entry_at plan id ≡ Some other → known other.application ≡ false → Stands label other.arguments → entry.label ≡ Some label →
+    entry_at plan id ≡ Some other → known other.application ≡ false → StandsBetween label other.arguments → entry.label ≡ Some label →
     is_unused known plan entry ≡ false
 unfolding is_unused
 never_unused known plan id other entry label there lacks stands labelled =

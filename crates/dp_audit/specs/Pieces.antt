@@ -42,7 +42,7 @@ begins_cut [] = true
 begins_cut (b ∷ bs) = cuts b
 
 -- the label is in the arguments between two such bytes, or between one of them and an end
-pub record Stands (label arguments : List ℕ) : Type 0 where
+pub record StandsBetween (label arguments : List ℕ) : Type 0 where
   pub before : List ℕ
   pub after : List ℕ
   pub whole : arguments ≡ before ++ (label ++ after)

@@ -58,8 +58,8 @@ pub record PartsOf : Type 0 where
   pub exten : List ℕ
   pub priority : List ℕ
 
-abbrev pub seen : JumpParts → PartsOf
-seen parts = record { context = parts.context.now; exten = parts.exten.now; priority = parts.priority.now }
+abbrev pub parts_of_jump : JumpParts → PartsOf
+parts_of_jump parts = record { context = parts.context.now; exten = parts.exten.now; priority = parts.priority.now }
 
 -- the last part of a target; for a subroutine, the part before its arguments
 abbrev pub priority_by : List ℕ → Option (List ℕ × List ℕ) → List ℕ

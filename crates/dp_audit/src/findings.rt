@@ -12,10 +12,10 @@ use crate::finding::Finding;
 use crate::gap::{is_gap, lacks_first};
 use crate::hidden::{Hidings, push_hidden};
 use crate::labels::Naming;
-use crate::names::Names;
+use crate::names::AppNames;
 use crate::neighbours::{entries_at, greater_marks, lower_marks};
 use crate::order::name_at;
-use crate::scene::{Known, Scene};
+use crate::scene::{PlanKnowledge, Scene};
 use crate::target::push_missing;
 use crate::unset::{SetNames, push_unset};
 use dp_plan::{Dialplan, Entry, EntryId, NoMemory, Text};
@@ -53,7 +53,7 @@ fn push_of_priorities(
 }
 
 /// Adds the findings on the texts of the entry: those on its targets come before those on its priorities.
-fn push_of_texts<N: Names>(
+fn push_of_texts<N: AppNames>(
     findings: &mut Vec<Finding>,
     finder: &PlanFinder<'_>,
     scene: &Scene<'_>,
@@ -73,7 +73,7 @@ fn push_of_texts<N: Names>(
 
 /// Adds the findings on an entry with these numbers.
 #[tactic(auto, using(crate::proofs::FindingsLemmas::five))]
-fn push_of<N: Names>(
+fn push_of<N: AppNames>(
     findings: &mut Vec<Finding>,
     finder: &mut PlanFinder<'_>,
     scene: &Scene<'_>,
@@ -97,7 +97,7 @@ fn push_of<N: Names>(
 }
 
 /// Adds the findings on the entry with these numbers.
-fn push_of_entry<N: Names>(
+fn push_of_entry<N: AppNames>(
     findings: &mut Vec<Finding>,
     finder: &mut PlanFinder<'_>,
     scene: &Scene<'_>,
@@ -117,7 +117,7 @@ fn push_of_entry<N: Names>(
 
 /// Adds the findings on the entries of the context with the number.
 #[tactic(auto, using(crate::proofs::FindingsLemmas::entries_more))]
-fn push_of_entries<N: Names>(
+fn push_of_entries<N: AppNames>(
     findings: &mut Vec<Finding>,
     finder: &mut PlanFinder<'_>,
     scene: &Scene<'_>,
@@ -140,10 +140,10 @@ fn push_of_entries<N: Names>(
 }
 
 /// Adds the findings on the entries of the context with the name and number.
-fn push_of_named<N: Names>(
+fn push_of_named<N: AppNames>(
     findings: &mut Vec<Finding>,
     finder: &mut PlanFinder<'_>,
-    known: Known<'_>,
+    known: PlanKnowledge<'_>,
     context: &Text,
     number: usize,
 ) -> Result<(), NoMemory>
@@ -170,10 +170,10 @@ fn push_of_named<N: Names>(
 }
 
 /// Adds the findings on the context with the number and on its entries.
-fn push_of_context<N: Names>(
+fn push_of_context<N: AppNames>(
     findings: &mut Vec<Finding>,
     finder: &mut PlanFinder<'_>,
-    known: Known<'_>,
+    known: PlanKnowledge<'_>,
     number: usize,
 ) -> Result<(), NoMemory>
     requires context { number < context_count finder.old }
@@ -190,9 +190,9 @@ fn push_of_context<N: Names>(
 }
 
 /// The findings on the contexts, in the order of the file.
-fn findings_of<N: Names>(
+fn findings_of<N: AppNames>(
     finder: &mut PlanFinder<'_>,
-    known: Known<'_>,
+    known: PlanKnowledge<'_>,
 ) -> Result<Vec<Finding>, NoMemory>
     requires known { IsKnown N.known finder.old known }
     ensures { IfOk result (λ findings. findings.items
@@ -212,14 +212,14 @@ fn findings_of<N: Names>(
 ///
 /// The cost is linear in the dialplan and its search orders, apart from look-ups in tries. It fails only if memory runs out.
 #[tactic(auto, unfolding(crate::specs::Findings::findings_of))]
-pub fn audit<N: Names>(alloc: Global, plan: &Dialplan) -> Result<Vec<Finding>, NoMemory>
+pub fn audit<N: AppNames>(alloc: Global, plan: &Dialplan) -> Result<Vec<Finding>, NoMemory>
     ensures { IfOk result (λ findings. findings.items ≡ spec.findings_of N.known plan.now) }
 {
     let naming = Naming::of::<N>(alloc, plan)?;
     let set = SetNames::of(alloc, plan)?;
     let hidden = Hidings::of(alloc, plan)?;
     let mut finder = PlanFinder::new(alloc, plan)?;
-    let known = Known {
+    let known = PlanKnowledge {
         naming: &naming,
         set: &set,
         hidden: &hidden,

@@ -127,7 +127,7 @@ fn priority_in(jump: Jump, part: &[u8]) -> &[u8]
 
 /// The parts of a target's text, if there are one to three of them.
 pub fn parts_of(jump: Jump, text: &[u8]) -> Option<JumpParts<'_>>
-    ensures { option_map spec.seen result ≡ spec.parts_of jump text.now }
+    ensures { option_map spec.parts_of_jump result ≡ spec.parts_of jump text.now }
 {
     let (first, after) = first_argument(text);
     let Some(after) = after else {
@@ -179,7 +179,7 @@ fn stands(text: &[u8]) -> bool
 
 /// Whether each part of a target is literal; with more than three parts, whether the whole text is.
 pub fn parts_stand(text: &[u8], parts: Option<JumpParts<'_>>) -> bool
-    ensures { result ≡ spec.parts_stand text.now (option_map spec.seen parts.entry) }
+    ensures { result ≡ spec.parts_stand text.now (option_map spec.parts_of_jump parts.entry) }
 {
     match parts {
         None => stands(text),

@@ -8,7 +8,7 @@ ghost use Rattle.dp_audit.specs.Pieces as cut;
 ghost use Rattle.dp_audit.specs.Targets.{texts_of_targets};
 
 use crate::jump::{Jump, Targets, jump_of, parts_of, parts_stand, targets_in};
-use crate::names::Names;
+use crate::names::AppNames;
 use crate::pieces::{first_piece, pieces_of};
 use dp_plan::{Context, Dialplan, Entry, NoMemory, Text};
 use indexmap::IndexSet;
@@ -130,7 +130,7 @@ pub(crate) struct Naming {
 
 impl Naming {
     /// What may name a label of the dialplan.
-    pub(crate) fn of<N: Names>(alloc: Global, plan: &Dialplan) -> Result<Self, NoMemory>
+    pub(crate) fn of<N: AppNames>(alloc: Global, plan: &Dialplan) -> Result<Self, NoMemory>
         ensures { IfOk result (spec.IsNaming N.known plan.now) }
     {
         let targets = Named::of(alloc, plan)?;

@@ -39,7 +39,7 @@ pub use hidden::hidden_is_never_found;
 pub use jump::{Jump, JumpParts, Targets, jump_of, parts_of, parts_stand, targets_in};
 pub use loops::{Loop, find_loops, loop_never_ends};
 pub use missing::{Jumps, TargetAt, find_missing};
-pub use names::Names;
+pub use names::AppNames;
 pub use onward_names::OnwardNames;
 pub use pieces::standing_label_is_never_unused;
 pub use successor::priority_of;

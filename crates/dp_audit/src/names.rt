@@ -2,7 +2,7 @@
 ghost use Rattle.std.specs.Prelude.{◌≡◌, Bool, List, ℕ};
 
 /// The names of applications that a table has.
-pub trait Names {
+pub trait AppNames {
     // Whether the table has the name.
     ghost known: { List ℕ → Bool };
 

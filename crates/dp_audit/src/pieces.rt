@@ -10,7 +10,7 @@ ghost use Rattle.dp_audit.specs.Labels.{is_unused};
 ghost use Rattle.dp_audit.specs.Pieces as spec;
 ghost use Rattle.dp_audit.specs.steps.Firsts.{Adds};
 
-use crate::names::Names;
+use crate::names::AppNames;
 use dp_conf::trim;
 use dp_plan::{Context, Dialplan, Entry, NoMemory, Text};
 use indexmap::IndexSet;
@@ -73,7 +73,7 @@ fn insert_pieces(pieces: &mut IndexSet<Text>, alloc: Global, text: &[u8]) -> Res
 }
 
 /// Adds the pieces of the arguments of the entry, if the table lacks its application.
-fn insert_of<N: Names>(
+fn insert_of<N: AppNames>(
     pieces: &mut IndexSet<Text>,
     alloc: Global,
     entry: &Entry,
@@ -87,7 +87,7 @@ fn insert_of<N: Names>(
 }
 
 /// Adds the pieces of the arguments of those entries whose applications the table lacks.
-fn insert_of_entries<N: Names>(
+fn insert_of_entries<N: AppNames>(
     pieces: &mut IndexSet<Text>,
     alloc: Global,
     entries: &[Entry],
@@ -101,7 +101,7 @@ fn insert_of_entries<N: Names>(
 }
 
 /// The pieces of the arguments of those entries of a dialplan whose applications the table lacks.
-pub(crate) fn pieces_of<N: Names>(
+pub(crate) fn pieces_of<N: AppNames>(
     alloc: Global,
     plan: &Dialplan,
 ) -> Result<IndexSet<Text>, NoMemory>
@@ -118,6 +118,6 @@ pub(crate) fn pieces_of<N: Names>(
 /// them, or between one of them and an end, in any dialplan and with any table.
 pub fn standing_label_is_never_unused()
     ensures { (known : List ℕ → Bool) (plan : PlanOf) (id : EntryId) (other entry : Entry) (label : List ℕ)
-        → entry_at plan id ≡ Some other → known other.application ≡ false → spec.Stands label other.arguments
+        → entry_at plan id ≡ Some other → known other.application ≡ false → spec.StandsBetween label other.arguments
         → entry.label ≡ Some label → is_unused known plan entry ≡ false }
 {}

@@ -8,7 +8,7 @@ use indexmap::IndexSet;
 
 /// What may name the labels of a dialplan, what the dialplan sets and what it hides.
 #[derive(Clone, Copy)]
-pub(crate) struct Known<'a> {
+pub(crate) struct PlanKnowledge<'a> {
     pub(crate) naming: &'a Naming,
     pub(crate) set: &'a SetNames,
     pub(crate) hidden: &'a Hidings,
@@ -23,5 +23,5 @@ pub(crate) struct Scene<'a> {
     pub(crate) firsts: &'a IndexSet<Spelling>,
     /// The context's name.
     pub(crate) context: &'a Text,
-    pub(crate) known: Known<'a>,
+    pub(crate) known: PlanKnowledge<'a>,
 }

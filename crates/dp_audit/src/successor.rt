@@ -116,7 +116,7 @@ fn meet_by_parts(
     exten: &[u8],
     parts: JumpParts<'_>,
 ) -> Result<Option<EntryId>, NoMemory>
-    ensures found { IfOk result (λ next. next ≡ spec.entry_by_parts finder.old own.now exten.now (targets.seen parts.entry)) }
+    ensures found { IfOk result (λ next. next ≡ spec.entry_by_parts finder.old own.now exten.now (targets.parts_of_jump parts.entry)) }
     ensures same { finder.new ≡ finder.old }
 {
     let exten = part_or(exten, parts.exten);

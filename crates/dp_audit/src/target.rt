@@ -77,7 +77,7 @@ fn leads(
     parts: Option<JumpParts<'_>>,
 ) -> Result<bool, NoMemory>
     ensures leads { IfOk result (λ leads. leads
-        ≡ spec.leads finder.old own.now name.now (option_map spec.seen parts.entry)) }
+        ≡ spec.leads finder.old own.now name.now (option_map spec.parts_of_jump parts.entry)) }
     ensures same { finder.new ≡ finder.old }
 {
     let Some(parts) = parts else {

@@ -3,7 +3,7 @@ use Rattle.std.proofs.Common.{zero, suc, ◌≡◌, ℕ, ◌+◌, ◌<◌, ◌�
 use Rattle.std.specs.List.{zip}
 use Rattle.std.specs.List.Sorted.{IsStrictlyIncreasing}
 use Rattle.dp_app.specs.Rows.{Meanings}
-use Rattle.dp_machine.proofs.IsolationLemmas.{IsIsolated, isolated}
+use Rattle.dp_machine.proofs.IsolationLemmas.{IsIsolated, isolated-from-start}
 use Rattle.dp_machine.specs.Isolation.{AreSameBut, IsUnseen, is_of, replies_without, without}
 use Rattle.dp_machine.specs.Replay.{world_after}
 use Rattle.dp_machine.specs.World.{World}
@@ -13,7 +13,7 @@ use Rattle.dp_board.specs.Difference.{told_of, told_from}
 use Rattle.dp_board.specs.Log.{Log, Replays, events_in, replies_in}
 use Rattle.dp_board.specs.Settled.{Agrees}
 use Rattle.dp_board.specs.Silence.{MayBeSilent, entries_without}
-use Rattle.dp_board.specs.Sittings.{PlacesRise, Sitting}
+use Rattle.dp_board.specs.Sittings.{PlacesRise, SeatSitting}
 use Rattle.dp_board.specs.declared.seat_call.SeatCall.{SeatCall}
 use Rattle.dp_board.specs.declared.entry.Entry.{Entry}
 
@@ -58,7 +58,7 @@ told_from-rises seat place (entry ∷ entries) = by (told_from-rises seat (place
   by later false = RiseFrom-later place (places (told_from seat (place + 1) entries)) later
 
 -- and so those in the record of a seat that agrees
-pub PlacesRise-of : (entries : List Entry) (seat : Sitting) → Agrees entries seat → PlacesRise seat
+pub PlacesRise-of : (entries : List Entry) (seat : SeatSitting) → Agrees entries seat → PlacesRise seat
 PlacesRise-of entries seat agrees = subst (λ (told : List SeatCall). IsStrictlyIncreasing (places told)) agrees (told_from-rises seat.number 0 entries).rise
 
 -- the replies to the events of others are those in the entries of others
@@ -79,7 +79,7 @@ pub MayBeSilent-of : (meanings : Meanings) (first : World) (number : ℕ) (histo
     → IsUnseen meanings number first (events_in history.entries) → MayBeSilent meanings first number history
 MayBeSilent-of meanings first number history replays unseen =
     let events = events_in history.entries in
-    let apart : IsIsolated meanings number first first events = isolated meanings first events number unseen in
+    let apart : IsIsolated meanings number first first events = isolated-from-start meanings first events number unseen in
     record {
       replies = apart.replies ∙ (ap (replies_without number events) (sym replays.replies) ∙ replies-without number history.entries);
       world = subst (AreSameBut number (world_after meanings first (without number events))) (sym replays.world) apart.world;

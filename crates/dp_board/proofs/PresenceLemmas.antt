@@ -7,12 +7,12 @@ use Rattle.std.proofs.lemmas.List.Folds.{list_any-append, sum_by-replicate}
 use Rattle.std.proofs.lemmas.List.Sums.{sum_by-set}
 use Rattle.dp_board.specs.steps.Presence.{is_marked, unmarked_in, MarksSeats, AllMarked, IsLeastUnmarked}
 use Rattle.dp_board.specs.Settled.{has_seat, AllPresent, IsLeastAbsent}
-use Rattle.dp_board.specs.Sittings.{Sitting}
+use Rattle.dp_board.specs.Sittings.{SeatSitting}
 
 -- one more seat
-has_seat-push : (seats : List Sitting) (seat : Sitting) (number : ℕ) (b : Bool) → (seat.number == number) ≡ b → has_seat (seats ++ seat ∷ []) number ≡ (has_seat seats number || b)
+has_seat-push : (seats : List SeatSitting) (seat : SeatSitting) (number : ℕ) (b : Bool) → (seat.number == number) ≡ b → has_seat (seats ++ seat ∷ []) number ≡ (has_seat seats number || b)
 has_seat-push seats seat number b is =
-    list_any-append (λ (s : Sitting). s.number == number) seats (seat ∷ [])
+    list_any-append (λ (s : SeatSitting). s.number == number) seats (seat ∷ [])
     ∙ ap (λ c. has_seat seats number || c) (or-false (seat.number == number) ∙ is)
 
 or_true : (a h : Bool) → (a || (h || true)) ≡ true
@@ -21,7 +21,7 @@ or_true false true = refl
 or_true false false = refl
 
 -- the mark of one number
-pub MarksSeats-more : (old now new : List Bool) (seats : List Sitting) (seat : Sitting) → length now ≡ length old → MarksSeats old seats now → seat.number < length old → new ≡ set now seat.number true → MarksSeats old (seats ++ seat ∷ []) new
+pub MarksSeats-more : (old now new : List Bool) (seats : List SeatSitting) (seat : SeatSitting) → length now ≡ length old → MarksSeats old seats now → seat.number < length old → new ≡ set now seat.number true → MarksSeats old (seats ++ seat ∷ []) new
 MarksSeats-more old now new seats seat len before within set_is number lt = by (seat.number == number) refl where
   by : (b : Bool) → (seat.number == number) ≡ b → is_marked new number ≡ (is_marked old number || has_seat (seats ++ seat ∷ []) number)
   by true same =
@@ -54,12 +54,12 @@ length-fresh zero = refl
 length-fresh (suc count) = ap (λ n. suc n) (length-fresh count)
 
 -- in a table without marks before, the marks are the seats
-marks-fresh : (old present : List Bool) (count : ℕ) (seats : List Sitting) → old ≡ replicate count false → MarksSeats old seats present → (number : ℕ) → number < count → is_marked present number ≡ has_seat seats number
+marks-fresh : (old present : List Bool) (count : ℕ) (seats : List SeatSitting) → old ≡ replicate count false → MarksSeats old seats present → (number : ℕ) → number < count → is_marked present number ≡ has_seat seats number
 marks-fresh old present count seats fresh marks number lt =
     marks number (omega (arith, lt, ap length fresh, length-fresh count))
     ∙ ap (λ b. b || has_seat seats number) (ap (λ xs. get_or xs number false) fresh ∙ get_or-fresh count number)
 
-pub present-all : (old present : List Bool) (count : ℕ) (seats : List Sitting) → old ≡ replicate count false → length present ≡ length old → MarksSeats old seats present → AllMarked present → AllPresent count seats
+pub present-all : (old present : List Bool) (count : ℕ) (seats : List SeatSitting) → old ≡ replicate count false → length present ≡ length old → MarksSeats old seats present → AllMarked present → AllPresent count seats
 present-all old present count seats fresh len marks all number lt =
     sym (marks-fresh old present count seats fresh marks number lt)
     ∙ all number (omega (arith, lt, len, ap length fresh, length-fresh count))
@@ -68,7 +68,7 @@ pub enough-seats : (old present : List Bool) (count size : ℕ) → old ≡ repl
 enough-seats old present count size fresh more none =
     omega (arith, more, none, ap unmarked_in fresh, sum_by-replicate (λ (b : Bool). if b then 0 else 1) count false)
 
-pub present-least : (old present : List Bool) (count number : ℕ) (seats : List Sitting) → old ≡ replicate count false → length present ≡ length old → MarksSeats old seats present → IsLeastUnmarked present number → IsLeastAbsent count seats number
+pub present-least : (old present : List Bool) (count number : ℕ) (seats : List SeatSitting) → old ≡ replicate count false → length present ≡ length old → MarksSeats old seats present → IsLeastUnmarked present number → IsLeastAbsent count seats number
 present-least old present count number seats fresh len marks found =
     let within : number < count = omega (arith, found.within, len, ap length fresh, length-fresh count) in
     record {

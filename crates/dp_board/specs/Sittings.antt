@@ -10,18 +10,18 @@ abbrev pub call_of : ℕ → Event → Reply → SeatCall
 call_of place event reply = record { place = place; event = event; reply = reply }
 
 -- a seat: its number, and what it was told, call by call
-pub record Sitting : Type 0 where
+pub record SeatSitting : Type 0 where
   pub number : ℕ
   pub told : List SeatCall
 
 -- a seat that was told about one more call
-abbrev pub with_call : Sitting → ℕ → Event → Reply → Sitting
+abbrev pub with_call : SeatSitting → ℕ → Event → Reply → SeatSitting
 with_call seat place event reply = record seat { told = seat.told ++ call_of place event reply ∷ [] }
 
 -- a seat that was told about no call yet
-abbrev pub unheard : ℕ → Sitting
-unheard number = record { number = number; told = [] }
+abbrev pub new_sitting : ℕ → SeatSitting
+new_sitting number = record { number = number; told = [] }
 
 -- the places of the calls in a record rise: each call occurs once, in its order
-abbrev pub PlacesRise : Sitting → Type 0
+abbrev pub PlacesRise : SeatSitting → Type 0
 PlacesRise seat = IsStrictlyIncreasing (map (λ call. call.place) seat.told)

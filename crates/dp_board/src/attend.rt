@@ -24,7 +24,7 @@ pub trait Gate {
 
 /// Why an attendance is over.
 #[derive(Clone, Copy, Debug, PartialEq, Eq)]
-pub enum Why {
+pub enum AttendedWhy {
     /// The channel has ended.
     Ended,
     /// All turns were taken.
@@ -37,18 +37,18 @@ pub enum Why {
 #[derive(Clone, Copy, Debug, PartialEq, Eq)]
 pub struct Attended {
     pub steps: u64,
-    pub why: Why,
+    pub why: AttendedWhy,
 }
 
 /// Why an attendance is over after this reply, if it is: `has_ended` says that the channel had ended after the turn.
-fn end_after(reply: Reply, has_ended: bool) -> Option<Why>
+fn end_after(reply: Reply, has_ended: bool) -> Option<AttendedWhy>
     ensures { steps.IsEndAfter has_ended reply result }
 {
     if has_ended || reply == Reply::Refused(Refusal::Ended) {
-        return Some(Why::Ended);
+        return Some(AttendedWhy::Ended);
     }
     if reply == Reply::Refused(Refusal::NoChannel) {
-        return Some(Why::Refused(Refusal::NoChannel));
+        return Some(AttendedWhy::Refused(Refusal::NoChannel));
     }
     None
 }
@@ -71,7 +71,7 @@ impl<T: AppTable, S: Session> Board<T, S> {
         channel: u32,
     ) -> Result<(usize, Reply, bool), NoMemory>
         ensures ok { IfOk result (λ answer. seat.new ≡ steps.with_step seat.old channel answer.0 answer.1) }
-        ensures left { IfOk result (λ answer. steps.Leaves (with_functions T.rows T.Functions.table) S.opening channel
+        ensures left { IfOk result (λ answer. steps.EndsWithStep (with_functions T.rows T.Functions.table) S.opening channel
             (sittings.call_of answer.0 (Step channel) answer.1) answer.2) }
         ensures err { OnErr result (seat.new ≡ seat.old) }
     {
@@ -92,7 +92,7 @@ impl<T: AppTable, S: Session> Board<T, S> {
         channel: u32,
         gate: &G,
         turn: u64,
-    ) -> Result<(usize, Reply, Option<Why>), NoMemory>
+    ) -> Result<(usize, Reply, Option<AttendedWhy>), NoMemory>
         ensures ok { IfOk result (λ answer. seat.new ≡ steps.with_step seat.old channel answer.0 answer.1) }
         ensures end { IfOk result (λ answer. steps.IsEnd (with_functions T.rows T.Functions.table) S.opening channel
             (sittings.call_of answer.0 (Step channel) answer.1) answer.2) }
@@ -137,7 +137,7 @@ impl<T: AppTable, S: Session> Board<T, S> {
         }
         Ok(Attended {
             steps: turns,
-            why: Why::TurnsSpent,
+            why: AttendedWhy::TurnsSpent,
         })
     }
 }

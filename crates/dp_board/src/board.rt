@@ -59,7 +59,7 @@ fn split_seats<S: Session>(
     requires amount { share.old.amount ≡ 0 }
     requires empty { seats.old.items ≡ [] }
     requires room { count ≤ vec_capacity seats.old }
-    ensures seats { seats.new.items ≡ map spec.unheard (range_with_len 0 count) }
+    ensures seats { seats.new.items ≡ map spec.new_sitting (range_with_len 0 count) }
     ensures left { (share.new.parts ≡ 1) × (share.new.amount ≡ 0) }
 {
     for number in 0..count {
@@ -110,7 +110,7 @@ impl<T: AppTable, S: Session> Board<T, S> {
         requires parts { (blank.parts ≡ S.parts) × (blank.parts ≡ seats + 1) }
         requires opening { machine ≡ S.opening }
         ensures board { IfOk result (λ opened. opened.0 ≡ seats) }
-        ensures seats { IfOk result (λ opened. opened.1.items ≡ map spec.unheard (range_with_len 0 seats)) }
+        ensures seats { IfOk result (λ opened. opened.1.items ≡ map spec.new_sitting (range_with_len 0 seats)) }
         ensures err { IfErr result (λ back. back.0 ≡ machine) }
     {
         let mut places = match Vec::with_capacity(alloc, seats as usize) {

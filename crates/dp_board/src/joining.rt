@@ -4,13 +4,13 @@ ghost use Rattle.dp_board.specs.Settled.{calls_of};
 
 use crate::seat::Seat;
 use crate::session::Session;
-use crate::sheet::Sheet;
+use crate::sheet::SeatSheet;
 use std::sync::ledger::Share;
 
 /// Joins the seats' parts of the ledger into one share, and leaves the rest of the seats, last seat first.
 pub(crate) fn join_parts<S: Session>(
     seats: &mut Vec<Seat<S>>,
-    sheets: &mut Vec<Sheet<S>>,
+    sheets: &mut Vec<SeatSheet<S>>,
     all: &mut Share<S>,
 )
     requires empty { sheets.old.items ≡ [] }
@@ -32,7 +32,7 @@ pub(crate) fn join_parts<S: Session>(
 
 /// Splits one share into the seats' parts of the ledger, and puts the seats together again, that of the last sheet first.
 pub(crate) fn split_parts<S: Session>(
-    sheets: &mut Vec<Sheet<S>>,
+    sheets: &mut Vec<SeatSheet<S>>,
     seats: &mut Vec<Seat<S>>,
     all: &mut Share<S>,
 )

@@ -18,7 +18,7 @@ mod settle;
 mod shared;
 mod sheet;
 
-pub use attend::{Attended, Gate, Why};
+pub use attend::{Attended, AttendedWhy, Gate};
 pub use board::Board;
 pub use difference::{Disagree, first_difference};
 pub use dp_machine::{Event, Machine, NoMemory, Phase, Refusal, Reply, Text};

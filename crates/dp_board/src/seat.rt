@@ -17,9 +17,9 @@ pub struct Seat<S: Session> {
 
 impl<S: Session> Model for Seat<S> {
     ghost use Rattle.std.specs.Prelude.{◌≡◌, ◌+◌, ◌<◌, length};
-    ghost use Rattle.dp_board.specs.Sittings.{Sitting};
+    ghost use Rattle.dp_board.specs.Sittings.{SeatSitting};
 
-    ghost Value = { Sitting };
+    ghost Value = { SeatSitting };
 
     ghost view = { λ seat. record { number = seat.number; told = seat.told.items } };
 

@@ -17,7 +17,7 @@ use crate::places::{count_entries, is_record};
 use crate::presence::least_absent;
 use crate::seat::Seat;
 use crate::session::Session;
-use crate::sheet::Sheet;
+use crate::sheet::SeatSheet;
 use dp_app::AppTable;
 use std::alloc::Global;
 
@@ -99,7 +99,7 @@ fn least_difference<S: Session>(
 /// Room to settle a board: for the rest of its seats, and for the number of entries of each.
 #[derive(Drop)]
 struct Room<S: Session> {
-    sheets: Vec<Sheet<S>>,
+    sheets: Vec<SeatSheet<S>>,
     counts: Vec<usize>,
 }
 
@@ -127,12 +127,12 @@ fn room_for<S: Session>(
 /// One history with the calls of all seats of a board. The seats are the same afterwards.
 fn history_of<T: AppTable, S: Session>(
     board: Board<T, S>,
-    mut sheets: Vec<Sheet<S>>,
+    mut sheets: Vec<SeatSheet<S>>,
     seats: &mut Vec<Seat<S>>,
 ) -> History<T>
     requires present { settled.AllPresent board seats.old.items × (board ≤ length seats.old.items) }
     requires room { (sheets.items ≡ []) × (vec_len seats.old ≤ vec_capacity sheets) }
-    ensures whole { settled.IsWhole (with_functions T.rows T.Functions.table) S.opening board seats.old.items result }
+    ensures whole { settled.IsWholeHistory (with_functions T.rows T.Functions.table) S.opening board seats.old.items result }
     ensures same { seats.new.items ≡ seats.old.items }
 {
     let shared = board.shared.into_inner();

@@ -9,24 +9,24 @@ use std::sync::ledger::Share;
 
 /// The number of a seat and its record, while the seat's part of the ledger is joined with the others.
 #[derive(Drop)]
-pub(crate) struct Sheet<S: Session> {
+pub(crate) struct SeatSheet<S: Session> {
     number: u32,
     told: Vec<SeatCall>,
     session: PhantomData<S>,
 }
 
-impl<S: Session> Model for Sheet<S> {
+impl<S: Session> Model for SeatSheet<S> {
     ghost use Rattle.std.specs.Prelude.{◌+◌, ◌<◌};
-    ghost use Rattle.dp_board.specs.Sittings.{Sitting};
+    ghost use Rattle.dp_board.specs.Sittings.{SeatSitting};
 
-    ghost Value = { Sitting };
+    ghost Value = { SeatSitting };
 
     ghost view = { λ sheet. record { number = sheet.number; told = sheet.told.items } };
 
     ghost invariant = { λ sheet. sheet.number + 1 < S.parts };
 }
 
-impl<S: Session> Sheet<S> {
+impl<S: Session> SeatSheet<S> {
     /// The number of calls that the seat was told of.
     pub(crate) fn count(&self) -> u64
         ensures { result ≡ length self.now.told }
@@ -49,11 +49,11 @@ impl<S: Session> Sheet<S> {
 
 impl<S: Session> Seat<S> {
     /// The seat's part of the ledger, and the rest of the seat.
-    pub(crate) fn into_parts(self) -> (Sheet<S>, Share<S>)
+    pub(crate) fn into_parts(self) -> (SeatSheet<S>, Share<S>)
         ensures sheet { result.0 ≡ self }
         ensures share { (result.1.parts ≡ 1) × (result.1.amount ≡ length self.told) }
     {
-        let sheet = Sheet {
+        let sheet = SeatSheet {
             number: self.number,
             told: self.told,
             session: PhantomData,

@@ -1,7 +1,7 @@
 //! Two seats act on two threads.
 use crate::play::{Play, perform};
 use dp_board::{Board, History, Seat, Session};
-use dp_board_fixture::{Exchange, Retry, SeatReply, give};
+use dp_board_fixture::{BoardMachine, Retry, SeatReply, give};
 use dp_machine::{EntryId, Event, Phase, Reply};
 use dp_table::StandardApps;
 use std::alloc::Global;
@@ -85,7 +85,7 @@ fn is_step(history: &History<StandardApps>, told: SeatReply, seat: u32, channel:
 }
 
 /// Whether `Line/3` is the only member of the queue.
-fn has_member(machine: &Exchange) -> bool {
+fn has_member(machine: &BoardMachine) -> bool {
     let queues = machine.queues();
     let (Some(queue), Some(agent)) = (queues.queues().get(0), queues.agents().get(0)) else {
         return false;
@@ -98,7 +98,7 @@ fn has_member(machine: &Exchange) -> bool {
 pub(super) fn has_value(
     rt: &impl Abort,
     alloc: Global,
-    machine: &Exchange,
+    machine: &BoardMachine,
     channel: u32,
     name: &[u8],
     wanted: &[u8],
@@ -114,7 +114,7 @@ pub(super) fn has_value(
 }
 
 /// Whether channel 2 waits if its queue had a member by then, and otherwise goes on and reads why it does not wait.
-fn has_asked(rt: &impl Abort, alloc: Global, machine: &Exchange, is_added: bool) -> bool {
+fn has_asked(rt: &impl Abort, alloc: Global, machine: &BoardMachine, is_added: bool) -> bool {
     let phase = machine.phase(2).expect(rt, "a channel");
     if is_added {
         matches!(phase, Phase::Queued { .. })

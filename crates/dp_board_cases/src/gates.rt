@@ -1,7 +1,7 @@
 //! Two channels are attended on two threads, and gates hold one until the other has acted.
 use crate::acts::channel_of;
 use crate::play::{Play, perform};
-use dp_board::{Attended, Board, Seat, Session, Why};
+use dp_board::{Attended, AttendedWhy, Board, Seat, Session};
 use dp_board_fixture::{Crossed, attend, gate_of};
 use dp_table::StandardApps;
 use std::alloc::Global;
@@ -11,7 +11,7 @@ use std::sync::Wait;
 /// A channel that ended with its second step.
 pub(super) const ENDED: Attended = Attended {
     steps: 2,
-    why: Why::Ended,
+    why: AttendedWhy::Ended,
 };
 
 /// The seat's channel is attended to its end.

@@ -1,7 +1,7 @@
 //! A channel pauses, and the other seat dials digits and ends the pause.
 use crate::acts::step;
 use crate::play::{Play, perform};
-use dp_board::{Attended, Board, Gate, Seat, Session, Why};
+use dp_board::{Attended, AttendedWhy, Board, Gate, Seat, Session};
 use dp_board_fixture::{attend, give, hold};
 use dp_machine::{Event, Reply};
 use dp_table::StandardApps;
@@ -98,7 +98,7 @@ fn attend_paced<S: Session, R: Wait + Abort>(
         park(rt, alloc, board, seat, gate);
         steps = 1;
     }
-    let why = Why::Ended;
+    let why = AttendedWhy::Ended;
     let attended = attend(rt, alloc, board, seat, 1, gate, 2);
     assert!(rt; attended == Some(Attended { steps, why }));
 }

@@ -10,7 +10,7 @@ use crate::releases::{Released, act_released, has_released};
 use crate::reloads::{act_reload, check_reload};
 use crate::turns::{act_hung_up, act_turns};
 use dp_board::{Board, History, Seat, Session};
-use dp_board_fixture::{Crossed, Exchange, Retry, SeatReply, machine_of, settle};
+use dp_board_fixture::{BoardMachine, Crossed, Retry, SeatReply, machine_of, settle};
 use dp_table::StandardApps;
 use std::alloc::Global;
 use std::marker::Brand;
@@ -171,10 +171,10 @@ fn play_on<S: Session + Send + Sync, R: Threads + Wait + Abort + Sync>(
     rt: &R,
     alloc: Global,
     blank: Blank,
-    machine: Exchange,
+    machine: BoardMachine,
     seats: u32,
     play: &Play,
-) -> Option<Exchange>
+) -> Option<BoardMachine>
     requires name { blank.name ≡ S.name }
     requires parts { (blank.parts ≡ S.parts) × (blank.parts ≡ seats + 1) }
     requires opening { machine ≡ S.opening }
@@ -192,10 +192,10 @@ fn play_on<S: Session + Send + Sync, R: Threads + Wait + Abort + Sync>(
 fn play_in_session<R: Threads + Wait + Abort + Sync>(
     rt: &R,
     alloc: Global,
-    machine: Exchange,
+    machine: BoardMachine,
     seats: u32,
     play: &Play,
-) -> Option<Exchange> {
+) -> Option<BoardMachine> {
     let blank = Blank::new(u64::from(seats) + 1);
     play_on::<Brand, R>(rt, alloc, blank, machine, seats, play)
 }

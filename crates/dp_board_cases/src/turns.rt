@@ -1,6 +1,6 @@
 //! A seat attends one channel after another.
 use crate::play::{Play, perform};
-use dp_board::{Attended, Board, Seat, Session, Why};
+use dp_board::{Attended, AttendedWhy, Board, Seat, Session};
 use dp_board_fixture::{Crossed, attend, gate_of};
 use dp_machine::Refusal;
 use dp_table::StandardApps;
@@ -9,19 +9,19 @@ use std::process::Abort;
 use std::sync::Wait;
 
 /// For each attendance on one board the channel, its turns, and the result: how many steps it gives, and why it is over.
-type Attendances = &'static [(u32, u64, u64, Why)];
+type Attendances = &'static [(u32, u64, u64, AttendedWhy)];
 
 /// Channels whose extension has one priority, and one that does not exist.
 const TURNS: Attendances = &[
-    (1, 0, 0, Why::TurnsSpent),
-    (1, 1, 1, Why::TurnsSpent),
-    (1, 9, 1, Why::Ended),
-    (1, 9, 1, Why::Ended),
-    (3, 1, 1, Why::Refused(Refusal::NoChannel)),
+    (1, 0, 0, AttendedWhy::TurnsSpent),
+    (1, 1, 1, AttendedWhy::TurnsSpent),
+    (1, 9, 1, AttendedWhy::Ended),
+    (1, 9, 1, AttendedWhy::Ended),
+    (3, 1, 1, AttendedWhy::Refused(Refusal::NoChannel)),
     // From here on the refusal is in the record.
-    (3, 0, 0, Why::TurnsSpent),
-    (2, 2, 2, Why::Ended),
-    (3, 9, 1, Why::Refused(Refusal::NoChannel)),
+    (3, 0, 0, AttendedWhy::TurnsSpent),
+    (2, 2, 2, AttendedWhy::Ended),
+    (3, 9, 1, AttendedWhy::Refused(Refusal::NoChannel)),
 ];
 
 /// The calls that the gate gets for channel 1, and for the others: each attendance counts its turns from 0.
@@ -29,9 +29,9 @@ const GIVEN: (&str, &str) = ("0 ran 0 none 0 refused", "0 refused 0 ran 1 none 0
 
 /// Channels that the first step hangs up: one more step would be refused, and is not given.
 const HUNG_UP: Attendances = &[
-    (1, 2, 1, Why::Ended),
-    (2, 9, 1, Why::Ended),
-    (1, 2, 1, Why::Ended),
+    (1, 2, 1, AttendedWhy::Ended),
+    (2, 9, 1, AttendedWhy::Ended),
+    (1, 2, 1, AttendedWhy::Ended),
 ];
 
 /// The calls that the gate gets then.

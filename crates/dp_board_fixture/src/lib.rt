@@ -8,7 +8,7 @@ mod owned;
 
 use dp_board::{Entry, Gate};
 use dp_machine::Reply;
-pub use owned::{Exchange, Retry, SeatReply, attend, give, machine_of, settle};
+pub use owned::{BoardMachine, Retry, SeatReply, attend, give, machine_of, settle};
 use std::sync::atomic::{AtomicU64, Ordering};
 use std::thread::yield_now;
 
@@ -34,14 +34,14 @@ pub fn hold(flag: &AtomicU64, marks: &AtomicU64) {
 
 /// The calls that a gate should get for a channel: the turn and the reply of each event, separated by blanks, as `0 ran 1 none`.
 #[derive(Drop)]
-struct Calls {
+struct ExpectedCalls {
     wanted: &'static str,
     given: AtomicU64,
 }
 
-impl Calls {
-    fn of(wanted: &'static str) -> Calls {
-        Calls {
+impl ExpectedCalls {
+    fn of(wanted: &'static str) -> ExpectedCalls {
+        ExpectedCalls {
             wanted,
             given: AtomicU64::new(0),
         }
@@ -75,15 +75,15 @@ pub struct Crossed {
     held: u32,
     other: u32,
     // For channel 1, and for any other.
-    first: Calls,
-    second: Calls,
+    first: ExpectedCalls,
+    second: ExpectedCalls,
     come: AtomicU64,
     done: AtomicU64,
     marks: AtomicU64,
 }
 
 impl Crossed {
-    fn calls_of(&self, channel: u32) -> &Calls {
+    fn calls_of(&self, channel: u32) -> &ExpectedCalls {
         if channel == 1 {
             &self.first
         } else {
@@ -149,8 +149,8 @@ pub fn gate_of(held: u32, other: u32, first: &'static str, second: &'static str)
     Crossed {
         held,
         other,
-        first: Calls::of(first),
-        second: Calls::of(second),
+        first: ExpectedCalls::of(first),
+        second: ExpectedCalls::of(second),
         come: AtomicU64::new(0),
         done: AtomicU64::new(0),
         marks: AtomicU64::new(0),

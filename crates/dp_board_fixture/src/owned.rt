@@ -12,7 +12,7 @@ use std::alloc::Global;
 use std::sync::Wait;
 
 /// A machine with the applications of the program.
-pub type Exchange = Machine<StandardApps>;
+pub type BoardMachine = Machine<StandardApps>;
 
 /// The result of a call: the place of its entry, and the reply.
 pub type SeatReply = (usize, Reply);
@@ -35,13 +35,13 @@ joinempty=no
 ";
 
 /// A machine over the dialplan, with the queues.
-fn with_queues(alloc: Global, plan: Dialplan) -> Option<Exchange> {
+fn with_queues(alloc: Global, plan: Dialplan) -> Option<BoardMachine> {
     let queues = Queues::load(alloc, QUEUES).ok()?;
-    Exchange::new(alloc, plan, queues).ok()
+    BoardMachine::new(alloc, plan, queues).ok()
 }
 
 /// A machine over the dialplan, if memory does not run out.
-fn exchange(alloc: Global) -> Option<Exchange> {
+fn exchange(alloc: Global) -> Option<BoardMachine> {
     match Dialplan::load(alloc, PLAN) {
         Ok((plan, _notes)) => with_queues(alloc, plan),
         Err(_) => None,
@@ -49,7 +49,7 @@ fn exchange(alloc: Global) -> Option<Exchange> {
 }
 
 /// A machine over the dialplan, which is made again if memory runs out.
-fn exchange_again(alloc: Global) -> Option<Exchange> {
+fn exchange_again(alloc: Global) -> Option<BoardMachine> {
     match exchange(alloc) {
         Some(machine) => Some(machine),
         None => exchange(alloc),
@@ -67,12 +67,12 @@ fn call_to(alloc: Global, exten: &[u8]) -> Result<Event, NoMemory> {
     })
 }
 
-fn start(alloc: Global, machine: &mut Exchange, exten: &[u8]) -> Result<Reply, NoMemory> {
+fn start(alloc: Global, machine: &mut BoardMachine, exten: &[u8]) -> Result<Reply, NoMemory> {
     machine.apply(alloc, call_to(alloc, exten)?)
 }
 
 /// Whether a call comes in, repeated if memory runs out, and has this number.
-fn has_started(alloc: Global, machine: &mut Exchange, exten: &[u8], channel: u32) -> bool {
+fn has_started(alloc: Global, machine: &mut BoardMachine, exten: &[u8], channel: u32) -> bool {
     let reply = match start(alloc, machine, exten) {
         Ok(reply) => Some(reply),
         Err(_) => start(alloc, machine, exten).ok(),
@@ -81,7 +81,7 @@ fn has_started(alloc: Global, machine: &mut Exchange, exten: &[u8], channel: u32
 }
 
 /// A machine with channel 1 at one extension and channel 2 at the other.
-pub fn machine_of(alloc: Global, first: &[u8], second: &[u8]) -> Option<Exchange> {
+pub fn machine_of(alloc: Global, first: &[u8], second: &[u8]) -> Option<BoardMachine> {
     let mut machine = exchange_again(alloc)?;
     if has_started(alloc, &mut machine, first, 1) && has_started(alloc, &mut machine, second, 2) {
         return Some(machine);
@@ -114,13 +114,13 @@ pub fn attend<S: Session, R: Wait, G: Gate>(
 }
 
 /// A board with its seats.
-type Opened<S> = (Board<StandardApps, S>, Vec<Seat<S>>);
+type OpenedBoard<S> = (Board<StandardApps, S>, Vec<Seat<S>>);
 
 /// The result of settling a board.
 type Settled<S> = Result<History<StandardApps>, Unsettled<StandardApps, S>>;
 
 /// The board and the seats that are handed back.
-fn open_of<S: Session>(back: Back<StandardApps, S>) -> Option<Opened<S>> {
+fn open_of<S: Session>(back: Back<StandardApps, S>) -> Option<OpenedBoard<S>> {
     match back {
         Back::Open { board, seats } => Some((board, seats)),
         Back::Closed { .. } => None,
@@ -158,7 +158,7 @@ fn settle_none<S: Session>(
     board: Board<StandardApps, S>,
     seats: Vec<Seat<S>>,
     retry: Retry,
-) -> Option<Opened<S>> {
+) -> Option<OpenedBoard<S>> {
     match settle_again(alloc, board, seats, retry)? {
         Err(Unsettled { fault, back }) if fault.code() == 60 => open_of(back),
         _ => None,
@@ -168,7 +168,7 @@ fn settle_none<S: Session>(
 /// Settles with the last seat too.
 fn settle_all<S: Session>(
     alloc: Global,
-    opened: Opened<S>,
+    opened: OpenedBoard<S>,
     last: Seat<S>,
     retry: Retry,
 ) -> Option<Settled<S>> {

@@ -108,7 +108,7 @@ pub fn check_all<Q: Question>(alloc: Global, tables: &[&str]) -> Result<(), Fail
 
 /// The state of reading an escape.
 #[derive(Clone, Copy)]
-enum Reading {
+enum EscapeReading {
     Plain,
     Escape,
     FirstDigit,
@@ -134,22 +134,22 @@ fn escape_of(byte: u8) -> u8 {
     }
 }
 
-fn push_read(out: &mut Vec<u8>, at: Reading, byte: u8) -> Result<Reading, AllocError> {
+fn push_read(out: &mut Vec<u8>, at: EscapeReading, byte: u8) -> Result<EscapeReading, AllocError> {
     match (at, byte) {
-        (Reading::Plain, b'\\') => Ok(Reading::Escape),
-        (Reading::Escape, b'x') => Ok(Reading::FirstDigit),
-        (Reading::FirstDigit, _) => Ok(Reading::SecondDigit(digit(byte))),
-        (Reading::Plain, _) => {
+        (EscapeReading::Plain, b'\\') => Ok(EscapeReading::Escape),
+        (EscapeReading::Escape, b'x') => Ok(EscapeReading::FirstDigit),
+        (EscapeReading::FirstDigit, _) => Ok(EscapeReading::SecondDigit(digit(byte))),
+        (EscapeReading::Plain, _) => {
             out.push(byte)?;
-            Ok(Reading::Plain)
+            Ok(EscapeReading::Plain)
         }
-        (Reading::Escape, _) => {
+        (EscapeReading::Escape, _) => {
             out.push(escape_of(byte))?;
-            Ok(Reading::Plain)
+            Ok(EscapeReading::Plain)
         }
-        (Reading::SecondDigit(first), _) => {
+        (EscapeReading::SecondDigit(first), _) => {
             out.push((first << 4) | digit(byte))?;
-            Ok(Reading::Plain)
+            Ok(EscapeReading::Plain)
         }
     }
 }
@@ -157,7 +157,7 @@ fn push_read(out: &mut Vec<u8>, at: Reading, byte: u8) -> Result<Reading, AllocE
 /// The bytes of a cell, in which `\n`, `\r`, `\t`, `\\` and `\xEF` are one byte each.
 pub fn bytes_of(alloc: Global, cell: &str) -> Result<Vec<u8>, AllocError> {
     let mut out = Vec::new(alloc);
-    let mut at = Reading::Plain;
+    let mut at = EscapeReading::Plain;
     for byte in cell.as_bytes() {
         at = push_read(&mut out, at, *byte)?;
     }

@@ -10,13 +10,13 @@ use Rattle.dp_commands.specs.Faults.{is_write_failed}
 use Rattle.dp_commands.specs.declared.fault.PbxFault.{PbxFault}
 use Rattle.dp_commands.specs.declared.fault.PbxFault.TheVariants.{NoMemory}
 use Rattle.dp_program.specs.Faulted.{nowhere}
-use Rattle.dp_program.specs.Files.{Source}
+use Rattle.dp_program.specs.Files.{ByteSource}
 use Rattle.dp_program.specs.Requests.{OptionsOf, RequestOf}
 use Rattle.dp_program.specs.Serves.{Serves}
 use Rattle.dp_program.specs.Status.{Prints, status_after}
-use Rattle.dp_program.specs.declared.hints.Served.{Served}
+use Rattle.dp_program.specs.declared.hints.ServedRequest.{ServedRequest}
 use Rattle.dp_program.proofs.ServesLemmas.{Serves-lacks}
-use Rattle.dp_cli.specs.Status.{Explains, Fulfils, RefusesAs, Sink, explained_status}
+use Rattle.dp_cli.specs.Status.{Explains, Fulfils, RefusesAs, SinkOf, explained_status}
 
 -- if there is no kind, memory ran out
 pub no_kind : (kinds : Kinds) (kind : ErrorKind) → kinds ≡ [] → (kind ≡ OutOfMemory) ⊎ IsAmong kind kinds → kind ≡ OutOfMemory
@@ -30,9 +30,9 @@ status_among [] kind among all = absurd among
 status_among (first ∷ kinds) kind (inl is) all = ap explained_status is ∙ All-head (λ (kind : ErrorKind). explained_status kind ≡ 2) first kinds all
 status_among (first ∷ kinds) kind (inr among) all = status_among kinds kind among (All-tail (λ (kind : ErrorKind). explained_status kind ≡ 2) first kinds all)
 
-pub mistaken : (kinds : Kinds) (kind : ErrorKind) → (kind ≡ OutOfMemory) ⊎ IsAmong kind kinds → All (λ kind. explained_status kind ≡ 2) kinds → explained_status kind ≡ 2
-mistaken kinds kind (inl memory) all = ap explained_status memory
-mistaken kinds kind (inr among) all = status_among kinds kind among all
+pub mistake_status : (kinds : Kinds) (kind : ErrorKind) → (kind ≡ OutOfMemory) ⊎ IsAmong kind kinds → All (λ kind. explained_status kind ≡ 2) kinds → explained_status kind ≡ 2
+mistake_status kinds kind (inl memory) all = ap explained_status memory
+mistake_status kinds kind (inr among) all = status_among kinds kind among all
 
 -- the answer if memory runs out
 lacks : (kind : ErrorKind) (answered : Result ℕ PbxFault) → kind ≡ OutOfMemory → Explains kind answered → answered ≡ Err NoMemory
@@ -52,7 +52,7 @@ prints_lacks true old new printed = printed
 prints_lacks false old new printed = printed
 
 -- a request for which memory ran out counts as fulfilled, with this answer
-pub fulfils_lacks : (files : List ℕ → Source) (input : Source) (want : RequestOf) (options : OptionsOf) (output output_after errors errors_after : Sink) (kind : ErrorKind) (status : ℕ)
+pub fulfils_lacks : (files : List ℕ → ByteSource) (input : ByteSource) (want : RequestOf) (options : OptionsOf) (output output_after errors errors_after : SinkOf) (kind : ErrorKind) (status : ℕ)
     → kind ≡ OutOfMemory → output_after ≡ output → RefusesAs kind errors errors_after status → Fulfils files input want options output output_after errors errors_after status
 fulfils_lacks files input want options output output_after errors errors_after kind status memory same refused =
     let is : refused.answered ≡ Err NoMemory = lacks kind refused.answered memory refused.explains in
@@ -60,8 +60,8 @@ fulfils_lacks files input want options output output_after errors errors_after k
     subst (λ (answered : Result ℕ PbxFault). IfErr answered (λ fault. errors_after.failed ≡ false → Appends errors.contents errors_after.contents (fault_line fault))) is refused.printed in
     record {
       answered = Err (nowhere NoMemory);
-      serves = subst (λ (after : Sink). Serves files input want options output.contents after.contents (Err (nowhere NoMemory))) (sym same) (Serves-lacks files input want options output.contents);
-      written = subst (λ (after : Sink). after.failed ≡ (output.failed || is_write_failed {X = Served} (Err NoMemory))) (sym same) (or_false output.failed);
+      serves = subst (λ (after : SinkOf). Serves files input want options output.contents after.contents (Err (nowhere NoMemory))) (sym same) (Serves-lacks files input want options output.contents);
+      written = subst (λ (after : SinkOf). after.failed ≡ (output.failed || is_write_failed {X = ServedRequest} (Err NoMemory))) (sym same) (or_false output.failed);
       told = subst (λ (answered : Result ℕ PbxFault). status ≡ status_after answered) is refused.told;
       printed = λ fine. prints_lacks options.explains errors.contents errors_after.contents (printed fine);
     }

@@ -119,7 +119,7 @@ fn read_fault(word: &str) -> Option<FaultNumber>
 {
     match read_fault_number(word) {
         Some(fault) => Some(fault),
-        None => FaultNumber::named(word),
+        None => FaultNumber::by_name(word),
     }
 }
 

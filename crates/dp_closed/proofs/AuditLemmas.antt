@@ -11,7 +11,7 @@ use Rattle.dp_closed.specs.Claimed.{kept_claim}
 use Rattle.dp_closed.specs.Reach.{areas_in}
 use Rattle.dp_closed.specs.Steps.{IsEntered}
 use Rattle.dp_closed.specs.declared.audit.Audit.{Audit}
-use Rattle.dp_closed.specs.declared.claim.Claim.{Claim}
+use Rattle.dp_closed.specs.declared.claim.KeptClaim.{KeptClaim}
 use Rattle.dp_plan.specs.declared.entry.EntryId.{EntryId}
 use Rattle.dp_queue.specs.declared.settings.Settings.{Settings}
 use Rattle.dp_reach.specs.Areas.{Includes}
@@ -28,7 +28,7 @@ abbrev pub AreCallsIn : Audit → List (Vec ℕ) → Type 0
 AreCallsIn audit names = AllByRecursion (IsCallIn audit) (map (λ (name : Vec ℕ). name.items) names)
 
 -- the claim of the calls that come in at the context
-abbrev pub narrow_of : Audit → Claim
+abbrev pub narrow_of : Audit → KeptClaim
 narrow_of audit = record { plan = audit.wide.plan; names = audit.wide.names; reach = audit.reach; ways = audit.wide.ways }
 
 -- a closed audit is right about every run over the table

@@ -6,7 +6,7 @@ use Rattle.std.specs.List.{AllByRecursion}
 use Rattle.std.specs.Option.{option_map}
 use Rattle.dp_machine.specs.Events.{is_digit}
 use Rattle.dp_machine.specs.Targets.{place_of}
-use Rattle.dp_pieces.specs.Pieces.{Fits, OneOf, Piece as ShapePiece, exactly}
+use Rattle.dp_pieces.specs.Pieces.{Fits, OneOf, PieceOf as ShapePiece, exactly}
 use Rattle.dp_pieces.specs.Shown.{shown_all}
 use Rattle.dp_pieces.specs.declared.piece.Piece.{Piece}
 use Rattle.dp_pieces.proofs.FitsLemmas.{fits-exactly}
@@ -17,7 +17,7 @@ use Rattle.dp_reach.specs.Holding.{way_of}
 use Rattle.dp_reach.specs.Bounds.{Duty}
 use Rattle.dp_closed.specs.Claimed.{AreWays}
 use Rattle.dp_closed.specs.Shown.{shown_duties, shown_duty}
-use Rattle.dp_closed.specs.declared.duty.Duty.{Duty as KeptDuty}
+use Rattle.dp_closed.specs.declared.duty.KeptDuty.{KeptDuty}
 
 -- digits of a context
 abbrev pub digits_in : List ShapePiece → Area

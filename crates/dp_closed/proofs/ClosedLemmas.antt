@@ -9,7 +9,7 @@ use Rattle.std.specs.Option.{option_and_then, option_map, option_map_or}
 use borrow.Author.Tests.{eqb-true}
 use Rattle.dp_lookup.specs.SearchOrder.{has, search_order}
 use Rattle.dp_pieces.specs.Bytes.{Bytes, IsPart}
-use Rattle.dp_pieces.specs.Pieces.{Fits, Piece as ShapePiece, exactly, text_known}
+use Rattle.dp_pieces.specs.Pieces.{Fits, PieceOf as ShapePiece, exactly, text_known}
 use Rattle.dp_pieces.specs.Shown.{shown_all}
 use Rattle.dp_pieces.specs.declared.piece.Piece.{Piece}
 use Rattle.dp_pieces.proofs.FitsLemmas.{fits-text_known}
@@ -36,9 +36,9 @@ pub not-there : (plan : PlanOf) (area : Area) (id : EntryId) (entry : Entry) →
 not-there plan area id entry is may = let there : entry_at plan id ≡ Some entry = may.there in cc
 
 -- an entry that is not found in any context with these entries
-pub unfound : (plan : PlanOf) (context exten : List ShapePiece) (id : EntryId) (entry other : Entry) (entries : List Entry) → entry_at plan id ≡ Some entry
+pub not_in_context : (plan : PlanOf) (context exten : List ShapePiece) (id : EntryId) (entry other : Entry) (entries : List Entry) → entry_at plan id ≡ Some entry
     → entries ≡ entries_in plan id.context → IsUnfound entries entry exten → MayFind plan (area_at context exten) id other → ⊥
-unfound plan context exten id entry other entries there are none may = by (slice_get plan.contexts id.context) refl
+not_in_context plan context exten id entry other entries there are none may = by (slice_get plan.contexts id.context) refl
   where
     same : other ≡ entry
     same = let found : entry_at plan id ≡ Some other = may.there in cc

@@ -5,7 +5,7 @@ use Rattle.dp_pattern.specs.Name.{IsName, Meaning, meaning_of}
 use Rattle.dp_pattern.specs.Spelling.{spelling}
 use Rattle.dp_pattern.proofs.SpellingLemmas.{spelled_again}
 use Rattle.dp_pieces.specs.Met.{after_match}
-use Rattle.dp_pieces.specs.Pieces.{Fits, Piece}
+use Rattle.dp_pieces.specs.Pieces.{Fits, PieceOf}
 use Rattle.dp_pieces.proofs.MetLemmas.{fits-after_match}
 use Rattle.dp_plan.specs.Contexts.{PlanContext}
 use Rattle.dp_plan.specs.Lookup.{entry_at}
@@ -22,7 +22,7 @@ there-at plan context k entries other at here = by (slice_get plan.contexts cont
     by None is = absurd cc
     by (Some c) is = let same : c.entries ≡ entries = cc in ap (λ es. slice_get es k) same ∙ here
 
-pub hidden-unfound : (entries : List Entry) (entry other : Entry) (k : ℕ) (exten met : List Piece) → met ≡ after_match exten entry.name → slice_get entries k ≡ Some other → Hides met entry other
+pub hidden-unfound : (entries : List Entry) (entry other : Entry) (k : ℕ) (exten met : List PieceOf) → met ≡ after_match exten entry.name → slice_get entries k ≡ Some other → Hides met entry other
     → IsUnfound entries entry exten
 hidden-unfound entries entry other k exten met is here hides plan context id at may = may.shown (record {
   other = record { context = id.context; entry = k };
@@ -39,5 +39,5 @@ pub spelled-alike : (name other : Meaning) → IsName name → IsName other → 
 spelled-alike name other named other_named same = let read : Ok name ≡ Ok other = sym (spelled_again name named) ∙ (ap meaning_of same ∙ spelled_again other other_named) in cc
 
 -- an entry whose name no extension matches is not found
-pub unmatched-unfound : (entries : List Entry) (entry : Entry) (exten : List Piece) → IsUnmatched exten entry.name → IsUnfound entries entry exten
+pub unmatched-unfound : (entries : List Entry) (entry : Entry) (exten : List PieceOf) → IsUnmatched exten entry.name → IsUnfound entries entry exten
 unmatched-unfound entries entry exten none plan context id at may = none may.exten may.exten_fits may.matching

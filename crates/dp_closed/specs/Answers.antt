@@ -2,7 +2,7 @@
 use Rattle.std.specs.Prelude.{◌==◌, ◌&&◌, Bool, true, false, List, Option, None, Some, is_some, map, slice_get, unwrap_or}
 use Rattle.std.specs.Global.{Vec}
 use Rattle.std.specs.Option.{option_and_then}
-use Rattle.dp_closed.specs.declared.outside.Outside.{Outside as KeptOutside}
+use Rattle.dp_closed.specs.declared.outside.KeptOutside.{KeptOutside}
 use Rattle.dp_pieces.specs.Sets.{set_by}
 use Rattle.dp_plan.specs.declared.entry.EntryId.{EntryId}
 use Rattle.dp_reach.specs.Audits.{Outside}

@@ -9,7 +9,7 @@ use Rattle.dp_plan.specs.Plan.{PlanOf}
 use Rattle.dp_queue.specs.declared.settings.Settings.{Settings}
 use Rattle.dp_reach.specs.Holding.{Claim}
 use Rattle.dp_closed.specs.Reach.{areas_in}
-use Rattle.dp_closed.specs.declared.claim.Claim.{Claim as KeptClaim}
+use Rattle.dp_closed.specs.declared.claim.KeptClaim.{KeptClaim}
 
 -- the claim, with the settings of queues
 abbrev pub claim_of : PlanOf → Table → List (Vec (Vec Piece)) → List Settings → Claim

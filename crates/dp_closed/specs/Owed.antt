@@ -2,7 +2,7 @@
 use Rattle.std.specs.Prelude.{◌≡◌, ℕ, List}
 use Rattle.dp_pieces.specs.Bytes.{Bytes, Within}
 use Rattle.dp_pieces.specs.Names.{IsWithin, Names}
-use Rattle.dp_pieces.specs.Pieces.{Fits, Piece}
+use Rattle.dp_pieces.specs.Pieces.{Fits, PieceOf}
 use Rattle.dp_vars.specs.Functions.{FunctionTable}
 use Rattle.dp_vars.specs.Sights.{Sight}
 use Rattle.dp_vars.specs.Values.{expansion_with}
@@ -12,7 +12,7 @@ use Rattle.dp_reach.specs.Bounds.{Duty, Obligations}
 -- these are the duties in an area of the application with a name: the arguments fit pieces in any view that agrees with what is known of
 -- names, and the duties follow from these
 pub record Owes (owing : Obligations) (names : Names) (area : Area) (name arguments : List ℕ) (duties : List Duty) : Type 0 where
-  pub pieces : List Piece
+  pub pieces : List PieceOf
   pub fits : (sight : Sight) → IsWithin names sight → Fits pieces (expansion_with owing.functions sight arguments)
   pub same : duties ≡ owing.duties name area pieces
 

@@ -2,7 +2,7 @@
 use Rattle.std.specs.Prelude.{◌≡◌, ℕ, List, codes}
 use Rattle.dp_closed.specs.declared.rows.Row as rust
 use Rattle.dp_closed.specs.declared.rows.Row.TheVariants.{Nothing, Goto, Set, GotoIf, Gosub, GosubIf, Return, Digits, Dial, Queue, Add, Remove, Pause, Unpause}
-use Rattle.dp_pieces.specs.Pieces.{Piece}
+use Rattle.dp_pieces.specs.Pieces.{PieceOf}
 use Rattle.dp_reach.specs.Areas.{Area}
 use Rattle.dp_reach.specs.Bounds.{Duties, add_duties, dial_duties, digits_duties, gosub_duties, gosub_if_duties, goto_duties, goto_if_duties, nothing_owed, pause_duties, queue_duties, remove_duties, return_duties, unpause_duties}
 use Rattle.dp_reach.specs.Settings.{set_duties}
@@ -26,11 +26,11 @@ shown_row Pause = pause_duties
 shown_row Unpause = unpause_duties
 
 -- the duties are the same for these pieces and for any others
-abbrev pub IsOwedAlike : Duties → List Piece → List Piece → Type 0
+abbrev pub IsOwedAlike : Duties → List PieceOf → List PieceOf → Type 0
 IsOwedAlike duties pieces other = (area : Area) → duties area pieces ≡ duties area other
 
 abbrev pub IsSteady : Duties → Type 0
-IsSteady duties = (pieces other : List Piece) → IsOwedAlike duties pieces other
+IsSteady duties = (pieces other : List PieceOf) → IsOwedAlike duties pieces other
 
 -- the duties of the rows on members
 abbrev pub member_duties : List ℕ → Duties

@@ -28,17 +28,17 @@ use Rattle.dp_reach.specs.Finding.{MayFind}
 use Rattle.dp_reach.specs.Holding.{Claim}
 
 -- the shapes as a list
-abbrev pub shown_shapes : Shapes → List (List spec.Piece)
+abbrev pub shown_shapes : Shapes → List (List spec.PieceOf)
 shown_shapes Nothing = []
 shown_shapes (One shape) = shown_all shape.now ∷ []
 shown_shapes (Two shape other) = shown_all shape.now ∷ shown_all other.now ∷ []
 
 -- the parts of a target
-abbrev pub shown_parts : List (Vec Piece) → List (List spec.Piece)
+abbrev pub shown_parts : List (Vec Piece) → List (List spec.PieceOf)
 shown_parts parts = map (λ part. shown_all part.items) parts
 
 -- the known bytes
-abbrev pub known_bytes : List spec.Piece → List ℕ
+abbrev pub known_bytes : List spec.PieceOf → List ℕ
 known_bytes [] = []
 known_bytes (spec.Known byte ∷ pieces) = byte ∷ known_bytes pieces
 known_bytes (spec.OneOf set ∷ pieces) = known_bytes pieces

@@ -12,12 +12,12 @@ ghost use Rattle.dp_reach.specs.Areas.{Includes};
 ghost use Rattle.dp_reach.specs.Audits.{IsAudit, IsGlobalWithin, RunsOnly, entrance};
 ghost use Rattle.dp_reach.specs.Bounds.{obligations};
 
-use crate::claim::Claim;
+use crate::claim::KeptClaim;
 use crate::closed::exact_pieces;
 use crate::duty_table::DutyTable;
 use crate::marks::Marks;
-use crate::outside::Outside;
-use crate::reach::Reach;
+use crate::outside::KeptOutside;
+use crate::reach::ReachShapes;
 use dp_conf::NoMemory;
 use dp_pieces::{NamesAt, Piece};
 use dp_plan::{Dialplan, GlobalVariable};
@@ -26,18 +26,18 @@ use std::alloc::Global;
 /// A claim about all calls, and about those that come in at the context: where their channels may be.
 #[derive(Clone, Copy)]
 pub struct Audit<'a> {
-    pub wide: Claim<'a>,
-    pub reach: &'a Reach,
-    pub outside: &'a Outside,
+    pub wide: KeptClaim<'a>,
+    pub reach: &'a ReachShapes,
+    pub outside: &'a KeptOutside,
     pub context: &'a [u8],
 }
 
 /// Whether each extension that may come in at the context with this name is seen to be in the reach.
 fn has_entrance(
     alloc: Global,
-    reach: &Reach,
+    reach: &ReachShapes,
     plan: &Dialplan,
-    outside: &Outside,
+    outside: &KeptOutside,
     name: &[u8],
 ) -> Result<bool, NoMemory>
     ensures { IfOk result (λ yes. IsTrue yes
@@ -149,7 +149,7 @@ impl Audit<'_> {
         if !self.wide.is_closed::<T>(alloc, None)? {
             return Ok(false);
         }
-        let narrow = Claim {
+        let narrow = KeptClaim {
             plan: self.wide.plan,
             names: self.wide.names,
             reach: self.reach,

@@ -11,8 +11,8 @@ ghost use Rattle.dp_reach.specs.Areas.{Includes, area_at};
 ghost use Rattle.dp_reach.specs.Bounds.{Meets, MeetsAll};
 ghost use Rattle.dp_reach.specs.Holding.{LeadsOut};
 
-use crate::duty::Duty;
-use crate::reach::Reach;
+use crate::duty::KeptDuty;
+use crate::reach::ReachShapes;
 use crate::sets::digit_set;
 use dp_conf::NoMemory;
 use dp_pieces::{NameTable, Piece};
@@ -22,14 +22,14 @@ use std::alloc::Global;
 /// A claim about a dialplan: the bytes that names may have, the extensions of each context where channels may be, and the contexts of the
 /// queues' ways out, each as the pieces of its name.
 #[derive(Clone, Copy)]
-pub struct Claim<'a> {
+pub struct KeptClaim<'a> {
     pub plan: &'a Dialplan,
     pub names: &'a NameTable,
-    pub reach: &'a Reach,
+    pub reach: &'a ReachShapes,
     pub ways: &'a [Vec<Piece>],
 }
 
-impl Claim<'_> {
+impl KeptClaim<'_> {
     /// Whether each digit in the context of these pieces is seen to be in the reach.
     fn has_way(self, alloc: Global, context: &[Piece]) -> Result<bool, NoMemory>
         ensures { IfOk result (λ yes. IsTrue yes
@@ -58,24 +58,24 @@ impl Claim<'_> {
     }
 
     /// Whether the duty is seen to be met; if it is anything, it is not. It fails only if memory runs out.
-    pub fn meets(self, alloc: Global, duty: &Duty) -> Result<bool, NoMemory>
+    pub fn meets(self, alloc: Global, duty: &KeptDuty) -> Result<bool, NoMemory>
         ensures { IfOk result (λ yes. IsTrue yes → (settings : List Settings) → AreWays settings self.entry.ways.now
             → Meets (kept_claim self.entry settings) (shown_duty duty.now)) }
     {
         match duty {
-            Duty::Leads(area) => self
+            KeptDuty::Leads(area) => self
                 .reach
                 .includes(alloc, self.plan, &area.context, &area.exten),
-            Duty::Holds(name, set) => Ok(self.names.has(name, set)),
-            Duty::HoldsAll(set) => Ok(self.names.has_everywhere(set)),
-            Duty::Calls(set) => Ok(set.is_part(self.names.caller())),
-            Duty::Waits => self.has_ways(alloc),
-            Duty::Anything => Ok(false),
+            KeptDuty::Holds(name, set) => Ok(self.names.has(name, set)),
+            KeptDuty::HoldsAll(set) => Ok(self.names.has_everywhere(set)),
+            KeptDuty::Calls(set) => Ok(set.is_part(self.names.caller())),
+            KeptDuty::Waits => self.has_ways(alloc),
+            KeptDuty::Anything => Ok(false),
         }
     }
 
     /// Whether each of these duties is seen to be met. It fails only if memory runs out.
-    pub fn meets_all(self, alloc: Global, duties: &[Duty]) -> Result<bool, NoMemory>
+    pub fn meets_all(self, alloc: Global, duties: &[KeptDuty]) -> Result<bool, NoMemory>
         ensures { IfOk result (λ yes. IsTrue yes → (settings : List Settings) → AreWays settings self.entry.ways.now
             → MeetsAll (kept_claim self.entry settings) (shown_duties duties.now)) }
     {

@@ -19,8 +19,8 @@ ghost use Rattle.dp_reach.specs.Areas.{Includes, area_at};
 ghost use Rattle.dp_reach.specs.Bounds.{obligations};
 ghost use Rattle.dp_reach.specs.Closed.{IsAreaClosed, IsClosed, IsEntry};
 
-use crate::area::Area;
-use crate::claim::Claim;
+use crate::area::KeptArea;
+use crate::claim::KeptClaim;
 use crate::duty_table::DutyTable;
 use crate::finding::{Meeting, is_excluded};
 use crate::marks::Marks;
@@ -33,7 +33,7 @@ use std::alloc::Global;
 /// Checks a claim, with the entries in the answer: the marked ones, or all without marks.
 #[derive(Clone, Copy)]
 pub(crate) struct Checker<'a> {
-    claim: Claim<'a>,
+    claim: KeptClaim<'a>,
     answers: Option<&'a Marks>,
 }
 
@@ -59,16 +59,16 @@ pub(crate) fn exact_pieces(alloc: Global, text: &[u8]) -> Result<Vec<Piece>, NoM
 }
 
 /// The area of the context with a name and an extension of a shape.
-fn area_in(alloc: Global, name: &[u8], shape: &[Piece]) -> Result<Area, NoMemory>
+fn area_in(alloc: Global, name: &[u8], shape: &[Piece]) -> Result<KeptArea, NoMemory>
     ensures { IfOk result (λ area. shown_area area ≡ area_at (exactly name.now) (shown_all shape.now)) }
 {
     let context = exact_pieces(alloc, name)?;
     let mut exten = Vec::new(alloc);
     exten.extend_from_slice(shape)?;
-    Ok(Area { context, exten })
+    Ok(KeptArea { context, exten })
 }
 
-impl Claim<'_> {
+impl KeptClaim<'_> {
     /// Whether the extension with one byte is seen to be in the reach, in the context of these pieces.
     fn has_letter(self, alloc: Global, context: &[Piece], letter: u8) -> Result<bool, NoMemory>
         ensures { IfOk result (λ yes. IsTrue yes
@@ -116,7 +116,7 @@ impl Checker<'_> {
     fn has_met<T: DutyTable>(
         self,
         alloc: Global,
-        area: &Area,
+        area: &KeptArea,
         id: EntryId,
         entry: &Entry,
     ) -> Result<bool, NoMemory>
@@ -132,7 +132,7 @@ impl Checker<'_> {
             context: &area.context,
             exten: &area.exten,
         };
-        let owed = T::owed(
+        let owed = T::duties_of(
             alloc,
             &names,
             area,
@@ -155,7 +155,7 @@ impl Checker<'_> {
             → Closes self.entry (λ claim answers. IsEntryIn (obligations T.Functions.table T.duties) claim answers area id)) }
     {
         let entries = entries_at(self.claim.plan, id.context);
-        let Some(met) = meeting.found(entries, entry) else {
+        let Some(met) = meeting.found_area(entries, entry) else {
             return Ok(true);
         };
         self.has_met::<T>(alloc, met, id, entry)
@@ -165,7 +165,7 @@ impl Checker<'_> {
     fn has_entries<T: DutyTable>(
         self,
         alloc: Global,
-        area: &Area,
+        area: &KeptArea,
         number: usize,
     ) -> Result<bool, NoMemory>
         ensures { IfOk result (λ yes. IsTrue yes → Closes self.entry (λ claim answers. (entry : ℕ)
@@ -195,7 +195,7 @@ impl Checker<'_> {
     fn has_order<T: DutyTable>(
         self,
         alloc: Global,
-        area: &Area,
+        area: &KeptArea,
         order: &[usize],
     ) -> Result<bool, NoMemory>
         ensures { IfOk result (λ yes. IsTrue yes → Closes self.entry (λ claim answers. (id : EntryId)
@@ -213,7 +213,7 @@ impl Checker<'_> {
     fn has_area<T: DutyTable>(
         self,
         alloc: Global,
-        area: &Area,
+        area: &KeptArea,
         order: &[usize],
     ) -> Result<bool, NoMemory>
         ensures { IfOk result (λ yes. IsTrue yes → (name : List ℕ) → shown_all area.now.context.items ≡ exactly name

@@ -6,8 +6,8 @@ ghost use Rattle.dp_pieces.specs.NamesAt.{names_of};
 ghost use Rattle.dp_pieces.specs.Sets.{set_by};
 ghost use Rattle.dp_reach.specs.Bounds.{AreBounded, Duties, obligations};
 
-use crate::area::Area;
-use crate::duty::Duty;
+use crate::area::KeptArea;
+use crate::duty::KeptDuty;
 use dp_app::AppTable;
 use dp_conf::NoMemory;
 use dp_pieces::{ByteSet, NamesAt};
@@ -20,13 +20,13 @@ pub trait DutyTable: AppTable {
 
     /// The duties in an area of the application with this name, given its arguments as written in the dialplan and what is known of names
     /// there. It fails only if memory runs out.
-    fn owed(
+    fn duties_of(
         alloc: Global,
         names: &NamesAt<'_>,
-        area: &Area,
+        area: &KeptArea,
         name: &[u8],
         arguments: &[u8],
-    ) -> Result<Vec<Duty>, NoMemory>
+    ) -> Result<Vec<KeptDuty>, NoMemory>
         ensures { IfOk result (λ list. Owes (obligations Self.Functions.table duties) (names_of names.now) (shown_area area.now) name.now
             arguments.now (shown_duties list.items)) };
 

@@ -8,10 +8,10 @@ ghost use Rattle.dp_pieces.specs.Shown.{shown_all};
 ghost use Rattle.dp_plan.specs.declared.entry.Entry.{Entry};
 ghost use Rattle.dp_reach.specs.Areas as areas;
 
-use crate::area::Area;
+use crate::area::KeptArea;
 use dp_conf::NoMemory;
 use dp_pattern::{Name, Parts, compare};
-use dp_pieces::{Piece, covers, matched, may_match};
+use dp_pieces::{Piece, covers, may_match, pieces_after_match};
 use dp_plan::{Entry, SharedName};
 use std::alloc::Global;
 use std::cmp::Ordering;
@@ -49,7 +49,7 @@ fn met_shape(alloc: Global, exten: &[Piece], name: &Name) -> Result<Option<Vec<P
     if !may_match(exten, name) {
         return Ok(None);
     }
-    let met = matched(alloc, exten, name)?;
+    let met = pieces_after_match(alloc, exten, name)?;
     Ok(Some(met))
 }
 
@@ -75,12 +75,12 @@ pub fn found_shape(
 }
 
 /// The area of a context and an extension of a shape.
-fn area_beside(alloc: Global, context: &[Piece], exten: Vec<Piece>) -> Result<Area, NoMemory>
+fn area_beside(alloc: Global, context: &[Piece], exten: Vec<Piece>) -> Result<KeptArea, NoMemory>
     ensures { IfOk result (λ area. shown_area area ≡ areas.area_at (shown_all context.now) (shown_all exten.items)) }
 {
     let mut kept = Vec::new(alloc);
     kept.extend_from_slice(context)?;
-    Ok(Area {
+    Ok(KeptArea {
         context: kept,
         exten,
     })
@@ -102,12 +102,12 @@ fn is_same(name: &SharedName, other: &SharedName) -> bool
 #[derive(Drop)]
 pub struct Meeting<'a> {
     name: &'a SharedName,
-    met: Option<Area>,
+    met: Option<KeptArea>,
 }
 
 impl<'a> Meeting<'a> {
     /// The meeting of an area with a name.
-    fn new(alloc: Global, area: &Area, name: &'a SharedName) -> Result<Self, NoMemory>
+    fn new(alloc: Global, area: &KeptArea, name: &'a SharedName) -> Result<Self, NoMemory>
         ensures { IfOk result (λ meeting. IsMeeting (shown_area area.now) meeting × (meeting.name.now ≡ name.now)) }
     {
         let matching = met_shape(alloc, &area.exten, name.name())?;
@@ -125,7 +125,7 @@ impl<'a> Meeting<'a> {
     /// to each other. It fails only if memory runs out.
     pub fn after(
         alloc: Global,
-        area: &Area,
+        area: &KeptArea,
         name: &'a SharedName,
         before: Option<Meeting<'a>>,
     ) -> Result<Self, NoMemory>
@@ -151,7 +151,7 @@ impl<'a> Meeting<'a> {
     }
 
     /// The places of the area at which an entry with the name is found in a context of these entries, or None if it is found at none.
-    pub fn found(&self, entries: &[Entry], entry: &Entry) -> Option<&Area>
+    pub fn found_area(&self, entries: &[Entry], entry: &Entry) -> Option<&KeptArea>
         ensures { (area : areas.Area) → IsMeeting area self.now → entry.now.name ≡ self.now.name.now
             → MatchOption result (IsUnfound entries.now entry.now area.exten) (λ met. shown_area met.now ≡ areas.area_matched area entry.now.name) }
     {

@@ -8,14 +8,14 @@ ghost use Rattle.dp_pieces.specs.Shown.{shown_all};
 ghost use Rattle.dp_pieces.specs.Tables.{names_in};
 ghost use Rattle.dp_queue.specs.declared.settings.Settings.{Settings};
 ghost use Rattle.dp_reach.specs.Areas.{area_at};
-ghost use Rattle.dp_reach.specs.Closed.{AreNamed, IsNamed};
+ghost use Rattle.dp_reach.specs.Closed.{HasMachineNames, IsNamed};
 
-use crate::claim::Claim;
+use crate::claim::KeptClaim;
 use crate::sets::{bytes_in, set_of};
 use dp_machine::DialStatus;
 use dp_pieces::{ByteSet, Piece};
 
-impl Claim<'_> {
+impl KeptClaim<'_> {
     /// Whether the names may have the bytes that the machine gives them in an area of these pieces.
     pub(crate) fn is_area_named(self, context: &[Piece], exten: &[Piece]) -> bool
         ensures { IsTrue result → (settings : List Settings) → IsNamed (kept_claim self.entry settings) (area_at (shown_all context.now) (shown_all exten.now)) }
@@ -89,7 +89,7 @@ impl Claim<'_> {
 
     /// Whether the names may have the bytes that the machine gives them in every area.
     pub(crate) fn is_named(self) -> bool
-        ensures { IsTrue result → (settings : List Settings) → AreNamed (kept_claim self.entry settings) }
+        ensures { IsTrue result → (settings : List Settings) → HasMachineNames (kept_claim self.entry settings) }
     {
         self.names.is_whole()
             && self.is_self_named()

@@ -13,7 +13,7 @@ use std::alloc::Global;
 
 /// The shapes of the extensions that channels may have in each context, indexed by the contexts' numbers.
 #[derive(Drop)]
-pub struct Reach {
+pub struct ReachShapes {
     pub shapes: Vec<Vec<Vec<Piece>>>,
 }
 
@@ -29,7 +29,7 @@ fn has_shape(shapes: &[Vec<Piece>], exten: &[Piece]) -> bool
     false
 }
 
-impl Reach {
+impl ReachShapes {
     /// The shapes of the extensions that channels may have in the context with a number.
     pub fn shapes_at(&self, number: usize) -> &[Vec<Piece>]
         ensures { result.now ≡ shapes_at self.now.shapes.items number }

@@ -6,8 +6,8 @@ ghost use Rattle.dp_pieces.specs.Shown.{shown_all};
 ghost use Rattle.dp_pieces.specs.Texts.{text_pieces};
 ghost use Rattle.dp_reach.specs.Standard.{standard_duties};
 
-use crate::area::Area;
-use crate::duty::Duty;
+use crate::area::KeptArea;
+use crate::duty::KeptDuty;
 use crate::settings::push_set;
 use crate::subroutines::{push_gosub, push_gosub_if};
 use crate::targets::{push_goto_if, push_targets};
@@ -141,9 +141,9 @@ fn row_of(application: &[u8]) -> Row
 fn push_row(
     alloc: Global,
     row: Row,
-    area: &Area,
+    area: &KeptArea,
     pieces: &[Piece],
-    duties: &mut Vec<Duty>,
+    duties: &mut Vec<KeptDuty>,
 ) -> Result<(), NoMemory>
     ensures { OnOk result (shown_duties duties.new.items
         ≡ shown_duties duties.old.items ++ rows.shown_row row (shown_area area.now) (shown_all pieces.now)) }
@@ -170,9 +170,9 @@ fn push_row(
 pub fn push_duties(
     alloc: Global,
     application: &[u8],
-    area: &Area,
+    area: &KeptArea,
     pieces: &[Piece],
-    duties: &mut Vec<Duty>,
+    duties: &mut Vec<KeptDuty>,
 ) -> Result<(), NoMemory>
     ensures { OnOk result (shown_duties duties.new.items
         ≡ shown_duties duties.old.items ++ standard_duties application.now (shown_area area.now) (shown_all pieces.now)) }
@@ -185,9 +185,9 @@ pub fn push_duties(
 pub fn duties(
     alloc: Global,
     application: &[u8],
-    area: &Area,
+    area: &KeptArea,
     pieces: &[Piece],
-) -> Result<Vec<Duty>, NoMemory>
+) -> Result<Vec<KeptDuty>, NoMemory>
     ensures { IfOk result (λ duties. map shown_duty duties.items ≡ standard_duties application.now (shown_area area.now) (shown_all pieces.now)) }
 {
     let mut duties = Vec::new(alloc);
@@ -236,13 +236,13 @@ impl Row {
 
 /// The duties of an application in an area, given its name in any ASCII case and its arguments as written in the dialplan, which are read
 /// only if the duties depend on them. It fails only if memory runs out.
-pub fn owed<N: NamedPieces>(
+pub fn duties_by_arguments<N: NamedPieces>(
     alloc: Global,
     names: &N,
-    area: &Area,
+    area: &KeptArea,
     application: &[u8],
     arguments: &[u8],
-) -> Result<Vec<Duty>, NoMemory>
+) -> Result<Vec<KeptDuty>, NoMemory>
     ensures { IfOk result (λ duties. map shown_duty duties.items
         ≡ standard_duties application.now (shown_area area.now) (text_pieces (N.names names.now) arguments.now)) }
 {

@@ -9,7 +9,7 @@ ghost use Rattle.dp_pieces.specs.Sets.{set_by};
 ghost use Rattle.dp_pieces.specs.Shown.{shown_piece, shown_all};
 ghost use Rattle.dp_reach.specs.Settings as spec;
 
-use crate::duty::{Duty, push_name};
+use crate::duty::{KeptDuty, push_name};
 use crate::sets::set_of;
 use dp_conf::{NoMemory, cut_once, trim, trim_start};
 use dp_flow::argument_of;
@@ -46,7 +46,7 @@ fn push_function(
     function: &[u8],
     argument: &[u8],
     set: ByteSet,
-    duties: &mut Vec<Duty>,
+    duties: &mut Vec<KeptDuty>,
 ) -> Result<(), NoMemory>
     ensures { OnOk result (shown_duties duties.new.items
         ≡ shown_duties duties.old.items ++ spec.function_duties function.now argument.now (set_by set)) }
@@ -55,7 +55,7 @@ fn push_function(
         return push_name(alloc, argument, set, duties);
     }
     if function == b"CALLERID".as_slice() && argument == b"num".as_slice() {
-        duties.push(Duty::Calls(set))?;
+        duties.push(KeptDuty::Calls(set))?;
     }
     Ok(())
 }
@@ -65,7 +65,7 @@ fn push_setting(
     alloc: Global,
     name: &[u8],
     set: ByteSet,
-    duties: &mut Vec<Duty>,
+    duties: &mut Vec<KeptDuty>,
 ) -> Result<(), NoMemory>
     ensures { OnOk result (shown_duties duties.new.items
         ≡ shown_duties duties.old.items ++ spec.name_duties name.now (cut_once 40 name.now) (set_by set)) }
@@ -80,30 +80,34 @@ fn push_setting(
 }
 
 /// Adds the duties if a function is set whose argument is unknown.
-fn push_any_argument(function: &[u8], set: ByteSet, duties: &mut Vec<Duty>) -> Result<(), NoMemory>
+fn push_any_argument(
+    function: &[u8],
+    set: ByteSet,
+    duties: &mut Vec<KeptDuty>,
+) -> Result<(), NoMemory>
     ensures { OnOk result (shown_duties duties.new.items
         ≡ shown_duties duties.old.items ++ spec.any_argument_duties function.now (set_by set)) }
 {
     if function == b"GLOBAL".as_slice() || function == b"LOCAL".as_slice() {
-        duties.push(Duty::HoldsAll(set))?;
+        duties.push(KeptDuty::HoldsAll(set))?;
         return Ok(());
     }
     if function == b"CALLERID".as_slice() {
-        duties.push(Duty::Calls(set))?;
+        duties.push(KeptDuty::Calls(set))?;
     }
     Ok(())
 }
 
 /// Adds the duties if no name is known before the first `=`: the name of a function may be.
-fn push_unknown(alloc: Global, pieces: &[Piece], duties: &mut Vec<Duty>) -> Result<(), NoMemory>
+fn push_unknown(alloc: Global, pieces: &[Piece], duties: &mut Vec<KeptDuty>) -> Result<(), NoMemory>
     ensures { OnOk result (shown_duties duties.new.items ≡ shown_duties duties.old.items
         ++ spec.unknown_duties (pieces_set (shown_all pieces.now)) (cut_known 40 (shown_all pieces.now))) }
 {
     let set = set_of(pieces);
     match cut_known(pieces, b'(') {
         None => {
-            duties.push(Duty::HoldsAll(set))?;
-            duties.push(Duty::Calls(set))?;
+            duties.push(KeptDuty::HoldsAll(set))?;
+            duties.push(KeptDuty::Calls(set))?;
             Ok(())
         }
         Some((function, _)) => {
@@ -117,7 +121,7 @@ fn push_unknown(alloc: Global, pieces: &[Piece], duties: &mut Vec<Duty>) -> Resu
 pub(crate) fn push_set(
     alloc: Global,
     pieces: &[Piece],
-    duties: &mut Vec<Duty>,
+    duties: &mut Vec<KeptDuty>,
 ) -> Result<(), NoMemory>
     ensures { OnOk result (shown_duties duties.new.items
         ≡ shown_duties duties.old.items ++ spec.set_duties steps.any_area (shown_all pieces.now)) }

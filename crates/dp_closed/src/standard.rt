@@ -1,10 +1,10 @@
 //! What the applications of this program's table owe.
 ghost use Rattle.std.specs.Prelude.{◌≡◌};
 
-use crate::area::Area;
-use crate::duty::Duty;
+use crate::area::KeptArea;
+use crate::duty::KeptDuty;
 use crate::duty_table::DutyTable;
-use crate::rows::owed;
+use crate::rows::duties_by_arguments;
 use crate::sets::set_of;
 use dp_conf::NoMemory;
 use dp_pieces::{ByteSet, NamesAt, read_pieces};
@@ -19,14 +19,14 @@ impl DutyTable for StandardApps {
 
     ghost bounded = { standard-bounded };
 
-    fn owed(
+    fn duties_of(
         alloc: Global,
         names: &NamesAt<'_>,
-        area: &Area,
+        area: &KeptArea,
         name: &[u8],
         arguments: &[u8],
-    ) -> Result<Vec<Duty>, NoMemory> {
-        owed(alloc, names, area, name, arguments)
+    ) -> Result<Vec<KeptDuty>, NoMemory> {
+        duties_by_arguments(alloc, names, area, name, arguments)
     }
 
     fn expanded_bytes(

@@ -10,8 +10,8 @@ ghost use Rattle.dp_pieces.specs.Shown.{shown_all};
 ghost use Rattle.dp_pieces.specs.ShownCuts.{shown_cutting};
 ghost use Rattle.dp_reach.specs.Bounds as bounds;
 
-use crate::area::Area;
-use crate::duty::Duty;
+use crate::area::KeptArea;
+use crate::duty::KeptDuty;
 use crate::sets::set_of;
 use crate::shapes::{Shapes, last_part, sides_in};
 use crate::targets::push_targets;
@@ -36,13 +36,13 @@ fn push_argument(
     alloc: Global,
     number: usize,
     shape: &[Piece],
-    duties: &mut Vec<Duty>,
+    duties: &mut Vec<KeptDuty>,
 ) -> Result<(), NoMemory>
     ensures { OnOk result (shown_duties duties.new.items
         ≡ shown_duties duties.old.items ++ bounds.numbered_duties number (shown_all shape.now ∷ [])) }
 {
     let name = argument_name(alloc, number)?;
-    duties.push(Duty::Holds(name, set_of(shape)))?;
+    duties.push(KeptDuty::Holds(name, set_of(shape)))?;
     Ok(())
 }
 
@@ -50,7 +50,7 @@ fn push_argument(
 fn push_arguments(
     alloc: Global,
     shapes: &[Vec<Piece>],
-    duties: &mut Vec<Duty>,
+    duties: &mut Vec<KeptDuty>,
 ) -> Result<(), NoMemory>
     ensures { OnOk result (shown_duties duties.new.items
         ≡ shown_duties duties.old.items ++ bounds.numbered_duties 1 (shown_parts shapes.now)) }
@@ -67,7 +67,7 @@ pub fn push_inside(
     alloc: Global,
     set: ByteSet,
     cutting: Cutting<'_>,
-    duties: &mut Vec<Duty>,
+    duties: &mut Vec<KeptDuty>,
 ) -> Result<(), NoMemory>
     ensures { OnOk result (shown_duties duties.new.items
         ≡ shown_duties duties.old.items ++ bounds.inside_duties (set_by set) (shown_cutting cutting.entry)) }
@@ -79,7 +79,7 @@ pub fn push_inside(
             push_arguments(alloc, &shapes, duties)
         }
         Cutting::Unsure | Cutting::At(_, _) => {
-            duties.push(Duty::HoldsAll(set))?;
+            duties.push(KeptDuty::HoldsAll(set))?;
             Ok(())
         }
     }
@@ -90,7 +90,7 @@ fn push_call(
     alloc: Global,
     set: ByteSet,
     cutting: Cutting<'_>,
-    duties: &mut Vec<Duty>,
+    duties: &mut Vec<KeptDuty>,
 ) -> Result<(), NoMemory>
     ensures { OnOk result (shown_duties duties.new.items
         ≡ shown_duties duties.old.items ++ bounds.call_duties (set_by set) (shown_cutting cutting.entry)) }
@@ -98,7 +98,7 @@ fn push_call(
     match cutting {
         Cutting::Nowhere => Ok(()),
         Cutting::Unsure => {
-            duties.push(Duty::HoldsAll(set))?;
+            duties.push(KeptDuty::HoldsAll(set))?;
             Ok(())
         }
         Cutting::At(_, rest) => push_inside(alloc, set, cut_last(rest, b')'), duties),
@@ -106,7 +106,7 @@ fn push_call(
 }
 
 /// Adds the duties for the arguments of a subroutine, given its target.
-fn push_called(alloc: Global, pieces: &[Piece], duties: &mut Vec<Duty>) -> Result<(), NoMemory>
+fn push_called(alloc: Global, pieces: &[Piece], duties: &mut Vec<KeptDuty>) -> Result<(), NoMemory>
     ensures { OnOk result (shown_duties duties.new.items ≡ shown_duties duties.old.items
         ++ bounds.target_duties (pieces_set (shown_all pieces.now)) (shown_all pieces.now)) }
 {
@@ -114,16 +114,16 @@ fn push_called(alloc: Global, pieces: &[Piece], duties: &mut Vec<Duty>) -> Resul
     if are_clean(pieces) {
         return push_call(alloc, set, cut_pieces(last_part(pieces), b'('), duties);
     }
-    duties.push(Duty::HoldsAll(set))?;
+    duties.push(KeptDuty::HoldsAll(set))?;
     Ok(())
 }
 
 /// Adds the duties of `Gosub`. It fails only if memory runs out.
 pub fn push_gosub(
     alloc: Global,
-    area: &Area,
+    area: &KeptArea,
     pieces: &[Piece],
-    duties: &mut Vec<Duty>,
+    duties: &mut Vec<KeptDuty>,
 ) -> Result<(), NoMemory>
     ensures { OnOk result (shown_duties duties.new.items
         ≡ shown_duties duties.old.items ++ bounds.gosub_duties (shown_area area.now) (shown_all pieces.now)) }
@@ -135,9 +135,9 @@ pub fn push_gosub(
 /// Adds the duties of `Gosub` for each of these shapes.
 fn push_gosubs(
     alloc: Global,
-    area: &Area,
+    area: &KeptArea,
     sides: Shapes<'_>,
-    duties: &mut Vec<Duty>,
+    duties: &mut Vec<KeptDuty>,
 ) -> Result<(), NoMemory>
     ensures { OnOk result (shown_duties duties.new.items ≡ shown_duties duties.old.items
         ++ flat_map (bounds.subroutine_duties (shown_area area.now)) (shown_shapes sides.entry)) }
@@ -155,9 +155,9 @@ fn push_gosubs(
 /// Adds the duties of `GosubIf`.
 pub(crate) fn push_gosub_if(
     alloc: Global,
-    area: &Area,
+    area: &KeptArea,
     pieces: &[Piece],
-    duties: &mut Vec<Duty>,
+    duties: &mut Vec<KeptDuty>,
 ) -> Result<(), NoMemory>
     ensures { OnOk result (shown_duties duties.new.items
         ≡ shown_duties duties.old.items ++ bounds.gosub_if_duties (shown_area area.now) (shown_all pieces.now)) }

@@ -8,8 +8,8 @@ ghost use Rattle.dp_pieces.specs.Shown.{shown_all};
 ghost use Rattle.dp_reach.specs.Areas as areas;
 ghost use Rattle.dp_reach.specs.Bounds as bounds;
 
-use crate::area::Area;
-use crate::duty::{Duty, push_area};
+use crate::area::KeptArea;
+use crate::duty::{KeptDuty, push_area};
 use crate::sets::set_of;
 use crate::shapes::{Shapes, or_own, sides_in};
 use dp_conf::NoMemory;
@@ -21,7 +21,7 @@ fn push_extens(
     alloc: Global,
     context: &[Piece],
     extens: Shapes<'_>,
-    duties: &mut Vec<Duty>,
+    duties: &mut Vec<KeptDuty>,
 ) -> Result<(), NoMemory>
     ensures { OnOk result (shown_duties duties.new.items ≡ shown_duties duties.old.items
         ++ map bounds.Leads (map (areas.area_at (shown_all context.now)) (shown_shapes extens.entry))) }
@@ -41,7 +41,7 @@ fn push_areas(
     alloc: Global,
     contexts: Shapes<'_>,
     extens: Shapes<'_>,
-    duties: &mut Vec<Duty>,
+    duties: &mut Vec<KeptDuty>,
 ) -> Result<(), NoMemory>
     ensures { OnOk result (shown_duties duties.new.items ≡ shown_duties duties.old.items
         ++ map bounds.Leads (areas.areas_of (shown_shapes contexts.entry) (shown_shapes extens.entry))) }
@@ -59,9 +59,9 @@ fn push_areas(
 /// Adds where any parts with these bytes may lead from an area.
 fn push_targets_within(
     alloc: Global,
-    area: &Area,
+    area: &KeptArea,
     set: ByteSet,
-    duties: &mut Vec<Duty>,
+    duties: &mut Vec<KeptDuty>,
 ) -> Result<(), NoMemory>
     ensures { OnOk result (shown_duties duties.new.items ≡ shown_duties duties.old.items
         ++ map bounds.Leads (areas.targets_within (shown_area area.now) (set_by set))) }
@@ -75,9 +75,9 @@ fn push_targets_within(
 /// Adds where the parts of a target may lead from an area.
 fn push_targets_of(
     alloc: Global,
-    area: &Area,
+    area: &KeptArea,
     parts: &[Vec<Piece>],
-    duties: &mut Vec<Duty>,
+    duties: &mut Vec<KeptDuty>,
 ) -> Result<(), NoMemory>
     ensures { OnOk result (shown_duties duties.new.items ≡ shown_duties duties.old.items
         ++ map bounds.Leads (areas.targets_of (shown_area area.now) (shown_parts parts.now))) }
@@ -100,9 +100,9 @@ fn push_targets_of(
 /// Adds where a target in pieces may lead from an area: the duties of `Goto`.
 pub(crate) fn push_targets(
     alloc: Global,
-    area: &Area,
+    area: &KeptArea,
     pieces: &[Piece],
-    duties: &mut Vec<Duty>,
+    duties: &mut Vec<KeptDuty>,
 ) -> Result<(), NoMemory>
     ensures { OnOk result (shown_duties duties.new.items ≡ shown_duties duties.old.items
         ++ bounds.goto_duties (shown_area area.now) (shown_all pieces.now)) }
@@ -118,9 +118,9 @@ pub(crate) fn push_targets(
 /// Adds where the targets of each of these shapes may lead from an area.
 fn push_sides(
     alloc: Global,
-    area: &Area,
+    area: &KeptArea,
     sides: Shapes<'_>,
-    duties: &mut Vec<Duty>,
+    duties: &mut Vec<KeptDuty>,
 ) -> Result<(), NoMemory>
     ensures { OnOk result (shown_duties duties.new.items ≡ shown_duties duties.old.items
         ++ map bounds.Leads (flat_map (areas.targets (shown_area area.now)) (shown_shapes sides.entry))) }
@@ -138,9 +138,9 @@ fn push_sides(
 /// Adds the duties of `GotoIf`. It fails only if memory runs out.
 pub fn push_goto_if(
     alloc: Global,
-    area: &Area,
+    area: &KeptArea,
     pieces: &[Piece],
-    duties: &mut Vec<Duty>,
+    duties: &mut Vec<KeptDuty>,
 ) -> Result<(), NoMemory>
     ensures { OnOk result (shown_duties duties.new.items ≡ shown_duties duties.old.items
         ++ bounds.goto_if_duties (shown_area area.now) (shown_all pieces.now)) }

@@ -5,8 +5,8 @@ ghost use Rattle.dp_closed.specs.Steps.{any_area};
 ghost use Rattle.dp_pieces.specs.Shown.{shown_all};
 ghost use Rattle.dp_reach.specs.Bounds as bounds;
 
-use crate::area::Area;
-use crate::duty::{Duty, push_area, push_name};
+use crate::area::KeptArea;
+use crate::duty::{KeptDuty, push_area, push_name};
 use crate::sets::{bytes_in, digit_set, set_of};
 use dp_conf::NoMemory;
 use dp_pieces::Piece;
@@ -15,8 +15,8 @@ use std::alloc::Global;
 /// Adds the duties of `WaitExten` and `Background`.
 pub(crate) fn push_digits(
     alloc: Global,
-    area: &Area,
-    duties: &mut Vec<Duty>,
+    area: &KeptArea,
+    duties: &mut Vec<KeptDuty>,
 ) -> Result<(), NoMemory>
     ensures { OnOk result (shown_duties duties.new.items
         ≡ shown_duties duties.old.items ++ bounds.digits_duties (shown_area area.now) []) }
@@ -30,7 +30,7 @@ pub(crate) fn push_digits(
 pub(crate) fn push_return(
     alloc: Global,
     pieces: &[Piece],
-    duties: &mut Vec<Duty>,
+    duties: &mut Vec<KeptDuty>,
 ) -> Result<(), NoMemory>
     ensures { OnOk result (shown_duties duties.new.items
         ≡ shown_duties duties.old.items ++ bounds.return_duties any_area (shown_all pieces.now)) }
@@ -43,7 +43,7 @@ fn push_texts(
     alloc: Global,
     name: &[u8],
     texts: &[&[u8]],
-    duties: &mut Vec<Duty>,
+    duties: &mut Vec<KeptDuty>,
 ) -> Result<(), NoMemory>
     ensures { OnOk result (shown_duties duties.new.items
         ≡ shown_duties duties.old.items ++ bounds.tells name.now (map (λ text. text.now) texts.now)) }
@@ -55,7 +55,7 @@ fn push_texts(
 }
 
 /// Adds the duties of `Dial`.
-pub(crate) fn push_dial(alloc: Global, duties: &mut Vec<Duty>) -> Result<(), NoMemory>
+pub(crate) fn push_dial(alloc: Global, duties: &mut Vec<KeptDuty>) -> Result<(), NoMemory>
     ensures { OnOk result (shown_duties duties.new.items ≡ shown_duties duties.old.items ++ bounds.dial_duties any_area []) }
 {
     let texts = [b"CHANUNAVAIL".as_slice()];
@@ -63,10 +63,10 @@ pub(crate) fn push_dial(alloc: Global, duties: &mut Vec<Duty>) -> Result<(), NoM
 }
 
 /// Adds the duties of `Queue`.
-pub(crate) fn push_queue(alloc: Global, duties: &mut Vec<Duty>) -> Result<(), NoMemory>
+pub(crate) fn push_queue(alloc: Global, duties: &mut Vec<KeptDuty>) -> Result<(), NoMemory>
     ensures { OnOk result (shown_duties duties.new.items ≡ shown_duties duties.old.items ++ bounds.queue_duties any_area []) }
 {
-    duties.push(Duty::Waits)?;
+    duties.push(KeptDuty::Waits)?;
     let texts = [
         b"UNKNOWN".as_slice(),
         b"JOINEMPTY".as_slice(),
@@ -76,7 +76,7 @@ pub(crate) fn push_queue(alloc: Global, duties: &mut Vec<Duty>) -> Result<(), No
 }
 
 /// Adds the duties of `AddQueueMember`.
-pub(crate) fn push_add(alloc: Global, duties: &mut Vec<Duty>) -> Result<(), NoMemory>
+pub(crate) fn push_add(alloc: Global, duties: &mut Vec<KeptDuty>) -> Result<(), NoMemory>
     ensures { OnOk result (shown_duties duties.new.items ≡ shown_duties duties.old.items ++ bounds.add_duties any_area []) }
 {
     let texts = [
@@ -88,7 +88,7 @@ pub(crate) fn push_add(alloc: Global, duties: &mut Vec<Duty>) -> Result<(), NoMe
 }
 
 /// Adds the duties of `RemoveQueueMember`.
-pub(crate) fn push_remove(alloc: Global, duties: &mut Vec<Duty>) -> Result<(), NoMemory>
+pub(crate) fn push_remove(alloc: Global, duties: &mut Vec<KeptDuty>) -> Result<(), NoMemory>
     ensures { OnOk result (shown_duties duties.new.items ≡ shown_duties duties.old.items ++ bounds.remove_duties any_area []) }
 {
     let texts = [
@@ -101,7 +101,7 @@ pub(crate) fn push_remove(alloc: Global, duties: &mut Vec<Duty>) -> Result<(), N
 }
 
 /// Adds the duties of `PauseQueueMember`.
-pub(crate) fn push_pause(alloc: Global, duties: &mut Vec<Duty>) -> Result<(), NoMemory>
+pub(crate) fn push_pause(alloc: Global, duties: &mut Vec<KeptDuty>) -> Result<(), NoMemory>
     ensures { OnOk result (shown_duties duties.new.items ≡ shown_duties duties.old.items ++ bounds.pause_duties any_area []) }
 {
     let texts = [b"PAUSED".as_slice(), b"NOTFOUND".as_slice()];
@@ -109,7 +109,7 @@ pub(crate) fn push_pause(alloc: Global, duties: &mut Vec<Duty>) -> Result<(), No
 }
 
 /// Adds the duties of `UnpauseQueueMember`.
-pub(crate) fn push_unpause(alloc: Global, duties: &mut Vec<Duty>) -> Result<(), NoMemory>
+pub(crate) fn push_unpause(alloc: Global, duties: &mut Vec<KeptDuty>) -> Result<(), NoMemory>
     ensures { OnOk result (shown_duties duties.new.items ≡ shown_duties duties.old.items ++ bounds.unpause_duties any_area []) }
 {
     let texts = [b"UNPAUSED".as_slice(), b"NOTFOUND".as_slice()];

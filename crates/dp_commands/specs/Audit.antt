@@ -18,7 +18,7 @@ use Rattle.dp_app.specs.Rows.{has_row}
 use Rattle.dp_table.specs.Standard.{standard_rows}
 use Rattle.dp_commands.specs.Run.{plan_fault}
 use Rattle.dp_commands.specs.Trace.{entry_text, place_text}
-use Rattle.dp_commands.specs.declared.findings.Outcome.{Outcome}
+use Rattle.dp_commands.specs.declared.findings.AuditOutcome.{AuditOutcome}
 use Rattle.dp_commands.specs.declared.fault.Code.TheVariants.{WriteFailed}
 use Rattle.dp_commands.specs.declared.fault.PbxFault.{PbxFault}
 use Rattle.dp_commands.specs.declared.fault.PbxFault.TheVariants.{Coded, NoMemory}
@@ -59,7 +59,7 @@ pub record Audited : Type 0 where
   pub text : List ℕ
   pub status : ℕ
 
-abbrev pub outcome_told : Outcome → Audited
+abbrev pub outcome_told : AuditOutcome → Audited
 outcome_told report = record { text = report.text.begun; status = report.status }
 
 abbrev pub status_by : List Finding → ℕ

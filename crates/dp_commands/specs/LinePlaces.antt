@@ -6,12 +6,12 @@ use Rattle.dp_commands.specs.declared.line_places.LinePlaces.TheVariants.{InFile
 use Rattle.dp_commands.specs.declared.line_places.LinePosition.{LinePosition}
 
 -- all lines are those of the file with a name, or each comes from a line of some file
-pub data Places : Type 0 where
-  in_file : List ℕ → Places
-  in_files : List (List ℕ) → List LinePosition → Places
+pub data PlacesOfLines : Type 0 where
+  in_file : List ℕ → PlacesOfLines
+  in_files : List (List ℕ) → List LinePosition → PlacesOfLines
 
 -- what a caller gives
-abbrev pub places_of : LinePlaces → Places
+abbrev pub places_of : LinePlaces → PlacesOfLines
 places_of (InFile name) = in_file name.now
 places_of (InFiles sources) = in_files sources.files.now sources.lines.now
 
@@ -42,6 +42,6 @@ abbrev pub in_files_text : List (List ℕ) → List LinePosition → Option ℕ 
 in_files_text files lines line = option_map_or (position_text files) (position_of lines line) []
 
 -- where a line of the text comes from
-abbrev pub line_place : Places → Option ℕ → List ℕ
+abbrev pub line_place : PlacesOfLines → Option ℕ → List ℕ
 line_place (in_file name) line = in_file_text name line
 line_place (in_files files lines) line = in_files_text files lines line

@@ -56,24 +56,24 @@ queues_of None = Ok no_queues
 queues_of (Some text) = queue_fault (queues_loaded text)
 
 -- the contents of a run's files
-pub record Files : Type 0 where
+pub record LoadedFilesOf : Type 0 where
   pub plan : PlanOf
   pub queues : QueuesOf
 
 -- the contents of a run's texts
-pub record RunContents : Type 0 where
+pub record RunContentsOf : Type 0 where
   pub plan : PlanOf
   pub queues : QueuesOf
   pub lines : List (ScriptLine Turn)
 
 -- the contents of a dialplan's text and a queue file's text, or the first fault: that of the dialplan, then that of the queues
-abbrev pub files_of : List ℕ → Option (List ℕ) → Result Files PbxFault
+abbrev pub files_of : List ℕ → Option (List ℕ) → Result LoadedFilesOf PbxFault
 files_of plan queues =
     plan_fault (plan_and_notes plan) >>= λ read. queues_of queues >>= λ held. Ok (record { plan = read.0; queues = held })
 
 -- the contents of the texts of a dialplan, its queues and a script, with an optional second dialplan; or the first fault: that of the
 -- dialplan, then the queues, then the script; a fault of the second dialplan does not count
-abbrev pub contents_of : List ℕ → Option (List ℕ) → Option (List ℕ) → List ℕ → Result RunContents PbxFault
+abbrev pub contents_of : List ℕ → Option (List ℕ) → Option (List ℕ) → List ℕ → Result RunContentsOf PbxFault
 contents_of plan queues second_plan script =
     files_of plan queues >>= λ files. script_of second_plan script >>= λ lines.
     Ok (record { plan = files.plan; queues = files.queues; lines = lines })

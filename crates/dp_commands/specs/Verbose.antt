@@ -24,7 +24,7 @@ use Rattle.dp_machine.specs.declared.reply.Reply.TheVariants.{Started, Ran, Inva
 use Rattle.dp_queue.specs.Changes.{one_more}
 use Rattle.dp_table.specs.Standard.{standard_meanings}
 use Rattle.dp_commands.specs.Debug.{DebugRun, Watch, debug_on, debug_turn, end_text, halt_text, watching}
-use Rattle.dp_commands.specs.LinePlaces.{Places, in_file, line_place}
+use Rattle.dp_commands.specs.LinePlaces.{PlacesOfLines, in_file, line_place}
 use Rattle.dp_commands.specs.Run.{Run, status_by}
 use Rattle.dp_commands.specs.Trace.{after_turn, event_line, phase_at}
 use Rattle.dp_commands.specs.Turns.{Taken, WritesTurns, refused_in}
@@ -35,8 +35,8 @@ use Rattle.dp_commands.specs.declared.script.Turn.TheVariants.{Event as turn_eve
 
 -- the dialplan in force: where its lines come from, and the lines of its entries; and where the lines of the second dialplan come from
 pub record InForce : Type 0 where
-  pub places : Places
-  pub second_places : Places
+  pub places : PlacesOfLines
+  pub second_places : PlacesOfLines
   pub lines : List (List ℕ)
 
 -- the lines of a dialplan that has loaded; a dialplan with a fault has no entries
@@ -49,11 +49,11 @@ abbrev pub lines_in : List ℕ → List (List ℕ)
 lines_in text = lines_or_none (lines_loaded text)
 
 -- where the lines of the second dialplan come from; without one they come from a file without a name
-abbrev pub second_or_none : Option Places → Places
+abbrev pub second_or_none : Option PlacesOfLines → PlacesOfLines
 second_or_none places = unwrap_or places (in_file [])
 
 -- the dialplan of this text before the first event, with where its lines come from and where those of the second do, if there is one
-abbrev pub first_in_force_at : Places → Option Places → List ℕ → InForce
+abbrev pub first_in_force_at : PlacesOfLines → Option PlacesOfLines → List ℕ → InForce
 first_in_force_at places second_places text =
     record { places = places; second_places = second_or_none second_places; lines = lines_in text }
 
@@ -136,13 +136,13 @@ indented_from begins [] = []
 indented_from begins (byte ∷ bytes) = indented_byte begins byte ++ indented_from (byte == 10) bytes
 
 -- a text with two blanks before each of its lines
-abbrev pub indented : List ℕ → List ℕ
-indented text = indented_from true text
+abbrev pub indented_text : List ℕ → List ℕ
+indented_text text = indented_from true text
 
 -- the text above the line of a reply, given the dialplan in force and the arguments of the entry that was run
 abbrev pub above_reply : (Refusal → List ℕ) → InForce → PlanOf → List ℕ → Reply → List ℕ
 above_reply explanation in_force plan arguments (Ran id) = ran_text in_force plan id arguments
-above_reply explanation in_force plan arguments (Refused refusal) = indented (explanation refusal)
+above_reply explanation in_force plan arguments (Refused refusal) = indented_text (explanation refusal)
 above_reply explanation in_force plan arguments (Started channel) = []
 above_reply explanation in_force plan arguments NoEntry = []
 above_reply explanation in_force plan arguments Invalid = []
@@ -161,7 +161,7 @@ above_event explanation in_force w event = above_event_by standard_meanings expl
 
 -- the text above the line of a `show`, given whether the `show` is refused because no channel has the number
 abbrev pub above_show : (Refusal → List ℕ) → Bool → List ℕ
-above_show explanation refused = if refused then indented (explanation NoChannel) else []
+above_show explanation refused = if refused then indented_text (explanation NoChannel) else []
 
 -- the text above the line of a turn, given what names mean
 abbrev pub above_turn_by : Meanings → (Refusal → List ℕ) → InForce → World → Turn → List ℕ

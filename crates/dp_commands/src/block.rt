@@ -25,9 +25,9 @@ pub struct Block {
 
 impl Model for Block {
     ghost use Rattle.std.specs.Prelude.{◌≤◌, length, take, drop};
-    ghost use Rattle.dp_commands.specs.Block.{Waiting};
+    ghost use Rattle.dp_commands.specs.Block.{WaitingBytes};
 
-    ghost Value = { Waiting };
+    ghost Value = { WaitingBytes };
 
     ghost view = { λ block. record { whole = take block.whole block.bytes.items; begun = drop block.whole block.bytes.items } };
 

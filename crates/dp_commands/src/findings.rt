@@ -13,7 +13,7 @@ use crate::fault::PbxFault;
 use crate::report::read_plan;
 use crate::trace::{push_entry, push_number, push_place};
 use dp_app::AppTable;
-use dp_audit::{Finding, Names};
+use dp_audit::{AppNames, Finding};
 use dp_conf::WriteTold;
 use dp_plan::{Dialplan, EntryId, NoMemory};
 use dp_table::StandardApps;
@@ -25,7 +25,7 @@ struct NamesOf<T> {
     table: PhantomData<T>,
 }
 
-impl<T: AppTable> Names for NamesOf<T> {
+impl<T: AppTable> AppNames for NamesOf<T> {
     ghost use Rattle.dp_app.specs.Rows.{has_row};
 
     ghost known = { has_row T.rows };
@@ -164,25 +164,25 @@ fn push_audit(out: &mut Block, plan: &Dialplan, findings: &[Finding]) -> Result<
 
 /// The result of an audit: its text, and its status.
 #[derive(Drop)]
-struct Outcome {
+struct AuditOutcome {
     text: Block,
     status: u8,
 }
 
 /// The report of the findings in a dialplan.
-fn report_of(alloc: Global, plan: &Dialplan, findings: &[Finding]) -> Result<Outcome, NoMemory>
+fn report_of(alloc: Global, plan: &Dialplan, findings: &[Finding]) -> Result<AuditOutcome, NoMemory>
     ensures { IfOk result (λ report. spec.outcome_told report ≡ spec.audit_outcome plan.now findings.now) }
 {
     let mut text = Block::new(alloc, 0)?;
     push_audit(&mut text, plan, findings)?;
-    Ok(Outcome {
+    Ok(AuditOutcome {
         text,
         status: u8::from(!findings.is_empty()),
     })
 }
 
 /// The report of an audit of a dialplan.
-fn report(alloc: Global, plan: &Dialplan) -> Result<Outcome, NoMemory>
+fn report(alloc: Global, plan: &Dialplan) -> Result<AuditOutcome, NoMemory>
     ensures { IfOk result (λ report. spec.outcome_told report ≡ spec.audit_outcome plan.now (findings_of (has_row standard_rows) plan.now)) }
 {
     let findings = dp_audit::audit::<NamesOf<StandardApps>>(alloc, plan)?;
@@ -191,7 +191,7 @@ fn report(alloc: Global, plan: &Dialplan) -> Result<Outcome, NoMemory>
 
 /// The report of an audit of a dialplan's text, or the text's fault.
 #[tactic(auto, unfolding(crate::specs::Audit::audit_of))]
-fn audit_report(alloc: Global, plan: &[u8]) -> Result<Outcome, PbxFault>
+fn audit_report(alloc: Global, plan: &[u8]) -> Result<AuditOutcome, PbxFault>
     ensures report { Answers spec.outcome_told reason_of result (spec.audit_of plan.now) }
     ensures quiet { is_write_failed result ≡ false }
 {

@@ -10,7 +10,7 @@ ghost use Rattle.dp_pattern.specs.Dashes.{without_dashes};
 ghost use Rattle.dp_plan.specs.Loaded.{plan_and_notes};
 
 use crate::block::Block;
-use crate::explained::{FileLine, line_among, push_explanation};
+use crate::explained_line::{FileLine, line_among, push_explanation};
 use crate::fault::PbxFault;
 use crate::trace::{push_entry, push_number};
 use dp_conf::WriteTold;
@@ -64,25 +64,25 @@ fn push_counts(out: &mut Block, plan: &Dialplan) -> Result<(), NoMemory>
 
 /// A dialplan that was read, and its notes. It is dropped in one function, so that the drop is proved once, and not on each way out of
 /// everything that holds one.
-pub struct LoadedPlan {
+pub struct PlanWithNotes {
     /// The dialplan.
     pub plan: Dialplan,
     notes: Vec<Note>,
 }
 
-impl Drop for LoadedPlan {
+impl Drop for PlanWithNotes {
     fn drop(self) {
-        let LoadedPlan { plan: _, notes: _ } = self;
+        let PlanWithNotes { plan: _, notes: _ } = self;
     }
 }
 
 /// The dialplan that a text holds with its notes, or the text's fault. If memory runs out that is the error instead of a fault.
-pub fn read_plan(alloc: Global, text: &[u8]) -> Result<LoadedPlan, PbxFault>
+pub fn read_plan(alloc: Global, text: &[u8]) -> Result<PlanWithNotes, PbxFault>
     ensures read { Answers (λ read. (read.plan, read.notes.items)) reason_of result (plan_fault (plan_and_notes text.now)) }
     ensures quiet { is_write_failed result ≡ false }
 {
     let (plan, notes) = Dialplan::load(alloc, text)?;
-    Ok(LoadedPlan { plan, notes })
+    Ok(PlanWithNotes { plan, notes })
 }
 
 /// Adds the report on a dialplan with its notes.

@@ -13,7 +13,7 @@ ghost use Rattle.dp_app.specs.Rows.{with_functions};
 ghost use Rattle.dp_machine.specs.World.{opening};
 ghost use Rattle.dp_queue.specs.Rest.{IsAtRest};
 
-use crate::begun::{Begun, RunContents, begin};
+use crate::beginning::{Begun, RunContents, begin};
 use crate::block::{Block, ROOM};
 use crate::fault::PbxFault;
 use crate::script::{ScriptLine, Turn};

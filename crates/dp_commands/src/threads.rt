@@ -3,7 +3,7 @@ ghost use Rattle.std.specs.Prelude.{◌≡◌, ◌++◌, ◌<◌, ◌||◌, [], 
 ghost use Rattle.std.specs.List.{list_any, range_with_len};
 ghost use Rattle.std.specs.Io.KnownBytes.{Appends};
 ghost use Rattle.dp_board.specs.Settled.{AllPresent, IsSettled};
-ghost use Rattle.dp_board.specs.Sittings.{unheard};
+ghost use Rattle.dp_board.specs.Sittings.{new_sitting};
 ghost use Rattle.dp_machine.specs.Events.{is_refused as refuses};
 ghost use Rattle.dp_machine.specs.Replay.{replies_to, world_after};
 ghost use Rattle.dp_table.specs.Standard.{standard_meanings};
@@ -17,7 +17,7 @@ ghost use Rattle.dp_commands.specs.steps.Deals.{begun_of};
 ghost use Rattle.dp_commands.specs.declared.fault.Code.TheVariants.{Settle};
 ghost use Rattle.dp_commands.specs.declared.fault.PbxFault.TheVariants.{Coded};
 
-use crate::begun::{Begun, begin};
+use crate::beginning::{Begun, begin};
 use crate::block::Block;
 use crate::deal::{Deal, calls_and_others, events_of, have_acted, leading_calls};
 use crate::fault::{Code, PbxFault};
@@ -71,7 +71,7 @@ fn act_and_settle<S: Session + Send + Sync, R: Threads + Wait + Sync, G: Gate + 
     deal: Deal<'_, G>,
 ) -> Result<History<StandardApps>, PbxFault>
     requires some { 0 < board }
-    requires seats { seats.items ≡ map unheard (range_with_len 0 board) }
+    requires seats { seats.items ≡ map new_sitting (range_with_len 0 board) }
     ensures dealt { IfOk result (λ history. spec.IsDealt S.opening board deal.entry.events.now history) }
     ensures code { IfErr result (λ fault. spec.is_settle_fault fault ≡ true) }
 {

@@ -116,7 +116,7 @@ fn push_indented_byte(out: &mut Block, begins: bool, byte: u8) -> Result<(), NoM
 /// Adds a text with two blanks before each of its lines.
 fn push_indented(out: &mut Block, text: &[u8]) -> Result<(), NoMemory>
     ensures kept { out.new.whole ≡ out.old.whole }
-    ensures ok { OnOk result (out.new.begun ≡ out.old.begun ++ spec.indented text.now) }
+    ensures ok { OnOk result (out.new.begun ≡ out.old.begun ++ spec.indented_text text.now) }
 {
     let mut begins = true;
     for byte in text {
@@ -129,7 +129,7 @@ fn push_indented(out: &mut Block, text: &[u8]) -> Result<(), NoMemory>
 /// Adds the explanation of a refusal, each of its lines indented.
 pub fn push_explanation<E: Explanations>(out: &mut Block, refusal: Refusal) -> Result<(), NoMemory>
     ensures kept { out.new.whole ≡ out.old.whole }
-    ensures ok { OnOk result (out.new.begun ≡ out.old.begun ++ spec.indented (E.explanation_of refusal)) }
+    ensures ok { OnOk result (out.new.begun ≡ out.old.begun ++ spec.indented_text (E.explanation_of refusal)) }
 {
     push_indented(out, E::explanation(refusal).as_bytes())
 }

@@ -55,9 +55,9 @@ pub trait Command {
 }
 
 /// The run of a joined text.
-pub struct Run;
+pub struct JoinedRun;
 
-impl Command for Run {
+impl Command for JoinedRun {
     fn serve(alloc: Global, text: &[u8], writer: &mut Told<Sink>) -> Result<u8, PbxFault> {
         run_joined(alloc, text, writer)
     }
@@ -155,14 +155,14 @@ pub fn in_main(alloc: Global, plan: &str) -> Result<Vec<u8>, NoMemory> {
 
 /// The texts of a run.
 #[derive(Drop)]
-pub struct Texts {
+pub struct RunTextsOf {
     pub plan: Vec<u8>,
     pub queues: Vec<u8>,
     pub second_plan: Option<Vec<u8>>,
     pub script: Vec<u8>,
 }
 
-impl Texts {
+impl RunTextsOf {
     /// The texts, as they are given to a run.
     pub fn lend(&self) -> RunTexts<'_> {
         RunTexts {
@@ -181,12 +181,12 @@ pub fn read_texts(
     plan: &str,
     queues: &str,
     script: &str,
-) -> Result<Texts, NoMemory> {
+) -> Result<RunTextsOf, NoMemory> {
     let (script, second_plan) = match script.split_once('¦') {
         Some((script, second_plan)) => (script, Some(bytes_of(alloc, second_plan)?)),
         None => (script, None),
     };
-    Ok(Texts {
+    Ok(RunTextsOf {
         plan: in_main(alloc, plan)?,
         queues: bytes_of(alloc, queues)?,
         second_plan,

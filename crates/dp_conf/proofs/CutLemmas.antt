@@ -83,17 +83,17 @@ pub length-cut_once : (byte : ℕ) (xs part rest : List ℕ) → cut_once byte x
 length-cut_once byte xs part rest e = length-cut_by byte xs part rest (ltb (place_of byte xs) (length xs)) refl e
 
 -- a byte may be added to the front before or after the test
-placed : (b : Bool) (f : ℕ) (front : List ℕ) (o other : Option (List ℕ))
+front_with_byte : (b : Bool) (f : ℕ) (front : List ℕ) (o other : Option (List ℕ))
     → option_map_or (λ before. Some (f ∷ before)) (cond b (Some front) o) other ≡ cond b (Some (f ∷ front)) (option_map_or (λ before. Some (f ∷ before)) o other)
-placed true f front o other = refl
-placed false f front o other = refl
+front_with_byte true f front o other = refl
+front_with_byte false f front o other = refl
 
 before_last-push : (byte : ℕ) (front : List ℕ) (last : ℕ)
     → before_last byte (front ++ last ∷ []) ≡ cond (eqb last byte) (Some front) (before_last byte front)
 before_last-push byte [] last = refl
 before_last-push byte (f ∷ front) last =
     ap (λ o. option_map_or (λ before. Some (f ∷ before)) o (cond (eqb f byte) (Some []) None)) (before_last-push byte front last)
-    ∙ placed (eqb last byte) f front (before_last byte front) (cond (eqb f byte) (Some []) None)
+    ∙ front_with_byte (eqb last byte) f front (before_last byte front) (cond (eqb f byte) (Some []) None)
 
 -- the last byte is such a byte
 pub before_last-found : (byte : ℕ) (text front : List ℕ) (last : ℕ) → text ≡ front ++ last ∷ [] → eqb last byte ≡ true

@@ -200,9 +200,9 @@ with_byte-valid (kind ∷ kinds) byte (Within rest outer) plain none valid = (
 )
 
 -- an opening without an end begins no group
-unclosed : (kinds : List GroupKind) (kind : GroupKind) (rest : Reading) → levels (text_of_reading rest) (kind ∷ kinds) 0 ≡ Last rest
+begins_no_group : (kinds : List GroupKind) (kind : GroupKind) (rest : Reading) → levels (text_of_reading rest) (kind ∷ kinds) 0 ≡ Last rest
     → ¬ (BeginsGroup (36 ∷ opener kind ∷ text_of_reading rest))
-unclosed kinds kind rest open_end group =
+begins_no_group kinds kind rest open_end group =
     let is = group.text_is in
     let kind_is : opener kind ≡ opener group.kind = cc in
     let rest_is : text_of_reading rest ≡ text_of_reading group.inside ++ closer group.kind ∷ group.after = cc in
@@ -218,7 +218,7 @@ with_opening-valid : (kinds : List GroupKind) (kind : GroupKind) (rest : List �
 unfolding IsBody IsWhole text_of_reading
 with_opening-valid kinds kind rest (Last reading) is valid =
     let text : text_of_reading reading ≡ rest = ap (printed_levels (kind ∷ kinds)) (sym is) ∙ levels-text_of_reading rest (kind ∷ kinds) 0 in (
-      unclosed kinds kind reading (ap (λ bytes. levels bytes (kind ∷ kinds) 0) text ∙ is),
+      begins_no_group kinds kind reading (ap (λ bytes. levels bytes (kind ∷ kinds) 0) text ∙ is),
       (begins_none (opener kind) (text_of_reading reading) (opener-opens_nothing kind (text_of_reading reading)), valid),
     )
 with_opening-valid kinds kind rest (Within inside (Last reading)) is valid = valid

@@ -10,57 +10,57 @@ use Rattle.dp_conf.specs.steps.Nest.{NestOf, kinds_of, after_group, nest_after, 
 use Rattle.dp_conf.proofs.GroupsLemmas.{levels-last, one_reading}
 
 -- the nesting of the whole, given the waiting openings, that of the innermost level so far, and the levels after
-abbrev pub come : List WaitingGroup → ℕ → Levels → ℕ
-come waiting deepest (Last rest) = deepest_in waiting (max deepest (depth_of rest))
-come [] deepest (Within rest outer) = come [] (max deepest (depth_of rest)) outer
-come (w ∷ waiting) deepest (Within rest outer) = come waiting (max w.deepest (suc (max deepest (depth_of rest)))) outer
+abbrev pub nesting_to_come : List WaitingGroup → ℕ → Levels → ℕ
+nesting_to_come waiting deepest (Last rest) = deepest_in waiting (max deepest (depth_of rest))
+nesting_to_come [] deepest (Within rest outer) = nesting_to_come [] (max deepest (depth_of rest)) outer
+nesting_to_come (w ∷ waiting) deepest (Within rest outer) = nesting_to_come waiting (max w.deepest (suc (max deepest (depth_of rest)))) outer
 
-come-with_byte : (waiting : List WaitingGroup) (deepest byte : ℕ) (l : Levels) → come waiting deepest (with_byte byte l) ≡ come waiting deepest l
+come-with_byte : (waiting : List WaitingGroup) (deepest byte : ℕ) (l : Levels) → nesting_to_come waiting deepest (with_byte byte l) ≡ nesting_to_come waiting deepest l
 unfolding depth_of
 come-with_byte waiting deepest byte (Last rest) = refl
 come-with_byte [] deepest byte (Within rest outer) = refl
 come-with_byte (w ∷ waiting) deepest byte (Within rest outer) = refl
 
 come-with_opening : (waiting : List WaitingGroup) (deepest : ℕ) (kind : GroupKind) (l : Levels)
-    → come (record { kind = kind; deepest = deepest } ∷ waiting) 0 l ≡ come waiting deepest (with_opening kind l)
+    → nesting_to_come (record { kind = kind; deepest = deepest } ∷ waiting) 0 l ≡ nesting_to_come waiting deepest (with_opening kind l)
 unfolding depth_of
 come-with_opening waiting deepest kind (Last rest) = ap (deepest_in waiting) (omega arith)
 come-with_opening waiting deepest kind (Within inside (Last rest)) = ap (deepest_in waiting) (omega arith)
-come-with_opening [] deepest kind (Within inside (Within rest outer)) = ap (λ d. come [] d outer) (omega arith)
+come-with_opening [] deepest kind (Within inside (Within rest outer)) = ap (λ d. nesting_to_come [] d outer) (omega arith)
 come-with_opening (w ∷ waiting) deepest kind (Within inside (Within rest outer)) =
-    ap (λ d. come waiting (max w.deepest (suc d)) outer) (omega arith)
+    ap (λ d. nesting_to_come waiting (max w.deepest (suc d)) outer) (omega arith)
 
 -- a mark does not change the nesting of the whole
 pub come-mark : (m : Mark) (nest : NestOf) (after : List GroupKind → ℕ → Levels)
-    → come (nest_after m nest).waiting (nest_after m nest).deepest (after (kinds_of (nest_after m nest).waiting) 0)
-    ≡ come nest.waiting nest.deepest (with_mark m after 0 (kinds_of nest.waiting))
+    → nesting_to_come (nest_after m nest).waiting (nest_after m nest).deepest (after (kinds_of (nest_after m nest).waiting) 0)
+    ≡ nesting_to_come nest.waiting nest.deepest (with_mark m after 0 (kinds_of nest.waiting))
 unfolding depth_of
 come-mark End nest after = by nest.waiting
   where
     by : (ws : List WaitingGroup)
-        → come (after_group ws nest.deepest).waiting (after_group ws nest.deepest).deepest (after (kinds_of (after_group ws nest.deepest).waiting) 0)
-        ≡ come ws nest.deepest (Within Over (after (outer_of (kinds_of ws)) 0))
-    by [] = ap (λ d. come [] d (after [] 0)) (omega arith)
-    by (w ∷ ws) = ap (λ d. come ws (max w.deepest (suc d)) (after (kinds_of ws) 0)) (omega arith)
+        → nesting_to_come (after_group ws nest.deepest).waiting (after_group ws nest.deepest).deepest (after (kinds_of (after_group ws nest.deepest).waiting) 0)
+        ≡ nesting_to_come ws nest.deepest (Within Over (after (outer_of (kinds_of ws)) 0))
+    by [] = ap (λ d. nesting_to_come [] d (after [] 0)) (omega arith)
+    by (w ∷ ws) = ap (λ d. nesting_to_come ws (max w.deepest (suc d)) (after (kinds_of ws) 0)) (omega arith)
 come-mark (Opening kind) nest after = come-with_opening nest.waiting nest.deepest kind (after (kind ∷ kinds_of nest.waiting) 0)
 come-mark (Byte byte) nest after = sym (come-with_byte nest.waiting nest.deepest byte (after (kinds_of nest.waiting) 0))
 
 -- nothing is left
-pub come-over : (waiting : List WaitingGroup) (deepest : ℕ) → come waiting deepest (levels [] (kinds_of waiting) 0) ≡ deepest_in waiting deepest
+pub come-over : (waiting : List WaitingGroup) (deepest : ℕ) → nesting_to_come waiting deepest (levels [] (kinds_of waiting) 0) ≡ deepest_in waiting deepest
 unfolding levels depth_of
 come-over waiting deepest = ap (deepest_in waiting) (omega arith)
 
 -- nothing has been read yet
-pub come-text : (text : List ℕ) → come [] 0 (levels text [] 0) ≡ nesting_of text
+pub come-text : (text : List ℕ) → nesting_to_come [] 0 (levels text [] 0) ≡ nesting_of text
 unfolding nesting_of
-come-text text = ap (come [] 0) (levels-last text) ∙ omega arith
+come-text text = ap (nesting_to_come [] 0) (levels-last text) ∙ omega arith
 
 deepest_in-above : (waiting : List WaitingGroup) (deepest : ℕ) → deepest ≤ deepest_in waiting deepest
 deepest_in-above [] deepest = omega arith
 deepest_in-above (w ∷ waiting) deepest = omega (arith, deepest_in-above waiting (max w.deepest deepest))
 
 -- the nesting of the innermost level so far is at most that of the whole
-pub come-above : (waiting : List WaitingGroup) (deepest : ℕ) (l : Levels) → deepest ≤ come waiting deepest l
+pub come-above : (waiting : List WaitingGroup) (deepest : ℕ) (l : Levels) → deepest ≤ nesting_to_come waiting deepest l
 come-above waiting deepest (Last rest) = omega (arith, deepest_in-above waiting (max deepest (depth_of rest)))
 come-above [] deepest (Within rest outer) = omega (arith, come-above [] (max deepest (depth_of rest)) outer)
 come-above (w ∷ waiting) deepest (Within rest outer) =

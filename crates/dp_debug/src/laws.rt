@@ -11,7 +11,7 @@ ghost use Rattle.dp_debug.specs.declared.halt.Halt.{Halt};
 /// A run that halts, and continues over the same list from where it halted, gives the machine the first events of the list, as many as the
 /// second halt says: each once, in their order. The trace has the replies to them, and the world is the one after them. This holds after
 /// the first halt, and after each further one. This function does nothing.
-pub fn joined()
+pub fn resuming()
     ensures both { (meanings : Meanings) (w between after : World) (events : List Event) (breaks : List Break)
         (first second : Halt)
         (trace whole : List Reply)

@@ -12,8 +12,8 @@ use Rattle.dp_plan.specs.Plan.{PlanOf, kept_by, is_named}
 use Rattle.dp_plan.specs.Ranking.{shares_place}
 use Rattle.dp_plan.specs.declared.entry.Entry.{Entry}
 use Rattle.dp_diff.specs.Alike.{AnswersAlike, AnswerAlike, first_in}
-use Rattle.dp_diff.specs.Answering.{answering, has_place, searched}
-use Rattle.dp_diff.specs.Differences.{Difference, added, changed, contexts_of, differences, differences_between, differences_in, is_kept, names_of}
+use Rattle.dp_diff.specs.Answering.{answering, has_place, searched_entries}
+use Rattle.dp_diff.specs.Differences.{Difference, addition_at, change_at, contexts_of, differences, differences_between, differences_in, is_kept, names_of}
 use Rattle.dp_diff.specs.steps.Places.{shares_place_equiv}
 use Rattle.dp_diff.proofs.ContextsLemmas.{unnumbered_by_name}
 use Rattle.dp_diff.proofs.UnchangedLemmas.{flat_map-none, found_itself, there_itself}
@@ -66,7 +66,7 @@ find-kept_by e before (x ∷ xs) free = by (find-kept_by e before xs free) (find
 -- the first entry that answers is the first through which a look-up goes
 find-answering : (plan : PlanOf) (context : List ℕ) (e : Entry) → find (shares_place e) (answering plan context) ≡ first_in plan context e
 unfolding answering
-find-answering plan context e = find-kept_by e [] (searched plan context) refl
+find-answering plan context e = find-kept_by e [] (searched_entries plan context) refl
 
 -- ---- one context
 
@@ -101,13 +101,13 @@ alike-is_some (Some f) m alike there = refl
 
 module _ (context : List ℕ) where
   -- what is found before the change does the same after it, if nothing is changed
-  kept_at : (after before : List Entry) → flat_map (changed context after) before ≡ [] → (e f : Entry) → find (shares_place e) before ≡ Some f
+  kept_at : (after before : List Entry) → flat_map (change_at context after) before ≡ [] → (e f : Entry) → find (shares_place e) before ≡ Some f
       → (shares_place e f ≡ true) × (is_kept f (find (shares_place f) after) ≡ true)
   kept_at after [] none e f found = absurd cc
   kept_at after (x ∷ before) none e f found =
-      by (kept_at after before (nothing_second (changed context after x) (flat_map (changed context after) before) none) e f)
+      by (kept_at after before (nothing_second (change_at context after x) (flat_map (change_at context after) before) none) e f)
       (if_nothing (is_kept x (find (shares_place x) after)) (record { context = context; before = Some x; after = find (shares_place x) after })
-      (nothing_first (changed context after x) (flat_map (changed context after) before) none))
+      (nothing_first (change_at context after x) (flat_map (change_at context after) before) none))
       (shares_place e x) refl found
     where
       Kept : Entry → Type 0
@@ -119,13 +119,13 @@ module _ (context : List ℕ) where
       by later kept false other is = later is
 
   -- what is found after the change was there before it, if nothing is added
-  there_at : (before after : List Entry) → flat_map (added context before) after ≡ [] → (e g : Entry) → find (shares_place e) after ≡ Some g
+  there_at : (before after : List Entry) → flat_map (addition_at context before) after ≡ [] → (e g : Entry) → find (shares_place e) after ≡ Some g
       → (shares_place e g ≡ true) × (has_place before g ≡ true)
   there_at before [] none e g found = absurd cc
   there_at before (x ∷ after) none e g found =
-      by (there_at before after (nothing_second (added context before x) (flat_map (added context before) after) none) e g)
+      by (there_at before after (nothing_second (addition_at context before x) (flat_map (addition_at context before) after) none) e g)
       (if_nothing (has_place before x) (record { context = context; before = None; after = Some x })
-      (nothing_first (added context before x) (flat_map (added context before) after) none))
+      (nothing_first (addition_at context before x) (flat_map (addition_at context before) after) none))
       (shares_place e x) refl found
     where
       There : Entry → Type 0
@@ -139,11 +139,11 @@ module _ (context : List ℕ) where
   -- without differences, each place has entries that do the same
   alike_between : (before after : List Entry) → differences_between context before after ≡ [] → (e : Entry) → AnswersAlike (find (shares_place e) before) (find (shares_place e) after)
   alike_between before after none e = by (find (shares_place e) before) refl (find (shares_place e) after) refl where
-    unchanged : flat_map (changed context after) before ≡ []
-    unchanged = nothing_first (flat_map (changed context after) before) (flat_map (added context before) after) none
+    unchanged : flat_map (change_at context after) before ≡ []
+    unchanged = nothing_first (flat_map (change_at context after) before) (flat_map (addition_at context before) after) none
 
-    nothing_added : flat_map (added context before) after ≡ []
-    nothing_added = nothing_second (flat_map (changed context after) before) (flat_map (added context before) after) none
+    nothing_added : flat_map (addition_at context before) after ≡ []
+    nothing_added = nothing_second (flat_map (change_at context after) before) (flat_map (addition_at context before) after) none
 
     by : (l : Option Entry) → find (shares_place e) before ≡ l → (m : Option Entry) → find (shares_place e) after ≡ m → AnswersAlike l m
     by None missing None missing_too = tt
@@ -156,7 +156,7 @@ module _ (context : List ℕ) where
 
   -- nothing is changed, if each place has entries that do the same
   none_changed : (after before entries : List Entry) → ((e : Entry) → AnswersAlike (find (shares_place e) (before ++ kept_by has_place before entries)) (find (shares_place e) after))
-      → flat_map (changed context after) (kept_by has_place before entries) ≡ []
+      → flat_map (change_at context after) (kept_by has_place before entries) ≡ []
   none_changed after before [] alike = refl
   none_changed after before (e ∷ entries) alike = by (none_changed after before entries) (none_changed after (before ++ e ∷ []) entries) (has_place before e) refl alike where
     rest : List Entry
@@ -168,19 +168,19 @@ module _ (context : List ℕ) where
     Alike : List Entry → Type 0
     Alike all = (x : Entry) → AnswersAlike (find (shares_place x) all) (find (shares_place x) after)
 
-    by : (Alike (before ++ kept_by has_place before entries) → flat_map (changed context after) (kept_by has_place before entries) ≡ [])
-        → (Alike ((before ++ e ∷ []) ++ rest) → flat_map (changed context after) rest ≡ [])
-        → (t : Bool) → has_place before e ≡ t → Alike (before ++ kept t) → flat_map (changed context after) (kept t) ≡ []
+    by : (Alike (before ++ kept_by has_place before entries) → flat_map (change_at context after) (kept_by has_place before entries) ≡ [])
+        → (Alike ((before ++ e ∷ []) ++ rest) → flat_map (change_at context after) rest ≡ [])
+        → (t : Bool) → has_place before e ≡ t → Alike (before ++ kept t) → flat_map (change_at context after) (kept t) ≡ []
     by without with_it true taken each = without each
     by without with_it false free each =
         let P : Option Entry → Type 0 = λ l. AnswersAlike l (find (shares_place e) after) in
         let there = alike-is_kept e (find (shares_place e) after) (subst P (found_itself before rest e free) (each e)) in
-        ap (λ t. cond t [] ((record { context = context; before = Some e; after = find (shares_place e) after }) ∷ []) ++ flat_map (changed context after) rest) there
+        ap (λ t. cond t [] ((record { context = context; before = Some e; after = find (shares_place e) after }) ∷ []) ++ flat_map (change_at context after) rest) there
         ∙ with_it (subst Alike (sym (append_assoc before (e ∷ []) rest)) each)
 
   -- nothing is added, if each place has entries that do the same
   none_added : (before first after : List Entry) → ((e : Entry) → AnswersAlike (find (shares_place e) before) (find (shares_place e) (first ++ after)))
-      → flat_map (added context before) after ≡ []
+      → flat_map (addition_at context before) after ≡ []
   none_added before first [] alike = refl
   none_added before first (e ∷ after) alike =
       let Alike : List Entry → Type 0 = λ all. (x : Entry) → AnswersAlike (find (shares_place x) before) (find (shares_place x) all) in
@@ -188,19 +188,19 @@ module _ (context : List ℕ) where
       sym (is_some-find (shares_place e) before)
       ∙ alike-is_some (find (shares_place e) before) (find (shares_place e) (first ++ e ∷ after)) (alike e)
       (is_some-find (shares_place e) (first ++ e ∷ after) ∙ there_itself first after e) in
-      ap (λ t. cond t [] ((record { context = context; before = None; after = Some e }) ∷ []) ++ flat_map (added context before) after) there
+      ap (λ t. cond t [] ((record { context = context; before = None; after = Some e }) ∷ []) ++ flat_map (addition_at context before) after) there
       ∙ none_added before (first ++ e ∷ []) after (subst Alike (sym (append_assoc first (e ∷ []) after)) alike)
 
 -- a context has no differences, if it answers alike
 none_in : (before after : PlanOf) → AnswerAlike before after → (context : List ℕ) → differences_in before after context ≡ []
 unfolding answering
 none_in before after alike context =
-    let L = kept_by has_place [] (searched before context) in
-    let M = kept_by has_place [] (searched after context) in
+    let L = kept_by has_place [] (searched_entries before context) in
+    let M = kept_by has_place [] (searched_entries after context) in
     let each : (e : Entry) → AnswersAlike (find (shares_place e) L) (find (shares_place e) M) =
-    λ e. subst (λ (l : Option Entry). AnswersAlike l (find (shares_place e) M)) (sym (find-kept_by e [] (searched before context) refl))
-    (subst (λ (m : Option Entry). AnswersAlike (first_in before context e) m) (sym (find-kept_by e [] (searched after context) refl)) (alike context e)) in
-    ap (λ (ds : List Difference). ds ++ flat_map (added context L) M) (none_changed context M [] (searched before context) each)
+    λ e. subst (λ (l : Option Entry). AnswersAlike l (find (shares_place e) M)) (sym (find-kept_by e [] (searched_entries before context) refl))
+    (subst (λ (m : Option Entry). AnswersAlike (first_in before context e) m) (sym (find-kept_by e [] (searched_entries after context) refl)) (alike context e)) in
+    ap (λ (ds : List Difference). ds ++ flat_map (addition_at context L) M) (none_changed context M [] (searched_entries before context) each)
     ∙ none_added context L [] M each
 
 -- there are no differences, if all contexts answer alike
@@ -235,7 +235,7 @@ among_filtered test context passes (name ∷ names) there =
       by later false left false other is = later is
 
 -- an unknown context has no entries
-searched-unknown : (plan : PlanOf) (context : List ℕ) → is_named (names_of plan) context ≡ false → searched plan context ≡ []
+searched-unknown : (plan : PlanOf) (context : List ℕ) → is_named (names_of plan) context ≡ false → searched_entries plan context ≡ []
 searched-unknown plan context unknown =
     ap (λ (number : Option ℕ). flat_map (entries_at plan) (option_map_or (visit plan []) number []))
     (unnumbered_by_name plan context unknown)
@@ -268,6 +268,6 @@ alike_without before after none context place =
           known (split ∙ (ap (λ s. s || list_any (same_text context) others) missing
           ∙ among_filtered (λ name. not (is_named (names_of before) name)) context (ap not missing) (names_of after) there))
       by false missing false missing_too =
-          let P : List Entry → Type 0 = λ xs. AnswersAlike (find (shares_place place) xs) (find (shares_place place) (searched after context)) in
+          let P : List Entry → Type 0 = λ xs. AnswersAlike (find (shares_place place) xs) (find (shares_place place) (searched_entries after context)) in
           let Q : List Entry → Type 0 = λ ys. AnswersAlike (find (shares_place place) []) (find (shares_place place) ys) in
           subst P (sym (searched-unknown before context missing)) (subst Q (sym (searched-unknown after context missing_too)) tt)

@@ -10,11 +10,11 @@ use Rattle.dp_conf.proofs.ToldLemmas.{AppendsFront-more}
 use Rattle.dp_plan.specs.Ranking.{shares_place}
 use Rattle.dp_plan.specs.declared.entry.Entry.{Entry}
 use Rattle.dp_diff.specs.Answering.{has_place}
-use Rattle.dp_diff.specs.Differences.{Difference, added, changed, is_kept}
+use Rattle.dp_diff.specs.Differences.{Difference, addition_at, change_at, is_kept}
 use Rattle.dp_diff.specs.Faults.{is_write_fault}
 use Rattle.dp_diff.specs.Printing.{difference_lines, text_of}
 use Rattle.dp_diff.specs.declared.fault.DiffFault.{DiffFault}
-use Rattle.dp_diff.specs.steps.Telling.{Flows, HasFailed, HasTold, SheetOf, Tells, WriterOf, capped, writer_of}
+use Rattle.dp_diff.specs.steps.Telling.{Flows, HasFailed, HasTold, SheetOf, Tells, WriterOf, capped_number, writer_of}
 use Rattle.dp_diff.proofs.FlowLemmas.{Flows-fails, Flows-sent, Flows-trans, Flows-waits}
 
 -- the text of more differences
@@ -32,7 +32,7 @@ unfolding text_of
 text_of-one d = append-nil (difference_lines d)
 
 -- one more is counted
-pub capped-one : (number : ℕ) → min (capped number + 1) (2 ^ 64 - 1) ≡ capped (number + 1)
+pub capped-one : (number : ℕ) → min (capped_number number + 1) (2 ^ 64 - 1) ≡ capped_number (number + 1)
 capped-one number = by (2 ^ 64 - 1) number where
   by : (most n : ℕ) → min (min n most + 1) most ≡ min (n + 1) most
   by most n = omega arith
@@ -41,7 +41,7 @@ capped-one number = by (2 ^ 64 - 1) number where
 pub told_none : (w : WriterOf) (s : SheetOf) → HasTold w s w s []
 told_none w s = record {
   flowed = Flows-waits w.contents s.waiting s.waiting (text_of []) (sym (append-nil s.waiting) ∙ ap (λ (t : List ℕ). s.waiting ++ t) (sym text_of-nil));
-  counted = λ number is. is ∙ ap capped (sym (add-zero number));
+  counted = λ number is. is ∙ ap capped_number (sym (add-zero number));
   sound = refl;
 }
 
@@ -52,7 +52,7 @@ told_append w v u s t r xs ys first second =
     record {
       flowed = subst P (sym (text_of-append xs ys)) (Flows-trans w.contents v.contents u.contents s.waiting t.waiting r.waiting (text_of xs) (text_of ys) first.flowed second.flowed);
       counted = λ number is. second.counted (number + length xs) (first.counted number is)
-          ∙ ap capped (omega (arith, length-append xs ys));
+          ∙ ap capped_number (omega (arith, length-append xs ys));
       sound = second.sound ∙ first.sound;
     }
 
@@ -63,7 +63,7 @@ told_sent old new was is s t wrote empty count quiet =
     let Q : List ℕ → Type 0 = λ bytes. Flows old s.waiting new [] bytes in
     record {
       flowed = subst P (sym empty) (subst Q (sym text_of-nil) (Flows-sent old new s.waiting wrote));
-      counted = λ number at. count ∙ (at ∙ ap capped (sym (add-zero number)));
+      counted = λ number at. count ∙ (at ∙ ap capped_number (sym (add-zero number)));
       sound = quiet ∙ or-false was;
     }
 
@@ -133,12 +133,12 @@ module _ {X : Type 0} (f : X → List Difference) (xs : List X) (i : ℕ) (x : X
       (failed_after w v u s t (flat_map f (take i xs)) (f x) fault so_far failed))
 
 -- nothing is told of an entry that does the same, and of one whose place was taken
-pub not_changed : (context : List ℕ) (after : List Entry) (place entry : Entry) (other : Option Entry) → entry ≡ place → other ≡ find (shares_place place) after → is_kept entry other ≡ true → changed context after place ≡ []
+pub not_changed : (context : List ℕ) (after : List Entry) (place entry : Entry) (other : Option Entry) → entry ≡ place → other ≡ find (shares_place place) after → is_kept entry other ≡ true → change_at context after place ≡ []
 not_changed context after place entry other is found kept =
     let there : is_kept place (find (shares_place place) after) ≡ true =
     sym (ap (λ e. is_kept e other) is ∙ ap (is_kept place) found) ∙ kept in
     ap (λ t. cond t [] ((record { context = context; before = Some place; after = find (shares_place place) after }) ∷ [])) there
 
-pub not_added : (context : List ℕ) (before : List Entry) (entry : Entry) → has_place before entry ≡ true → added context before entry ≡ []
+pub not_added : (context : List ℕ) (before : List Entry) (entry : Entry) → has_place before entry ≡ true → addition_at context before entry ≡ []
 not_added context before entry there =
     ap (λ t. cond t [] ((record { context = context; before = None; after = Some entry }) ∷ [])) there

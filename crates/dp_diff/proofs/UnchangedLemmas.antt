@@ -8,8 +8,8 @@ use Rattle.dp_conf.specs.Words.{same_text, same_word}
 use Rattle.dp_plan.specs.Plan.{PlanOf, kept_by}
 use Rattle.dp_plan.specs.Ranking.{shares_place}
 use Rattle.dp_plan.specs.declared.entry.Entry.{Entry}
-use Rattle.dp_diff.specs.Answering.{answering, has_place, searched}
-use Rattle.dp_diff.specs.Differences.{Difference, added, changed, changed_to, contexts_of, differences, differences_in, does_same}
+use Rattle.dp_diff.specs.Answering.{answering, has_place, searched_entries}
+use Rattle.dp_diff.specs.Differences.{Difference, addition_at, change_at, changed_to, contexts_of, differences, differences_in, does_same}
 use Rattle.dp_diff.specs.steps.Places.{shares_place_equiv}
 
 -- two tests that hold hold together
@@ -47,7 +47,7 @@ changed_to-itself context e =
 
 module _ (context : List ℕ) where
   -- no entry that answers is changed
-  none_changed : (before entries : List Entry) → flat_map (changed context (before ++ kept_by has_place before entries)) (kept_by has_place before entries) ≡ []
+  none_changed : (before entries : List Entry) → flat_map (change_at context (before ++ kept_by has_place before entries)) (kept_by has_place before entries) ≡ []
   none_changed before [] = refl
   none_changed before (e ∷ entries) = by (none_changed before entries) (none_changed (before ++ e ∷ []) entries) (has_place before e) refl where
     rest : List Entry
@@ -56,31 +56,31 @@ module _ (context : List ℕ) where
     kept : Bool → List Entry
     kept t = cond t (kept_by has_place before entries) (e ∷ rest)
 
-    by : flat_map (changed context (before ++ kept_by has_place before entries)) (kept_by has_place before entries) ≡ []
-        → flat_map (changed context ((before ++ e ∷ []) ++ rest)) rest ≡ []
-        → (t : Bool) → has_place before e ≡ t → flat_map (changed context (before ++ kept t)) (kept t) ≡ []
+    by : flat_map (change_at context (before ++ kept_by has_place before entries)) (kept_by has_place before entries) ≡ []
+        → flat_map (change_at context ((before ++ e ∷ []) ++ rest)) rest ≡ []
+        → (t : Bool) → has_place before e ≡ t → flat_map (change_at context (before ++ kept t)) (kept t) ≡ []
     by without with_it true taken = without
     by without with_it false free =
-        ap (λ (ds : List Difference). ds ++ flat_map (changed context (before ++ e ∷ rest)) rest)
+        ap (λ (ds : List Difference). ds ++ flat_map (change_at context (before ++ e ∷ rest)) rest)
         (ap (changed_to context e) (found_itself before rest e free) ∙ changed_to-itself context e)
-        ∙ (ap (λ (all : List Entry). flat_map (changed context all) rest) (sym (append_assoc before (e ∷ []) rest)) ∙ with_it)
+        ∙ (ap (λ (all : List Entry). flat_map (change_at context all) rest) (sym (append_assoc before (e ∷ []) rest)) ∙ with_it)
 
   -- and none is added
-  none_added : (before entries : List Entry) → flat_map (added context (before ++ entries)) entries ≡ []
+  none_added : (before entries : List Entry) → flat_map (addition_at context (before ++ entries)) entries ≡ []
   none_added before [] = refl
   none_added before (e ∷ entries) =
-      ap (λ t. cond t [] ((record { context = context; before = None; after = Some e }) ∷ []) ++ flat_map (added context (before ++ e ∷ entries)) entries)
+      ap (λ t. cond t [] ((record { context = context; before = None; after = Some e }) ∷ []) ++ flat_map (addition_at context (before ++ e ∷ entries)) entries)
       (there_itself before entries e)
-      ∙ (ap (λ (all : List Entry). flat_map (added context all) entries) (sym (append_assoc before (e ∷ []) entries))
+      ∙ (ap (λ (all : List Entry). flat_map (addition_at context all) entries) (sym (append_assoc before (e ∷ []) entries))
       ∙ none_added (before ++ e ∷ []) entries)
 
 -- a context has no differences
 none_in : (plan : PlanOf) (context : List ℕ) → differences_in plan plan context ≡ []
 unfolding answering
 none_in plan context =
-    ap (λ (ds : List Difference). ds ++ flat_map (added context (kept_by has_place [] (searched plan context))) (kept_by has_place [] (searched plan context)))
-    (none_changed context [] (searched plan context))
-    ∙ none_added context [] (kept_by has_place [] (searched plan context))
+    ap (λ (ds : List Difference). ds ++ flat_map (addition_at context (kept_by has_place [] (searched_entries plan context))) (kept_by has_place [] (searched_entries plan context)))
+    (none_changed context [] (searched_entries plan context))
+    ∙ none_added context [] (kept_by has_place [] (searched_entries plan context))
 
 -- nothing comes of nothing
 pub flat_map-none : {X Y : Type 0} (f : X → List Y) → ((x : X) → f x ≡ []) → (xs : List X) → flat_map f xs ≡ []

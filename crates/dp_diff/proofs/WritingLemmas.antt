@@ -6,7 +6,7 @@ use Rattle.dp_conf.specs.Fronts.{AppendsFront}
 use Rattle.dp_diff.specs.Differences.{Difference}
 use Rattle.dp_diff.specs.Printing.{text_of}
 use Rattle.dp_diff.specs.declared.fault.DiffFault.{DiffFault}
-use Rattle.dp_diff.specs.steps.Telling.{Flows, HasFailed, HasTold, SheetOf, WriterOf, capped}
+use Rattle.dp_diff.specs.steps.Telling.{Flows, HasFailed, HasTold, SheetOf, WriterOf, capped_number}
 use Rattle.dp_diff.proofs.FlowLemmas.{Flows-whole}
 use Rattle.dp_diff.proofs.TellingLemmas.{failed_after, told_append}
 
@@ -28,7 +28,7 @@ module _ (w v u : WriterOf) (s t : SheetOf) (ds : List Difference) (start : s �
   counted_whole r sent =
       let P : List Difference → Type 0 = λ all. HasTold w s u r all in
       let whole = subst P (append-nil ds) (told_append w v u s t r ds [] told sent) in
-      whole.counted 0 (ap (λ (sheet : SheetOf). sheet.count) start) ∙ ap capped (zero-add (length ds))
+      whole.counted 0 (ap (λ (sheet : SheetOf). sheet.count) start) ∙ ap capped_number (zero-add (length ds))
 
   -- the last write fails
   pub written_short : (fault : DiffFault) → HasFailed v t u [] fault → AppendsFront w.contents u.contents (text_of ds)

@@ -4,7 +4,7 @@ use Rattle.std.specs.List.{find}
 use Rattle.dp_plan.specs.Plan.{PlanOf}
 use Rattle.dp_plan.specs.Ranking.{shares_place}
 use Rattle.dp_plan.specs.declared.entry.Entry.{Entry}
-use Rattle.dp_diff.specs.Answering.{searched}
+use Rattle.dp_diff.specs.Answering.{searched_entries}
 use Rattle.dp_diff.specs.Differences.{does_same}
 
 -- nothing answers both times, or entries that do the same
@@ -16,7 +16,7 @@ AnswersAlike (Some a) (Some b) = does_same a b ≡ true
 
 -- the first entry through which a look-up in a context goes that has the name, by its meaning, and the priority of this one
 abbrev pub first_in : PlanOf → List ℕ → Entry → Option Entry
-first_in plan context place = find (shares_place place) (searched plan context)
+first_in plan context place = find (shares_place place) (searched_entries plan context)
 
 -- in each context, and at the name and priority of each entry, two dialplans answer alike
 abbrev pub AnswerAlike : PlanOf → PlanOf → Type 0

@@ -28,17 +28,17 @@ changed_to context entry other =
     if is_kept entry other then [] else (record { context = context; before = Some entry; after = other }) ∷ []
 
 -- the difference at an entry that answered before the change, given all that answer after it
-abbrev pub changed : List ℕ → List Entry → Entry → List Difference
-changed context after entry = changed_to context entry (find (shares_place entry) after)
+abbrev pub change_at : List ℕ → List Entry → Entry → List Difference
+change_at context after entry = changed_to context entry (find (shares_place entry) after)
 
 -- the difference at an entry that answers after the change, unless there was one before
-abbrev pub added : List ℕ → List Entry → Entry → List Difference
-added context before entry =
+abbrev pub addition_at : List ℕ → List Entry → Entry → List Difference
+addition_at context before entry =
     if has_place before entry then [] else (record { context = context; before = None; after = Some entry }) ∷ []
 
 -- the differences in a context, given the entries with which it answers before and after the change
 abbrev pub differences_between : List ℕ → List Entry → List Entry → List Difference
-differences_between context before after = flat_map (changed context after) before ++ flat_map (added context before) after
+differences_between context before after = flat_map (change_at context after) before ++ flat_map (addition_at context before) after
 
 -- the differences in a context
 abbrev pub differences_in : PlanOf → PlanOf → List ℕ → List Difference

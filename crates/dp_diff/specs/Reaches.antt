@@ -6,7 +6,7 @@ use Rattle.dp_plan.specs.Lookup.{number_of}
 use Rattle.dp_plan.specs.Plan.{PlanOf}
 use Rattle.dp_plan.specs.declared.entry.EntryId.{EntryId}
 use Rattle.dp_diff.specs.Differences.{names_of}
-use Rattle.dp_diff.specs.declared.reaches.Reach.{Reach}
+use Rattle.dp_diff.specs.declared.reaches.PlanReach.{PlanReach}
 
 -- whether one of the entries is in the context with a number
 abbrev pub has_entry_of : List EntryId → ℕ → Bool
@@ -18,7 +18,7 @@ pub record ReachOf : Type 0 where
   pub has_entry : ℕ → Bool
 
 -- what the program is given
-abbrev pub reach_now : Reach → ReachOf
+abbrev pub reach_now : PlanReach → ReachOf
 reach_now reach = record { plan = reach.plan.now; has_entry = has_entry_of reach.entries.now }
 
 -- whether a call reaches the context with a name, if the dialplan has it

@@ -19,13 +19,13 @@ use std::marker::Model;
 
 /// The dialplans before and after a change. A contract sees them as these two.
 #[derive(Drop)]
-struct Change<'a> {
+struct ComparedPlans<'a> {
     alloc: Global,
     before: Searcher<'a>,
     after: Searcher<'a>,
 }
 
-impl<'a> Model for Change<'a> {
+impl<'a> Model for ComparedPlans<'a> {
     ghost use Rattle.dp_plan.specs.Plan.{PlanOf};
 
     ghost Value = { PlanOf × PlanOf };
@@ -33,7 +33,7 @@ impl<'a> Model for Change<'a> {
     ghost view = { λ change. (change.before, change.after) };
 }
 
-impl<'a> Change<'a> {
+impl<'a> ComparedPlans<'a> {
     ghost use Rattle.std.specs.Prelude.{◌≡◌, IfOk};
     ghost use Rattle.dp_diff.specs.Differences.{differences_in};
     ghost use Rattle.dp_diff.specs.steps.Telling.{Tells, writer_of};
@@ -44,7 +44,7 @@ impl<'a> Change<'a> {
     {
         let before = Searcher::new(alloc, before)?;
         let after = Searcher::new(alloc, after)?;
-        Ok(Change {
+        Ok(ComparedPlans {
             alloc,
             before,
             after,
@@ -73,7 +73,7 @@ impl<'a> Change<'a> {
 fn tell_contexts<W: WriteTold>(
     sheet: &mut Sheet,
     writer: &mut W,
-    change: &mut Change<'_>,
+    change: &mut ComparedPlans<'_>,
     contexts: &[Context],
 ) -> Result<(), DiffFault>
     ensures tells { Tells (writer_of (W.contents writer.old) (W.has_failed writer.old)) sheet.old
@@ -91,7 +91,7 @@ fn tell_contexts<W: WriteTold>(
 fn tell_new_context<W: WriteTold>(
     sheet: &mut Sheet,
     writer: &mut W,
-    change: &mut Change<'_>,
+    change: &mut ComparedPlans<'_>,
     before: &Dialplan,
     context: &Context,
 ) -> Result<(), DiffFault>
@@ -110,7 +110,7 @@ fn tell_new_context<W: WriteTold>(
 fn tell_new_contexts<W: WriteTold>(
     sheet: &mut Sheet,
     writer: &mut W,
-    change: &mut Change<'_>,
+    change: &mut ComparedPlans<'_>,
     before: &Dialplan,
     contexts: &[Context],
 ) -> Result<(), DiffFault>
@@ -138,7 +138,7 @@ fn tell_all<W: WriteTold>(
         (writer_of (W.contents writer.new) (W.has_failed writer.new)) sheet.new
         (spec.differences before.now after.now) result }
 {
-    let mut change = Change::new(alloc, before, after)?;
+    let mut change = ComparedPlans::new(alloc, before, after)?;
     tell_contexts(sheet, writer, &mut change, before.contexts())?;
     tell_new_contexts(sheet, writer, &mut change, before, after.contexts())
 }

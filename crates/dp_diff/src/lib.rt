@@ -14,4 +14,4 @@ mod telling;
 pub use diff::write_differences;
 pub use dp_plan::{Dialplan, EntryId, NoMemory};
 pub use fault::DiffFault;
-pub use reaches::{Reach, write_reach_changes};
+pub use reaches::{PlanReach, write_reach_changes};

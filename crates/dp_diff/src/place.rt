@@ -15,11 +15,11 @@ use std::marker::Model;
 /// An entry in a table of places. A contract sees it as the entry. Two of them are equal if their names have one meaning and their
 /// priorities are equal.
 #[derive(Drop)]
-pub(crate) struct Place<'a> {
+pub(crate) struct TablePlace<'a> {
     entry: &'a Entry,
 }
 
-impl<'a> Model for Place<'a> {
+impl<'a> Model for TablePlace<'a> {
     ghost use Rattle.dp_plan.specs.declared.entry.Entry.{Entry};
 
     ghost Value = { Entry };
@@ -27,12 +27,12 @@ impl<'a> Model for Place<'a> {
     ghost view = { λ place. place.entry.now };
 }
 
-impl<'a> Place<'a> {
+impl<'a> TablePlace<'a> {
     /// The place of the entry.
     pub(crate) fn of(entry: &'a Entry) -> Self
         ensures { result ≡ entry.now }
     {
-        Place { entry }
+        TablePlace { entry }
     }
 
     /// The entry.
@@ -43,7 +43,7 @@ impl<'a> Place<'a> {
     }
 }
 
-impl<'a> PartialEq for Place<'a> {
+impl<'a> PartialEq for TablePlace<'a> {
     ghost eq = { shares_place };
 
     ghost laws = { partial_equiv_from_equiv shares_place_equiv };
@@ -54,11 +54,11 @@ impl<'a> PartialEq for Place<'a> {
     }
 }
 
-impl<'a> Eq for Place<'a> {
+impl<'a> Eq for TablePlace<'a> {
     ghost laws = { shares_place_equiv };
 }
 
-impl<'a> Hash for Place<'a> {
+impl<'a> Hash for TablePlace<'a> {
     ghost hash_input = { λ place. fed.slice fed.u8 (spelling place.name) ++ fed.u32 place.priority };
 
     ghost respects_eq = { Prim.search (hashing, rules) };

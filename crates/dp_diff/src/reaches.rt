@@ -6,7 +6,7 @@ ghost use Rattle.indexmap.specs.IndexSet.{insert_all};
 ghost use Rattle.dp_conf.specs.Fronts.{AppendsFront};
 ghost use Rattle.dp_diff.specs.Faults.{is_write_failed};
 ghost use Rattle.dp_diff.specs.Reaches as spec;
-ghost use Rattle.dp_diff.specs.steps.Reaching.{seen};
+ghost use Rattle.dp_diff.specs.steps.Reaching.{reach_of_table};
 
 use crate::fault::DiffFault;
 use dp_conf::WriteTold;
@@ -16,7 +16,7 @@ use std::alloc::Global;
 
 /// A dialplan, and the entries of it that a call may run.
 #[derive(Clone, Copy)]
-pub struct Reach<'a> {
+pub struct PlanReach<'a> {
     pub plan: &'a Dialplan,
     pub entries: &'a [EntryId],
 }
@@ -40,8 +40,8 @@ fn numbers_of(alloc: Global, entries: &[EntryId]) -> Result<IndexSet<usize>, NoM
 }
 
 /// The contexts that a call reaches. It fails only if memory runs out.
-fn table_of<'a>(alloc: Global, reach: Reach<'a>) -> Result<ReachTable<'a>, NoMemory>
-    ensures { IfOk result (λ table. seen table ≡ spec.reach_now reach.entry) }
+fn table_of<'a>(alloc: Global, reach: PlanReach<'a>) -> Result<ReachTable<'a>, NoMemory>
+    ensures { IfOk result (λ table. reach_of_table table ≡ spec.reach_now reach.entry) }
 {
     let numbers = numbers_of(alloc, reach.entries)?;
     Ok(ReachTable {
@@ -52,7 +52,7 @@ fn table_of<'a>(alloc: Global, reach: Reach<'a>) -> Result<ReachTable<'a>, NoMem
 
 /// Whether a call reaches the context with this name.
 fn reaches(table: &ReachTable<'_>, name: &Text) -> bool
-    ensures { result ≡ spec.reaches (seen table.now) name.now }
+    ensures { result ≡ spec.reaches (reach_of_table table.now) name.now }
 {
     match table.plan.number_of(name) {
         Some(number) => table.numbers.contains(&number),
@@ -79,8 +79,8 @@ fn push_if_only(
     name: &Text,
 ) -> Result<bool, NoMemory>
     ensures line { OnOk result (out.new.items ≡ out.old.items
-        ++ (if spec.reaches_only (seen one.now) (seen other.now) name.now then spec.reach_line sign.now name.now else [])) }
-    ensures is { IfOk result (λ is. is ≡ spec.reaches_only (seen one.now) (seen other.now) name.now) }
+        ++ (if spec.reaches_only (reach_of_table one.now) (reach_of_table other.now) name.now then spec.reach_line sign.now name.now else [])) }
+    ensures is { IfOk result (λ is. is ≡ spec.reaches_only (reach_of_table one.now) (reach_of_table other.now) name.now) }
 {
     if reaches(one, name) && !reaches(other, name) {
         push_line(out, sign, name)?;
@@ -98,8 +98,8 @@ fn push_only(
     other: &ReachTable<'_>,
 ) -> Result<usize, NoMemory>
     ensures lines { OnOk result (out.new.items ≡ out.old.items
-        ++ flat_map (spec.reach_line sign.now) (spec.only_reached (seen one.now) (seen other.now))) }
-    ensures count { IfOk result (λ count. count ≡ length (spec.only_reached (seen one.now) (seen other.now))) }
+        ++ flat_map (spec.reach_line sign.now) (spec.only_reached (reach_of_table one.now) (reach_of_table other.now))) }
+    ensures count { IfOk result (λ count. count ≡ length (spec.only_reached (reach_of_table one.now) (reach_of_table other.now))) }
 {
     let mut count = 0;
     for context in one.plan.contexts() {
@@ -112,7 +112,11 @@ fn push_only(
 
 /// The lines of the changes, and how many these are.
 #[tactic(auto, unfolding(crate::specs::Reaches::reach_text))]
-fn lines_of(alloc: Global, before: Reach<'_>, after: Reach<'_>) -> Result<(Vec<u8>, u64), NoMemory>
+fn lines_of(
+    alloc: Global,
+    before: PlanReach<'_>,
+    after: PlanReach<'_>,
+) -> Result<(Vec<u8>, u64), NoMemory>
     ensures lines { IfOk result (λ lines. lines.0.items ≡ spec.reach_text (spec.reach_now before.entry) (spec.reach_now after.entry)) }
     ensures count { IfOk result (λ lines. lines.1
         ≡ min (spec.reach_count (spec.reach_now before.entry) (spec.reach_now after.entry)) (2 ^ 64 - 1)) }
@@ -138,8 +142,8 @@ fn lines_of(alloc: Global, before: Reach<'_>, after: Reach<'_>) -> Result<(Vec<u
 /// prefix of the lines is written. It is `NoMemory` if memory runs out; then nothing is written.
 pub fn write_reach_changes<W: WriteTold>(
     alloc: Global,
-    before: Reach<'_>,
-    after: Reach<'_>,
+    before: PlanReach<'_>,
+    after: PlanReach<'_>,
     writer: &mut W,
 ) -> Result<u64, DiffFault>
     ensures ok { OnOk result (Appends (W.contents writer.old) (W.contents writer.new)

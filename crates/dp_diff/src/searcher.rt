@@ -6,7 +6,7 @@ ghost use Rattle.dp_lookup.specs.FoundEntry.{entries_at};
 ghost use Rattle.dp_plan.specs.Ranking.{shares_place};
 ghost use Rattle.dp_diff.specs.Answering.{answering};
 
-use crate::place::Place;
+use crate::place::TablePlace;
 use dp_lookup::SearchOrder;
 use dp_plan::{Dialplan, Entry, NoMemory, Text};
 use indexmap::IndexSet;
@@ -43,11 +43,14 @@ fn entries_at(plan: &Dialplan, number: usize) -> &[Entry]
 }
 
 /// Adds the entries whose place is free.
-fn add_entries<'a>(places: &mut IndexSet<Place<'a>>, entries: &'a [Entry]) -> Result<(), NoMemory>
+fn add_entries<'a>(
+    places: &mut IndexSet<TablePlace<'a>>,
+    entries: &'a [Entry],
+) -> Result<(), NoMemory>
     ensures { OnOk result (places.new.keys ≡ insert_all shares_place places.old.keys entries.now) }
 {
     for entry in entries {
-        places.insert(Place::of(entry))?;
+        places.insert(TablePlace::of(entry))?;
     }
     Ok(())
 }
@@ -57,7 +60,7 @@ fn places_in<'a>(
     alloc: Global,
     plan: &'a Dialplan,
     order: &[usize],
-) -> Result<IndexSet<Place<'a>>, NoMemory>
+) -> Result<IndexSet<TablePlace<'a>>, NoMemory>
     ensures { IfOk result (λ places. places.keys ≡ insert_all shares_place [] (flat_map (entries_at plan.now) order.now)) }
 {
     let mut places = IndexSet::new(alloc);
@@ -82,7 +85,7 @@ impl<'a> Searcher<'a> {
         &mut self,
         alloc: Global,
         context: &Text,
-    ) -> Result<IndexSet<Place<'a>>, NoMemory>
+    ) -> Result<IndexSet<TablePlace<'a>>, NoMemory>
         ensures places { IfOk result (λ places. places.keys ≡ answering self.old context.now) }
         ensures same { self.new ≡ self.old }
     {

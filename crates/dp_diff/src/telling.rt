@@ -6,7 +6,7 @@ ghost use Rattle.dp_diff.specs.Differences as spec;
 ghost use Rattle.dp_diff.specs.steps.Telling.{Tells, writer_of};
 
 use crate::fault::DiffFault;
-use crate::place::Place;
+use crate::place::TablePlace;
 use crate::sheet::Sheet;
 use dp_conf::{WriteTold, same_word};
 use dp_plan::{Entry, Text};
@@ -31,7 +31,7 @@ fn is_kept(entry: &Entry, other: Option<&Entry>) -> bool
 }
 
 /// The entry that answers at the place, if one does.
-fn find<'a>(places: &IndexSet<Place<'a>>, place: &Place<'a>) -> Option<&'a Entry>
+fn find<'a>(places: &IndexSet<TablePlace<'a>>, place: &TablePlace<'a>) -> Option<&'a Entry>
     ensures { option_copied result ≡ lists.find (shares_place place.now) places.now.keys }
 {
     let found = places.get(place)?;
@@ -43,12 +43,12 @@ fn tell_changed<'a, W: WriteTold>(
     sheet: &mut Sheet,
     writer: &mut W,
     context: &Text,
-    after: &IndexSet<Place<'a>>,
-    place: &Place<'a>,
+    after: &IndexSet<TablePlace<'a>>,
+    place: &TablePlace<'a>,
 ) -> Result<(), DiffFault>
     ensures { Tells (writer_of (W.contents writer.old) (W.has_failed writer.old)) sheet.old
         (writer_of (W.contents writer.new) (W.has_failed writer.new)) sheet.new
-        (spec.changed context.now after.now.keys place.now) result }
+        (spec.change_at context.now after.now.keys place.now) result }
 {
     let entry = place.entry();
     let other = find(after, place);
@@ -63,12 +63,12 @@ fn tell_added<'a, W: WriteTold>(
     sheet: &mut Sheet,
     writer: &mut W,
     context: &Text,
-    before: &IndexSet<Place<'a>>,
-    place: &Place<'a>,
+    before: &IndexSet<TablePlace<'a>>,
+    place: &TablePlace<'a>,
 ) -> Result<(), DiffFault>
     ensures { Tells (writer_of (W.contents writer.old) (W.has_failed writer.old)) sheet.old
         (writer_of (W.contents writer.new) (W.has_failed writer.new)) sheet.new
-        (spec.added context.now before.now.keys place.now) result }
+        (spec.addition_at context.now before.now.keys place.now) result }
 {
     if before.contains(place) {
         return Ok(());
@@ -81,12 +81,12 @@ fn tell_all_changed<'a, W: WriteTold>(
     sheet: &mut Sheet,
     writer: &mut W,
     context: &Text,
-    before: &[Place<'a>],
-    after: &IndexSet<Place<'a>>,
+    before: &[TablePlace<'a>],
+    after: &IndexSet<TablePlace<'a>>,
 ) -> Result<(), DiffFault>
     ensures { Tells (writer_of (W.contents writer.old) (W.has_failed writer.old)) sheet.old
         (writer_of (W.contents writer.new) (W.has_failed writer.new)) sheet.new
-        (lists.flat_map (spec.changed context.now after.now.keys) before.now) result }
+        (lists.flat_map (spec.change_at context.now after.now.keys) before.now) result }
 {
     for place in before {
         tell_changed(sheet, writer, context, after, place)?;
@@ -99,12 +99,12 @@ fn tell_all_added<'a, W: WriteTold>(
     sheet: &mut Sheet,
     writer: &mut W,
     context: &Text,
-    before: &IndexSet<Place<'a>>,
-    after: &[Place<'a>],
+    before: &IndexSet<TablePlace<'a>>,
+    after: &[TablePlace<'a>],
 ) -> Result<(), DiffFault>
     ensures { Tells (writer_of (W.contents writer.old) (W.has_failed writer.old)) sheet.old
         (writer_of (W.contents writer.new) (W.has_failed writer.new)) sheet.new
-        (lists.flat_map (spec.added context.now before.now.keys) after.now) result }
+        (lists.flat_map (spec.addition_at context.now before.now.keys) after.now) result }
 {
     for place in after {
         tell_added(sheet, writer, context, before, place)?;
@@ -117,8 +117,8 @@ pub(crate) fn tell_between<'a, W: WriteTold>(
     sheet: &mut Sheet,
     writer: &mut W,
     context: &Text,
-    before: &IndexSet<Place<'a>>,
-    after: &IndexSet<Place<'a>>,
+    before: &IndexSet<TablePlace<'a>>,
+    after: &IndexSet<TablePlace<'a>>,
 ) -> Result<(), DiffFault>
     ensures { Tells (writer_of (W.contents writer.old) (W.has_failed writer.old)) sheet.old
         (writer_of (W.contents writer.new) (W.has_failed writer.new)) sheet.new

@@ -2,7 +2,7 @@
 use dp_case_tables::{Question, bytes_of, check, check_same};
 use dp_commands::{ScriptLine, Turn, read_script};
 use dp_machine::{Dialplan, Event, Machine, NoMemory, Queues, Reply};
-use dp_machine_fixture::{Exchange, call, push_state, push_value};
+use dp_machine_fixture::{StandardMachine, call, push_state, push_value};
 use std::alloc::Global;
 use std::str;
 use std::test::Fail;
@@ -64,7 +64,7 @@ const NAMES: &str =
 fn push_values(
     out: &mut String,
     alloc: Global,
-    machine: &Exchange,
+    machine: &StandardMachine,
     channel: u32,
 ) -> Result<(), NoMemory> {
     for name in NAMES.split(' ') {
@@ -77,7 +77,7 @@ fn push_values(
 fn push_channel(
     out: &mut String,
     alloc: Global,
-    machine: &Exchange,
+    machine: &StandardMachine,
     channel: u32,
 ) -> Result<(), NoMemory> {
     let entry = machine.next_entry(alloc, channel)?;
@@ -97,7 +97,7 @@ fn push_queues(out: &mut String, queues: &Queues) -> Result<(), NoMemory> {
 }
 
 /// What each reader of the machine says about channels 0 to 3, the queues and the dialplan in force.
-fn readers_of(alloc: Global, machine: &Exchange) -> Result<String, NoMemory> {
+fn readers_of(alloc: Global, machine: &StandardMachine) -> Result<String, NoMemory> {
     let mut out = String::new(alloc);
     for channel in 0..4 {
         push_channel(&mut out, alloc, machine, channel)?;
@@ -108,7 +108,7 @@ fn readers_of(alloc: Global, machine: &Exchange) -> Result<String, NoMemory> {
 }
 
 /// Asserts that each reader says what it said before.
-fn check_readers(alloc: Global, machine: &Exchange, before: &str) -> Result<(), Fail> {
+fn check_readers(alloc: Global, machine: &StandardMachine, before: &str) -> Result<(), Fail> {
     let after = readers_of(alloc, machine)?;
     check_same("a refused event", &after, before)
 }
@@ -116,7 +116,7 @@ fn check_readers(alloc: Global, machine: &Exchange, before: &str) -> Result<(), 
 /// Gives an event again after memory ran out, now with enough memory.
 fn give_again(
     alloc: Global,
-    machine: &mut Exchange,
+    machine: &mut StandardMachine,
     event: &Event,
     before: &str,
 ) -> Result<Reply, Fail> {
@@ -126,7 +126,12 @@ fn give_again(
 }
 
 /// Gives an event, and again if memory runs out. What is refused, because of memory or by its reply, changes nothing.
-fn give(alloc: Global, machine: &mut Exchange, event: &Event, before: &str) -> Result<Reply, Fail> {
+fn give(
+    alloc: Global,
+    machine: &mut StandardMachine,
+    event: &Event,
+    before: &str,
+) -> Result<Reply, Fail> {
     let once = event.copy()?;
     let reply = match machine.apply(alloc, once) {
         Ok(reply) => reply,
@@ -149,7 +154,7 @@ fn push_reply(out: &mut String, reply: Reply) -> Result<(), NoMemory> {
 pub(crate) fn push_given(
     out: &mut String,
     alloc: Global,
-    machine: &mut Exchange,
+    machine: &mut StandardMachine,
     event: &Event,
 ) -> Result<(), Fail> {
     let before = readers_of(alloc, machine)?;
@@ -161,7 +166,7 @@ pub(crate) fn push_given(
 fn push_shown(
     out: &mut String,
     alloc: Global,
-    machine: &Exchange,
+    machine: &StandardMachine,
     channel: u32,
     name: &str,
 ) -> Result<(), NoMemory> {
@@ -173,7 +178,7 @@ fn push_shown(
 fn push_turn(
     out: &mut String,
     alloc: Global,
-    machine: &mut Exchange,
+    machine: &mut StandardMachine,
     turn: &Turn,
 ) -> Result<(), Fail> {
     match turn {
@@ -189,7 +194,7 @@ fn push_turn(
 fn push_line(
     out: &mut String,
     alloc: Global,
-    machine: &mut Exchange,
+    machine: &mut StandardMachine,
     line: &ScriptLine,
 ) -> Result<(), Fail> {
     for _turn in 0..line.count {
@@ -201,7 +206,7 @@ fn push_line(
 pub(crate) fn push_lines(
     out: &mut String,
     alloc: Global,
-    machine: &mut Exchange,
+    machine: &mut StandardMachine,
     lines: &[ScriptLine],
 ) -> Result<(), Fail> {
     for line in lines {
@@ -211,7 +216,7 @@ pub(crate) fn push_lines(
 }
 
 /// Lets this number of calls come in.
-fn start_calls(alloc: Global, machine: &mut Exchange, count: u32) -> Result<(), NoMemory> {
+fn start_calls(alloc: Global, machine: &mut StandardMachine, count: u32) -> Result<(), NoMemory> {
     for _call in 0..count {
         machine.apply(alloc, call(alloc, b"main", b"s", b"")?)?;
     }
@@ -222,7 +227,7 @@ fn start_calls(alloc: Global, machine: &mut Exchange, count: u32) -> Result<(), 
 /// channels.
 fn end_again(
     alloc: Global,
-    machine: &mut Exchange,
+    machine: &mut StandardMachine,
     calls: u32,
     second: &[u8],
     script: &[u8],
@@ -237,7 +242,11 @@ fn end_again(
     Ok(out)
 }
 
-pub(crate) fn machine_of(alloc: Global, plan: &[u8], queues: &[u8]) -> Result<Exchange, Fail> {
+pub(crate) fn machine_of(
+    alloc: Global,
+    plan: &[u8],
+    queues: &[u8],
+) -> Result<StandardMachine, Fail> {
     let (plan, _) = Dialplan::load(alloc, plan)?;
     let queues = Queues::load(alloc, queues)?;
     let machine = Machine::new(alloc, plan, queues)?;

@@ -2,7 +2,7 @@
 use dp_case_tables::{check_same, check_that};
 use dp_debug::{Break, Debugger, Event, Halt, Place, Text, Why};
 use dp_machine::{Exten, NoMemory};
-use dp_machine_fixture::{Checked, Exchange, call, check_on, state_of};
+use dp_machine_fixture::{Checked, StandardMachine, call, check_on, state_of};
 use std::alloc::Global;
 use std::test::Fail;
 
@@ -20,7 +20,7 @@ const STATES: &str = "ready main,100,1;ready main,100,2;ready main,200,1;ended m
 fn check_halt(
     alloc: Global,
     debugger: &Debugger,
-    machine: &Exchange,
+    machine: &StandardMachine,
     taken: usize,
 ) -> Result<(), Fail> {
     check_that(debugger.trace().len() == taken, "a reply to each step")?;
@@ -49,7 +49,7 @@ fn break_at_once(alloc: Global) -> Result<Break, NoMemory> {
 fn resume_again(
     alloc: Global,
     debugger: &mut Debugger,
-    machine: &mut Exchange,
+    machine: &mut StandardMachine,
     events: &[Event],
     breaks: &[Break],
 ) -> Result<Halt, Fail> {
@@ -65,7 +65,7 @@ fn resume_again(
 fn check_run(
     alloc: Global,
     debugger: &mut Debugger,
-    machine: &mut Exchange,
+    machine: &mut StandardMachine,
     events: &[Event],
     breaks: &[Break],
 ) -> Result<(), Fail> {
@@ -85,17 +85,17 @@ fn check_run(
     check_halt(alloc, debugger, machine, 3)
 }
 
-fn check_steps(alloc: Global, machine: &mut Exchange, breaks: &[Break]) -> Result<(), Fail> {
+fn check_steps(alloc: Global, machine: &mut StandardMachine, breaks: &[Break]) -> Result<(), Fail> {
     let events = steps(alloc)?;
     let mut debugger = Debugger::new(alloc);
     check_run(alloc, &mut debugger, machine, &events, breaks)
 }
 
 /// Debugs the call of the row.
-struct Debugged;
+struct DebuggedCall;
 
-impl Checked for Debugged {
-    fn check(alloc: Global, machine: &mut Exchange) -> Result<(), Fail> {
+impl Checked for DebuggedCall {
+    fn check(alloc: Global, machine: &mut StandardMachine) -> Result<(), Fail> {
         machine.apply(alloc, call(alloc, b"main", b"100", b"")?)?;
         let breaks = [break_at_once(alloc)?];
         check_steps(alloc, machine, &breaks)
@@ -104,5 +104,5 @@ impl Checked for Debugged {
 
 #[test]
 fn a_debugged_run_resumes_after_no_memory(rt: HostRuntime) -> Result<(), Fail> {
-    check_on::<Debugged>(rt.alloc(), PLAN)
+    check_on::<DebuggedCall>(rt.alloc(), PLAN)
 }

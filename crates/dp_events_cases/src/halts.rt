@@ -3,7 +3,7 @@ use dp_case_tables::{Question, bytes_of, check};
 use dp_conf::read_number;
 use dp_debug::{Break, Debugger, Event, NoMemory, Place, Text};
 use dp_machine::Exten;
-use dp_machine_fixture::{Ask, Exchange, answer_on, call};
+use dp_machine_fixture::{AskMachine, StandardMachine, answer_on, call};
 use std::alloc::Global;
 use std::test::Fail;
 
@@ -89,7 +89,7 @@ fn steps(alloc: Global, count: u32) -> Result<Vec<Event>, NoMemory> {
 /// The halts of the calls, and the number of replies in the trace after them.
 fn halts_of(
     alloc: Global,
-    machine: &mut Exchange,
+    machine: &mut StandardMachine,
     events: &[Event],
     breaks: &[Break],
     calls: &str,
@@ -113,8 +113,8 @@ fn halts_of(
 /// Where the calls of a case halt, without its dialplan.
 struct HaltsOn;
 
-impl Ask for HaltsOn {
-    fn answer(alloc: Global, machine: &mut Exchange, asked: &str) -> Result<String, Fail> {
+impl AskMachine for HaltsOn {
+    fn answer(alloc: Global, machine: &mut StandardMachine, asked: &str) -> Result<String, Fail> {
         let (breaks, rest) = asked.split_once('¦').ok_or("no steps")?;
         let (count, calls) = rest.split_once('¦').ok_or("no calls")?;
         let call = call(alloc, b"main", b"100", b"")?;

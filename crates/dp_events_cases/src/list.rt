@@ -28,9 +28,9 @@ fn listing_of(alloc: Global, text: &[u8]) -> Result<String, Fail> {
 }
 
 /// The listing of a dialplan.
-struct Listed;
+struct ListedPlan;
 
-impl Question for Listed {
+impl Question for ListedPlan {
     fn answer(alloc: Global, asked: &str) -> Result<String, Fail> {
         let text = bytes_of(alloc, asked)?;
         listing_of(alloc, &text)
@@ -39,5 +39,5 @@ impl Question for Listed {
 
 #[test]
 fn a_listing_is_retried_after_no_memory(rt: HostRuntime) -> Result<(), Fail> {
-    check::<Listed>(rt.alloc(), LISTED)
+    check::<ListedPlan>(rt.alloc(), LISTED)
 }

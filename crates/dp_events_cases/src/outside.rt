@@ -4,7 +4,7 @@ use crate::again::{machine_of, push_given, push_lines};
 use dp_case_tables::{Question, bytes_of, check};
 use dp_commands::read_script;
 use dp_machine::{Event, Exten, NoMemory, Place, Text};
-use dp_machine_fixture::{Exchange, push_state};
+use dp_machine_fixture::{StandardMachine, push_state};
 use std::alloc::Global;
 use std::str;
 use std::test::Fail;
@@ -87,7 +87,7 @@ fn send_event(alloc: Global, words: &str) -> Result<Event, Fail> {
 fn push_script_line(
     out: &mut String,
     alloc: Global,
-    machine: &mut Exchange,
+    machine: &mut StandardMachine,
     line: &str,
 ) -> Result<(), Fail> {
     let lines = read_script(alloc, None, line.as_bytes())?;
@@ -98,7 +98,7 @@ fn push_script_line(
 fn push_line(
     out: &mut String,
     alloc: Global,
-    machine: &mut Exchange,
+    machine: &mut StandardMachine,
     line: &str,
 ) -> Result<(), Fail> {
     match line.split_once(' ') {
@@ -111,7 +111,7 @@ fn push_line(
 fn push_lines_of(
     out: &mut String,
     alloc: Global,
-    machine: &mut Exchange,
+    machine: &mut StandardMachine,
     script: &str,
 ) -> Result<(), Fail> {
     for line in script.lines() {
@@ -120,7 +120,7 @@ fn push_lines_of(
     Ok(())
 }
 
-fn push_states(out: &mut String, machine: &Exchange) -> Result<(), NoMemory> {
+fn push_states(out: &mut String, machine: &StandardMachine) -> Result<(), NoMemory> {
     push_state(out, machine, 1)?;
     out.push_str(", ")?;
     push_state(out, machine, 2)

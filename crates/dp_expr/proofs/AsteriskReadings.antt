@@ -9,8 +9,8 @@ use Rattle.dp_expr.specs.declared.reading.ExpressionReading.{ExpressionReading}
 use Rattle.dp_expr.specs.declared.reading.ExpressionReading.TheVariants.{Value, Zero, Unknown}
 use Rattle.dp_expr.specs.AsteriskReading.{is_fraction_token, is_unknown_text, outcome_reading, tree_reading, tokens_reading, asterisk_reading, has_fraction, reading_of, fault_reading, reading_without_tree}
 use Rattle.dp_expr.specs.Quotients.{has_cut_quotient}
-use Rattle.dp_expr.specs.Tokens.{Token, Sign, Closing, tokens_of}
-use Rattle.dp_expr.specs.Trees.{Tree, Leaf, Group, Before, Between, IsReading, spelling}
+use Rattle.dp_expr.specs.Tokens.{TokenOf, Sign, Closing, tokens_of}
+use Rattle.dp_expr.specs.Trees.{Tree, Leaf, Group, Before, Between, IsTreeReading, spelling}
 use Rattle.dp_expr.specs.Values.{Outcome, value_of}
 use Rattle.dp_expr.specs.Walk.{Wanting, walk, ending, trees, values}
 use Rattle.dp_expr.specs.steps.Exact.{values_by}
@@ -38,25 +38,25 @@ has_fraction-spelling (Between operator left right) =
     ∙ (λ i. has_fraction-spelling left i || has_fraction-spelling right i)
 
 -- the reading of tokens with a tree is that of the tree
-tokens_reading-tree : (tokens : List Token) (tree : Tree) → IsReading tokens tree → tokens_reading tokens ≡ tree_reading (Some tree)
+tokens_reading-tree : (tokens : List TokenOf) (tree : Tree) → IsTreeReading tokens tree → tokens_reading tokens ≡ tree_reading (Some tree)
 unfolding walk ending
 tokens_reading-tree [] tree reading = let e = walk-tree [] tree reading in cc
 tokens_reading-tree (token ∷ tokens) tree reading = ap tree_reading (walk-tree (token ∷ tokens) tree reading)
 
 -- and so is that of a text
-pub asterisk_reading-tree : (text : List ℕ) (tree : Tree) → IsReading (tokens_of text) tree → asterisk_reading text ≡ reading_of tree
+pub asterisk_reading-tree : (text : List ℕ) (tree : Tree) → IsTreeReading (tokens_of text) tree → asterisk_reading text ≡ reading_of tree
 unfolding asterisk_reading
 asterisk_reading-tree text tree reading =
     let fractions = ap (list_any is_fraction_token) reading.spelling ∙ has_fraction-spelling tree in
     (λ i. cond (has_foreign_mark-reading text tree reading i || fractions i) Unknown (tokens_reading-tree (tokens_of text) tree reading i))
 
 -- tokens without a tree are a fault, unless there are none at all
-tokens_reading-none : (tokens : List Token) → ((tree : Tree) → ¬ (IsReading tokens tree)) → tokens_reading tokens ≡ fault_reading tokens
+tokens_reading-none : (tokens : List TokenOf) → ((tree : Tree) → ¬ (IsTreeReading tokens tree)) → tokens_reading tokens ≡ fault_reading tokens
 tokens_reading-none [] none = refl
 tokens_reading-none (token ∷ tokens) none = ap tree_reading (walk-no_tree (token ∷ tokens) none)
 
 -- and so is a text
-pub asterisk_reading-none : (text : List ℕ) → ((tree : Tree) → ¬ (IsReading (tokens_of text) tree)) → asterisk_reading text ≡ reading_without_tree text
+pub asterisk_reading-none : (text : List ℕ) → ((tree : Tree) → ¬ (IsTreeReading (tokens_of text) tree)) → asterisk_reading text ≡ reading_without_tree text
 unfolding asterisk_reading
 asterisk_reading-none text none =
     ap (λ r. cond (is_unknown_text text) Unknown r) (tokens_reading-none (tokens_of text) none)
@@ -72,7 +72,7 @@ unfolding asterisk_reading
 asterisk_reading-blank text known none = (λ i. cond (known i) Unknown (tokens_reading (none i)))
 
 -- any other text
-pub asterisk_reading-tokens : (text : List ℕ) (token : Token) (tokens : List Token) → is_unknown_text text ≡ false → tokens_of text ≡ token ∷ tokens → asterisk_reading text ≡ tree_reading (walk trees (Wanting []) (tokens_of text))
+pub asterisk_reading-tokens : (text : List ℕ) (token : TokenOf) (tokens : List TokenOf) → is_unknown_text text ≡ false → tokens_of text ≡ token ∷ tokens → asterisk_reading text ≡ tree_reading (walk trees (Wanting []) (tokens_of text))
 unfolding asterisk_reading
 asterisk_reading-tokens text token tokens known some =
     (λ i. cond (known i) Unknown (tokens_reading (some i)))
@@ -97,7 +97,7 @@ tree_reading-by (Some tree) =
     ∙ sym (λ i. reading_by (is_some ((made_of-exact tree ∙ exact_value_of-cut tree) i)) (is_some (made_of-values tree i)))
 
 -- the same for tokens, given two walks
-pub tree_reading-walk : (tokens : List Token) → tree_reading (walk trees (Wanting []) tokens) ≡ reading_by (is_some (unwrap_or (walk (values_by Exact) (Wanting []) tokens) None)) (is_some (unwrap_or (walk (values_by Cut) (Wanting []) tokens) None))
+pub tree_reading-walk : (tokens : List TokenOf) → tree_reading (walk trees (Wanting []) tokens) ≡ reading_by (is_some (unwrap_or (walk (values_by Exact) (Wanting []) tokens) None)) (is_some (unwrap_or (walk (values_by Cut) (Wanting []) tokens) None))
 tree_reading-walk tokens =
     tree_reading-by (walk trees (Wanting []) tokens)
     ∙ sym (λ i. reading_by (is_some (unwrap_or (walk-trees (values_by Exact) tokens i) None)) (is_some (unwrap_or (walk-trees values tokens i) None)))

@@ -3,9 +3,9 @@ use Rattle.std.proofs.Common.{◌≡◌, ℕ, suc, ◌+◌, ◌<◌, ◌≤◌, 
 use Rattle.std.proofs.lemmas.Bool.Decides.{nat_tests}
 use Rattle.dp_expr.specs.declared.operator.Prefix.{Prefix}
 use Rattle.dp_expr.specs.declared.operator.Prefix.TheVariants.{Negate, Not}
-use Rattle.dp_expr.specs.Tokens.{Token, Sign, Closing}
-use Rattle.dp_expr.specs.Trees.{Tree, Leaf, Group, Before, Between, level_of, unary_level, IsGrouped, IsReading, depth_of, most_depth, spelling, prefix_token}
-use Rattle.dp_expr.specs.Walk.{Making, Frame, Left, Front, Paren, State, Wanting, Holding, nesting, Held, reduction, entry, first_step, operator_step, step, ending, walk}
+use Rattle.dp_expr.specs.Tokens.{TokenOf, Sign, Closing}
+use Rattle.dp_expr.specs.Trees.{Tree, Leaf, Group, Before, Between, level_of, unary_level, IsGrouped, IsTreeReading, depth_of, most_depth, spelling, prefix_token}
+use Rattle.dp_expr.specs.Walk.{Making, FrameOf, Left, Front, Paren, State, Wanting, Holding, nesting, Held, reduction, entry, first_step, operator_step, step, ending, walk}
 use Rattle.dp_expr.proofs.Reducing.{IsBelow, Follows, IsBelow-le, Follows-le, Follows-unary, is_due-le, reduction-below, walk-due}
 
 -- what is made of a tree
@@ -16,22 +16,22 @@ made_of make (Before prefix operand) = make.before prefix (made_of make operand)
 made_of make (Between operator left right) = make.between operator (made_of make left) (made_of make right)
 
 -- a frame is opened if fewer than the greatest number are nested
-pub entry-lt : {X : Type 0} (frame : Frame X) (frames : List (Frame X)) → nesting frames < most_depth → entry frame frames ≡ Wanting (frame ∷ frames)
+pub entry-lt : {X : Type 0} (frame : FrameOf X) (frames : List (FrameOf X)) → nesting frames < most_depth → entry frame frames ≡ Wanting (frame ∷ frames)
 entry-lt frame frames lt = rw (let less : nat_lt (nesting frames) most_depth ≡ true = grind (arith, nat_tests) in less)
 
 -- the token of a unary operator opens its frame
-first_step-prefix : {X : Type 0} (make : Making X) (prefix : Prefix) (frames : List (Frame X)) → first_step make frames (prefix_token prefix) ≡ entry (Front prefix) frames
+first_step-prefix : {X : Type 0} (make : Making X) (prefix : Prefix) (frames : List (FrameOf X)) → first_step make frames (prefix_token prefix) ≡ entry (Front prefix) frames
 first_step-prefix make Negate frames = refl
 first_step-prefix make Not frames = refl
 
 module _ {X : Type 0} (make : Making X) where
   -- a closing parenthesis above its own frame closes it
-  walk-closing : (frames : List (Frame X)) (x : X) (rest : List Token) → walk make (Holding (Paren ∷ frames) x) (Closing ∷ rest) ≡ walk make (Holding frames (make.group x)) rest
+  walk-closing : (frames : List (FrameOf X)) (x : X) (rest : List TokenOf) → walk make (Holding (Paren ∷ frames) x) (Closing ∷ rest) ≡ walk make (Holding frames (make.group x)) rest
   unfolding walk step reduction
   walk-closing frames x rest = refl
 
   -- a walk over the tokens of a tree has made the tree, as far as the tokens after it can tell
-  pub walk-spelling : (tree : Tree) (n : ℕ) (frames : List (Frame X)) (rest : List Token) → IsGrouped n tree → IsBelow n frames → nesting frames + depth_of tree ≤ most_depth → Follows n rest → walk make (Wanting frames) (spelling tree ++ rest) ≡ walk make (Holding frames (made_of make tree)) rest
+  pub walk-spelling : (tree : Tree) (n : ℕ) (frames : List (FrameOf X)) (rest : List TokenOf) → IsGrouped n tree → IsBelow n frames → nesting frames + depth_of tree ≤ most_depth → Follows n rest → walk make (Wanting frames) (spelling tree ++ rest) ≡ walk make (Holding frames (made_of make tree)) rest
   unfolding walk step nesting
   walk-spelling (Leaf bytes) n frames rest grouped below shallow follows = refl
   walk-spelling (Group inner) n frames rest grouped below shallow follows =
@@ -52,7 +52,7 @@ module _ {X : Type 0} (make : Making X) where
       ∙ walk-due make n (Left operator (made_of make left)) frames (made_of make right) rest (λ l le. is_due-le l operator (made_of make left) (omega arith)) follows
 
   -- what a walk makes of the tokens of a reading
-  pub walk-reading : (tokens : List Token) (tree : Tree) → IsReading tokens tree → walk make (Wanting []) tokens ≡ Some (made_of make tree)
+  pub walk-reading : (tokens : List TokenOf) (tree : Tree) → IsTreeReading tokens tree → walk make (Wanting []) tokens ≡ Some (made_of make tree)
   unfolding walk ending reduction nesting
   walk-reading tokens tree reading =
       ap (walk make (Wanting [])) (reading.spelling ∙ sym (append-nil (spelling tree)))

@@ -3,11 +3,11 @@ use Rattle.std.proofs.Common.{◌≡◌, ℕ, ◌+◌, ◌-◌, Bool, true, fals
 use Rattle.std.specs.Prelude.{slice_get}
 use Rattle.dp_expr.specs.declared.frame.Frame.{Frame as OpenFrame}
 use Rattle.dp_expr.specs.Values.{Outcome}
-use Rattle.dp_expr.specs.Walk.{Making, Frame, nesting, depth_with, is_due, value_under, reduction}
+use Rattle.dp_expr.specs.Walk.{Making, FrameOf, nesting, depth_with, is_due, value_under, reduction}
 use Rattle.dp_expr.specs.steps.Frames.{frame_seen, frames_above, frames_seen, is_top_due}
 
 -- the last frame is on top, whatever is below
-frames_above-push : (below : List (Frame Outcome)) (frames : List OpenFrame) (frame : OpenFrame) → frames_above below (frames ++ (frame ∷ [])) ≡ frame_seen frame ∷ frames_above below frames
+frames_above-push : (below : List (FrameOf Outcome)) (frames : List OpenFrame) (frame : OpenFrame) → frames_above below (frames ++ (frame ∷ [])) ≡ frame_seen frame ∷ frames_above below frames
 unfolding frames_above
 frames_above-push below [] frame = refl
 frames_above-push below (other ∷ frames) frame = frames_above-push (frame_seen other ∷ below) frames frame
@@ -28,7 +28,7 @@ due_last level None = false
 due_last level (Some frame) = is_due level (frame_seen frame)
 
 -- whether the top is due depends on the last frame
-above_last : (below : List (Frame Outcome)) (level : ℕ) (frame : OpenFrame) (frames : List OpenFrame) → is_top_due level (frames_above below (frame ∷ frames)) ≡ due_last level (slice_get (frame ∷ frames) (length frames))
+above_last : (below : List (FrameOf Outcome)) (level : ℕ) (frame : OpenFrame) (frames : List OpenFrame) → is_top_due level (frames_above below (frame ∷ frames)) ≡ due_last level (slice_get (frame ∷ frames) (length frames))
 unfolding frames_above due_last
 above_last below level frame [] = refl
 above_last below level frame (next ∷ frames) = above_last (frame_seen frame ∷ below) level next frames
@@ -50,7 +50,7 @@ is_top_due-some level (frame ∷ frames) top e =
     above_last [] level frame frames ∙ ap (due_last level) p
 
 -- a frame that is due takes its operand, and one that is not stays
-pub reduction-top : {X : Type 0} (make : Making X) (level : ℕ) (frames more : List (Frame X)) (frame : Frame X) (x : X) → frames ≡ frame ∷ more → is_top_due level frames ≡ true → reduction make level frames x ≡ reduction make level more (value_under make frame x)
+pub reduction-top : {X : Type 0} (make : Making X) (level : ℕ) (frames more : List (FrameOf X)) (frame : FrameOf X) (x : X) → frames ≡ frame ∷ more → is_top_due level frames ≡ true → reduction make level frames x ≡ reduction make level more (value_under make frame x)
 unfolding reduction
 reduction-top make level frames more frame x e due =
     let here : is_due level frame ≡ true = sym (ap (is_top_due level) e) ∙ due in
@@ -58,7 +58,7 @@ reduction-top make level frames more frame x e due =
     ∙ ap (λ b. cond b (reduction make level more (value_under make frame x)) (record { frames = frame ∷ more; value = x })) here
 
 -- if the top is not due everything stays
-pub reduction-settled : {X : Type 0} (make : Making X) (level : ℕ) (frames : List (Frame X)) (x : X) → is_top_due level frames ≡ false → reduction make level frames x ≡ record { frames = frames; value = x }
+pub reduction-settled : {X : Type 0} (make : Making X) (level : ℕ) (frames : List (FrameOf X)) (x : X) → is_top_due level frames ≡ false → reduction make level frames x ≡ record { frames = frames; value = x }
 unfolding reduction
 reduction-settled make level [] x due = refl
 reduction-settled make level (frame ∷ frames) x due =

@@ -2,18 +2,18 @@
 use Rattle.std.proofs.Common.{◌≡◌, ℕ, suc, true, false, cond, List, [], ◌∷◌, refl, ◌∙◌, ap, nat_le, nat_lt, option_map}
 use Rattle.dp_expr.specs.declared.operator.Operator.TheVariants.{Or, And, Equal, NotEqual, LessThan, AtMost, MoreThan, AtLeast, Plus, Minus, Times, Over, Remainder}
 use Rattle.dp_expr.specs.declared.operator.Prefix.TheVariants.{Negate, Not}
-use Rattle.dp_expr.specs.Tokens.{Token, Operand, Sign, Bang, Opening, Closing, Stray}
+use Rattle.dp_expr.specs.Tokens.{TokenOf, Operand, Sign, Bang, Opening, Closing, Stray}
 use Rattle.dp_expr.specs.Trees.{Tree, level_of, most_depth}
-use Rattle.dp_expr.specs.Walk.{Making, Frame, Left, Front, Paren, State, Wanting, Holding, Failed, nesting, Held, reduction, entry, closing, first_step, next_step, operator_step, closing_step, step, whole, whole_of, ending, walk, trees}
+use Rattle.dp_expr.specs.Walk.{Making, FrameOf, Left, Front, Paren, State, Wanting, Holding, Failed, nesting, Held, reduction, entry, closing, first_step, next_step, operator_step, closing_step, step, whole, whole_of, ending, walk, trees}
 use Rattle.dp_expr.proofs.Completeness.{made_of}
 
 module _ {X : Type 0} (make : Making X) where
-  frame_made : Frame Tree → Frame X
+  frame_made : FrameOf Tree → FrameOf X
   frame_made (Left operator left) = Left operator (made_of make left)
   frame_made (Front prefix) = Front prefix
   frame_made Paren = Paren
 
-  frames_made : List (Frame Tree) → List (Frame X)
+  frames_made : List (FrameOf Tree) → List (FrameOf X)
   frames_made [] = []
   frames_made (frame ∷ frames) = frame_made frame ∷ frames_made frames
 
@@ -26,7 +26,7 @@ module _ {X : Type 0} (make : Making X) where
   held_made held = record { frames = frames_made held.frames; value = made_of make held.value }
 
   -- the values in frames do not affect their nesting
-  nesting-made_of : (frames : List (Frame Tree)) → nesting (frames_made frames) ≡ nesting frames
+  nesting-made_of : (frames : List (FrameOf Tree)) → nesting (frames_made frames) ≡ nesting frames
   unfolding nesting frames_made frame_made
   nesting-made_of [] = refl
   nesting-made_of (Left operator left ∷ frames) = nesting-made_of frames
@@ -34,7 +34,7 @@ module _ {X : Type 0} (make : Making X) where
   nesting-made_of (Paren ∷ frames) = ap suc (nesting-made_of frames)
 
   -- frames take their operands in the same way
-  reduction-made_of : (level : ℕ) (frames : List (Frame Tree)) (tree : Tree) → reduction make level (frames_made frames) (made_of make tree) ≡ held_made (reduction trees level frames tree)
+  reduction-made_of : (level : ℕ) (frames : List (FrameOf Tree)) (tree : Tree) → reduction make level (frames_made frames) (made_of make tree) ≡ held_made (reduction trees level frames tree)
   unfolding reduction frames_made frame_made held_made
   reduction-made_of level [] tree = refl
   reduction-made_of level (Left operator left ∷ frames) tree =
@@ -46,7 +46,7 @@ module _ {X : Type 0} (make : Making X) where
   reduction-made_of level (Paren ∷ frames) tree = refl
 
   -- a frame opens in the same way
-  entry-made_of : (frame : Frame Tree) (frames : List (Frame Tree)) → entry (frame_made frame) (frames_made frames) ≡ state_made (entry frame frames)
+  entry-made_of : (frame : FrameOf Tree) (frames : List (FrameOf Tree)) → entry (frame_made frame) (frames_made frames) ≡ state_made (entry frame frames)
   unfolding state_made frames_made
   entry-made_of frame frames =
       rw (nesting-made_of frames)
@@ -56,7 +56,7 @@ module _ {X : Type 0} (make : Making X) where
       ])
 
   -- a parenthesis is closed in the same way
-  closing-made_of : (frames : List (Frame Tree)) (tree : Tree) → closing make (frames_made frames) (made_of make tree) ≡ state_made (closing trees frames tree)
+  closing-made_of : (frames : List (FrameOf Tree)) (tree : Tree) → closing make (frames_made frames) (made_of make tree) ≡ state_made (closing trees frames tree)
   unfolding state_made frames_made frame_made
   closing-made_of [] tree = refl
   closing-made_of (Left operator left ∷ frames) tree = refl
@@ -64,7 +64,7 @@ module _ {X : Type 0} (make : Making X) where
   closing-made_of (Paren ∷ frames) tree = refl
 
   -- a token where an operand is needed
-  first_step-made_of : (frames : List (Frame Tree)) (token : Token) → first_step make (frames_made frames) token ≡ state_made (first_step trees frames token)
+  first_step-made_of : (frames : List (FrameOf Tree)) (token : TokenOf) → first_step make (frames_made frames) token ≡ state_made (first_step trees frames token)
   unfolding state_made frame_made
   first_step-made_of frames (Operand bytes) = refl
   first_step-made_of frames (Sign Or) = refl
@@ -86,7 +86,7 @@ module _ {X : Type 0} (make : Making X) where
   first_step-made_of frames Stray = refl
 
   -- a token after an operand
-  next_step-made_of : (frames : List (Frame Tree)) (tree : Tree) (token : Token) → next_step make (frames_made frames) (made_of make tree) token ≡ state_made (next_step trees frames tree token)
+  next_step-made_of : (frames : List (FrameOf Tree)) (tree : Tree) (token : TokenOf) → next_step make (frames_made frames) (made_of make tree) token ≡ state_made (next_step trees frames tree token)
   unfolding state_made frames_made frame_made held_made
   next_step-made_of frames tree (Operand bytes) = refl
   next_step-made_of frames tree (Sign operator) =
@@ -99,14 +99,14 @@ module _ {X : Type 0} (make : Making X) where
   next_step-made_of frames tree Stray = refl
 
   -- a token in any state
-  step-made_of : (state : State Tree) (token : Token) → step make (state_made state) token ≡ state_made (step trees state token)
+  step-made_of : (state : State Tree) (token : TokenOf) → step make (state_made state) token ≡ state_made (step trees state token)
   unfolding step state_made
   step-made_of (Wanting frames) token = first_step-made_of frames token
   step-made_of (Holding frames tree) token = next_step-made_of frames tree token
   step-made_of Failed token = refl
 
   -- the operand is the whole in the same way
-  whole-made_of : (frames : List (Frame Tree)) (tree : Tree) → whole (frames_made frames) (made_of make tree) ≡ option_map (made_of make) (whole frames tree)
+  whole-made_of : (frames : List (FrameOf Tree)) (tree : Tree) → whole (frames_made frames) (made_of make tree) ≡ option_map (made_of make) (whole frames tree)
   unfolding frames_made
   whole-made_of [] tree = refl
   whole-made_of (frame ∷ frames) tree = refl
@@ -121,13 +121,13 @@ module _ {X : Type 0} (make : Making X) where
   ending-made_of Failed = refl
 
   -- all tokens, starting in a state
-  walk-made_of : (state : State Tree) (tokens : List Token) → walk make (state_made state) tokens ≡ option_map (made_of make) (walk trees state tokens)
+  walk-made_of : (state : State Tree) (tokens : List TokenOf) → walk make (state_made state) tokens ≡ option_map (made_of make) (walk trees state tokens)
   unfolding walk
   walk-made_of state [] = ending-made_of state
   walk-made_of state (token ∷ tokens) =
       ap (λ s. walk make s tokens) (step-made_of state token) ∙ walk-made_of (step trees state token) tokens
 
   -- a walk over all tokens
-  pub walk-trees : (tokens : List Token) → walk make (Wanting []) tokens ≡ option_map (made_of make) (walk trees (Wanting []) tokens)
+  pub walk-trees : (tokens : List TokenOf) → walk make (Wanting []) tokens ≡ option_map (made_of make) (walk trees (Wanting []) tokens)
   unfolding state_made frames_made
   walk-trees tokens = walk-made_of (Wanting []) tokens

@@ -7,8 +7,8 @@ use Rattle.std.proofs.lemmas.List.Folds.{list_any-append}
 use Rattle.dp_expr.specs.declared.operator.Prefix.TheVariants.{Negate, Not}
 use Rattle.dp_expr.specs.Ascii.{exclamation, quote, percent, ampersand, opening_parenthesis, closing_parenthesis, asterisk, plus_sign, minus_sign, slash, colon, question_mark, tilde, less_sign, equals_sign, more_sign, bar}
 use Rattle.dp_expr.specs.AsteriskReading.{is_foreign_mark, has_foreign_mark_after, has_foreign_mark}
-use Rattle.dp_expr.specs.Tokens.{Token, Operand, Sign, Bang, Opening, Closing, Stray, is_blank, is_word_byte, mark_cut, cut_at, begin_token, tokens_after, tokens_of}
-use Rattle.dp_expr.specs.Trees.{Tree, Leaf, Group, Before, Between, IsReading, spelling}
+use Rattle.dp_expr.specs.Tokens.{TokenOf, Operand, Sign, Bang, Opening, Closing, Stray, is_blank, is_word_byte, mark_cut, cut_at, begin_token, tokens_after, tokens_of}
+use Rattle.dp_expr.specs.Trees.{Tree, Leaf, Group, Before, Between, IsTreeReading, spelling}
 
 -- bytes of a token are skipped
 has_foreign_mark_after-drop : (bytes : List ℕ) (n : ℕ) → has_foreign_mark_after bytes n ≡ has_foreign_mark_after (drop n bytes) 0
@@ -31,7 +31,7 @@ has_foreign_mark-empty [] e = refl
 has_foreign_mark-empty (b ∷ bytes) e = absurd (omega arith)
 
 -- a token that no expression contains
-is_stray : Token → Bool
+is_stray : TokenOf → Bool
 is_stray (Operand bytes) = false
 is_stray (Sign operator) = false
 is_stray Bang = false
@@ -61,7 +61,7 @@ cut_at-blank b bytes blank =
     rw (blank, no_quote, no_bar, no_ampersand, no_equals, no_exclamation, no_less, no_more, no_plus, no_minus, no_asterisk, no_slash, no_percent, no_opening, no_closing)
 
 -- such a mark is a stray
-foreign_stray : (b : ℕ) (bytes : List ℕ) (rest : ℕ → List Token) → is_foreign_mark b ≡ true → list_any is_stray (begin_token (is_blank b) (cut_at b bytes) rest) ≡ true
+foreign_stray : (b : ℕ) (bytes : List ℕ) (rest : ℕ → List TokenOf) → is_foreign_mark b ≡ true → list_any is_stray (begin_token (is_blank b) (cut_at b bytes) rest) ≡ true
 unfolding cut_at is_word_byte mark_cut is_stray
 foreign_stray b bytes rest is = by (b == colon) (b == question_mark) (b == tilde) refl refl refl is
   where
@@ -113,7 +113,7 @@ spelling-stray (Between operator left right) =
     ∙ (λ i. spelling-stray left i || spelling-stray right i)
 
 -- a text that reads as a tree contains no such mark
-pub has_foreign_mark-reading : (text : List ℕ) (tree : Tree) → IsReading (tokens_of text) tree → has_foreign_mark text ≡ false
+pub has_foreign_mark-reading : (text : List ℕ) (tree : Tree) → IsTreeReading (tokens_of text) tree → has_foreign_mark text ≡ false
 unfolding has_foreign_mark tokens_of
 has_foreign_mark-reading text tree reading = by (has_foreign_mark_after text 0) refl
   where

@@ -49,24 +49,24 @@ in_word-ge : (n : ℕ) → 2 ^ 64 ≤ n → in_word (Some n) ≡ None
 in_word-ge n ge = grind (arith, nat_tests)
 
 -- the number of the digits in a word, or none
-found : Bool → ℕ → Option ℕ
-found true n = in_word (Some n)
-found false n = None
+number_if : Bool → ℕ → Option ℕ
+number_if true n = in_word (Some n)
+number_if false n = None
 
 -- a number that is too large for a word gives none
-found-ge : (b : Bool) (n : ℕ) → 2 ^ 64 ≤ n → found b n ≡ None
-unfolding found
+found-ge : (b : Bool) (n : ℕ) → 2 ^ 64 ≤ n → number_if b n ≡ None
+unfolding number_if
 found-ge true n ge = in_word-ge n ge
 found-ge false n ge = refl
 
 -- reading gives the number of the digits
-read_on-value : (n : ℕ) (ds : List ℕ) → n < 2 ^ 64 → read_on n ds ≡ found (list_all is_ascii_digit ds) (digits_value_after 10 n ds)
-unfolding read_on found
+read_on-value : (n : ℕ) (ds : List ℕ) → n < 2 ^ 64 → read_on n ds ≡ number_if (list_all is_ascii_digit ds) (digits_value_after 10 n ds)
+unfolding read_on number_if
 read_on-value n [] lt = sym (in_word-lt n lt)
 read_on-value n (d ∷ ds) lt =
     let m : ℕ = n * 10 + digit_value d in
-    elim (is_ascii_digit d) as (λ b. option_and_then (λ k. read_on k ds) (cond b (in_word (Some (n * 10 + digit_value d))) None) ≡ found (b && list_all is_ascii_digit ds) (digits_value_after 10 (n * 10 + digit_value d) ds)) [
-      | true ↦ elim (nat_lt (n * 10 + digit_value d) (2 ^ 64)) as (λ b. nat_lt (n * 10 + digit_value d) (2 ^ 64) ≡ b → option_and_then (λ k. read_on k ds) (cond b (Some (n * 10 + digit_value d)) None) ≡ found (list_all is_ascii_digit ds) (digits_value_after 10 (n * 10 + digit_value d) ds)) [
+    elim (is_ascii_digit d) as (λ b. option_and_then (λ k. read_on k ds) (cond b (in_word (Some (n * 10 + digit_value d))) None) ≡ number_if (b && list_all is_ascii_digit ds) (digits_value_after 10 (n * 10 + digit_value d) ds)) [
+      | true ↦ elim (nat_lt (n * 10 + digit_value d) (2 ^ 64)) as (λ b. nat_lt (n * 10 + digit_value d) (2 ^ 64) ≡ b → option_and_then (λ k. read_on k ds) (cond b (Some (n * 10 + digit_value d)) None) ≡ number_if (list_all is_ascii_digit ds) (digits_value_after 10 (n * 10 + digit_value d) ds)) [
         | true ↦ λ e. read_on-value (n * 10 + digit_value d) ds (grind (arith, nat_tests))
         | false ↦ λ e. let ge : 2 ^ 64 ≤ n * 10 + digit_value d = grind (arith, nat_tests) in
             sym (found-ge (list_all is_ascii_digit ds) (digits_value_after 10 (n * 10 + digit_value d) ds) (omega (arith, value_after-ge (n * 10 + digit_value d) ds)))
@@ -75,8 +75,8 @@ read_on-value n (d ∷ ds) lt =
     ]
 
 -- the same as testing all digits first
-found-in_word : (b : Bool) (n : ℕ) → found b n ≡ in_word (cond b (Some n) None)
-unfolding found
+found-in_word : (b : Bool) (n : ℕ) → number_if b n ≡ in_word (cond b (Some n) None)
+unfolding number_if
 found-in_word true n = refl
 found-in_word false n = refl
 

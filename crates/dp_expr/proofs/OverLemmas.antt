@@ -3,11 +3,11 @@ use Rattle.std.proofs.Common.{◌≡◌, ℕ, List, [], ◌∷◌, refl, ap}
 use Rattle.dp_expr.specs.declared.walk_place.WalkPlace.{WalkPlace}
 use Rattle.dp_expr.specs.declared.walk_place.WalkPlace.TheVariants as places
 use Rattle.dp_expr.specs.steps.Places.{IsOver, place_seen}
-use Rattle.dp_expr.specs.Tokens.{Token, tokens_of}
+use Rattle.dp_expr.specs.Tokens.{TokenOf, tokens_of}
 use Rattle.dp_expr.specs.Walk.{Making, Failed, ending, step, walk}
 
 -- after a failed walk nothing is made of any tokens
-walk_failed : {X : Type 0} (make : Making X) (tokens : List Token) → walk make Failed tokens ≡ ending make Failed
+walk_failed : {X : Type 0} (make : Making X) (tokens : List TokenOf) → walk make Failed tokens ≡ ending make Failed
 unfolding walk step
 walk_failed make [] = refl
 walk_failed make (token ∷ tokens) = walk_failed make tokens

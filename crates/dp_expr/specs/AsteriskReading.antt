@@ -6,7 +6,7 @@ use Rattle.dp_expr.specs.declared.reading.ExpressionReading.{ExpressionReading}
 use Rattle.dp_expr.specs.declared.reading.ExpressionReading.TheVariants.{Value, Zero, Unknown}
 use Rattle.dp_expr.specs.Ascii.{colon, question_mark, tilde, point}
 use Rattle.dp_expr.specs.Quotients.{has_cut_quotient}
-use Rattle.dp_expr.specs.Tokens.{Token, Operand, Sign, Bang, Opening, Closing, Stray, cut_at, tokens_of}
+use Rattle.dp_expr.specs.Tokens.{TokenOf, Operand, Sign, Bang, Opening, Closing, Stray, cut_at, tokens_of}
 use Rattle.dp_expr.specs.Trees.{Tree, Leaf, Group, Before, Between}
 use Rattle.dp_expr.specs.Values.{Outcome, value_of}
 use Rattle.dp_expr.specs.Walk.{Wanting, walk, trees}
@@ -35,7 +35,7 @@ is_fraction bytes =
     list_all is_fraction_byte bytes && count_by (λ b. b == point) bytes == 1 && nat_lt 1 (length bytes)
 
 -- an operand that is a fraction; a quoted operand is not
-abbrev pub is_fraction_token : Token → Bool
+abbrev pub is_fraction_token : TokenOf → Bool
 is_fraction_token (Operand bytes) = is_fraction bytes
 is_fraction_token (Sign operator) = false
 is_fraction_token Bang = false
@@ -59,7 +59,7 @@ tree_reading None = Zero
 tree_reading (Some tree) = outcome_reading (value_of tree) (has_cut_quotient tree)
 
 -- the reading of tokens; without tokens the expression is empty, and so is its value
-abbrev pub tokens_reading : List Token → ExpressionReading
+abbrev pub tokens_reading : List TokenOf → ExpressionReading
 tokens_reading [] = Value
 tokens_reading (token ∷ tokens) = tree_reading (walk trees (Wanting []) (token ∷ tokens))
 
@@ -79,7 +79,7 @@ abbrev pub reading_of : Tree → ExpressionReading
 reading_of tree = if has_fraction tree then Unknown else tree_reading (Some tree)
 
 -- tokens that are not an expression are a fault, unless there are none at all
-abbrev pub fault_reading : List Token → ExpressionReading
+abbrev pub fault_reading : List TokenOf → ExpressionReading
 fault_reading [] = Value
 fault_reading (token ∷ tokens) = Zero
 

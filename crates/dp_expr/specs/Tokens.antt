@@ -6,13 +6,13 @@ use Rattle.dp_expr.specs.declared.operator.Operator.{Operator}
 use Rattle.dp_expr.specs.declared.operator.Operator.TheVariants.{Or, And, Equal, NotEqual, LessThan, AtMost, MoreThan, AtLeast, Plus, Minus, Times, Over, Remainder}
 
 -- a token; `!` alone is a bang, and a byte that no expression contains is a stray
-pub data Token : Type 0 where
-  Operand : (bytes : List ℕ) → Token
-  Sign : (operator : Operator) → Token
-  Bang : Token
-  Opening : Token
-  Closing : Token
-  Stray : Token
+pub data TokenOf : Type 0 where
+  Operand : (bytes : List ℕ) → TokenOf
+  Sign : (operator : Operator) → TokenOf
+  Bang : TokenOf
+  Opening : TokenOf
+  Closing : TokenOf
+  Stray : TokenOf
 
 -- a byte that separates tokens
 abbrev pub is_blank : ℕ → Bool
@@ -48,7 +48,7 @@ begins_with c (b ∷ bytes) = b == c
 
 -- a token, and the number of bytes after its first byte that belong to it
 pub record Cut : Type 0 where
-  pub token : Token
+  pub token : TokenOf
   pub more : ℕ
 
 -- a quoted operand, with both its quotes; a quote without an end is a stray
@@ -57,12 +57,12 @@ quoted_cut bytes None = record { token = Stray; more = 0 }
 quoted_cut bytes (Some n) = record { token = Operand (quote ∷ take n bytes); more = n }
 
 -- the long spelling, of one more byte, if it is there, else the short one
-abbrev pub longest : Bool → Token → Token → Cut
+abbrev pub longest : Bool → TokenOf → TokenOf → Cut
 longest true long short = record { token = long; more = 1 }
 longest false long short = record { token = short; more = 0 }
 
 -- a token with one byte
-abbrev pub single : Token → Cut
+abbrev pub single : TokenOf → Cut
 single token = record { token = token; more = 0 }
 
 -- a mark other than a quote, before these bytes
@@ -92,16 +92,16 @@ cut_at b bytes =
     else mark_cut b bytes
 
 -- the tokens of a byte and the rest: a blank gives no token
-abbrev pub begin_token : Bool → Cut → (ℕ → List Token) → List Token
+abbrev pub begin_token : Bool → Cut → (ℕ → List TokenOf) → List TokenOf
 begin_token true cut rest = rest 0
 begin_token false cut rest = cut.token ∷ rest cut.more
 
 -- the tokens after the first n bytes, which belong to a token before
-unfoldable pub tokens_after : List ℕ → ℕ → List Token
+unfoldable pub tokens_after : List ℕ → ℕ → List TokenOf
 tokens_after [] n = []
 tokens_after (b ∷ bytes) zero = begin_token (is_blank b) (cut_at b bytes) (tokens_after bytes)
 tokens_after (b ∷ bytes) (suc n) = tokens_after bytes n
 
 -- the tokens of a text, from the left
-unfoldable pub tokens_of : List ℕ → List Token
+unfoldable pub tokens_of : List ℕ → List TokenOf
 tokens_of text = tokens_after text 0

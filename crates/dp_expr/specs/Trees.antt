@@ -4,7 +4,7 @@ use Rattle.dp_expr.specs.declared.operator.Operator.{Operator}
 use Rattle.dp_expr.specs.declared.operator.Operator.TheVariants.{Or, And, Equal, NotEqual, LessThan, AtMost, MoreThan, AtLeast, Plus, Minus, Times, Over, Remainder}
 use Rattle.dp_expr.specs.declared.operator.Prefix.{Prefix}
 use Rattle.dp_expr.specs.declared.operator.Prefix.TheVariants.{Negate, Not}
-use Rattle.dp_expr.specs.Tokens.{Token, Operand, Sign, Bang, Opening, Closing, tokens_of}
+use Rattle.dp_expr.specs.Tokens.{TokenOf, Operand, Sign, Bang, Opening, Closing, tokens_of}
 
 -- a word or a quoted operand, an expression in parentheses, a unary operator, a binary operator
 pub data Tree : Type 0 where
@@ -14,12 +14,12 @@ pub data Tree : Type 0 where
   Between : (operator : Operator) (left right : Tree) → Tree
 
 -- the token of a unary operator
-abbrev pub prefix_token : Prefix → Token
+abbrev pub prefix_token : Prefix → TokenOf
 prefix_token Negate = Sign Minus
 prefix_token Not = Bang
 
 -- the tokens of a tree
-abbrev pub spelling : Tree → List Token
+abbrev pub spelling : Tree → List TokenOf
 spelling (Leaf bytes) = Operand bytes ∷ []
 spelling (Group inner) = Opening ∷ (spelling inner ++ (Closing ∷ []))
 spelling (Before prefix operand) = prefix_token prefix ∷ spelling operand
@@ -71,11 +71,11 @@ abbrev pub most_depth : ℕ
 most_depth = 32
 
 -- the tokens are those of the tree, and the grammar allows it
-pub record IsReading (tokens : List Token) (tree : Tree) : Type 0 where
+pub record IsTreeReading (tokens : List TokenOf) (tree : Tree) : Type 0 where
   pub spelling : tokens ≡ spelling tree
   pub grouped : IsGrouped expression_level tree
   pub shallow : depth_of tree ≤ most_depth
 
 -- the text reads as the tree
 abbrev pub IsTree : List ℕ → Tree → Type 0
-IsTree text tree = IsReading (tokens_of text) tree
+IsTree text tree = IsTreeReading (tokens_of text) tree

@@ -12,7 +12,7 @@ use Rattle.dp_conf.specs.Blanks.{trim}
 use Rattle.dp_conf.specs.Lines.{opens_block, parts_of, without_mark, without_escapes, content_of}
 use Rattle.dp_conf.proofs.LinesLemmas.{comment_start-none}
 use Rattle.dp_conf.proofs.TextLemmas.{either-false}
-use Rattle.dp_files.specs.Comments.{Uncovered, with_byte, closes_block, uncovered_from, FileLines, with_line, lines_after, file_lines}
+use Rattle.dp_files.specs.Comments.{Uncovered, with_byte, closes_block, uncovered_from, FileLinesOf, with_line, lines_after, file_lines}
 
 -- the bytes of a mark are skipped
 pub uncovered_from-mark : (line : ℕ) (unclosed : List ℕ) (previous : ℕ) (text : List ℕ) → uncovered_from line 2 unclosed previous text ≡ uncovered_from line 0 unclosed 10 (drop 2 text)
@@ -79,12 +79,12 @@ pub rest_range : (count : ℕ) (text : List ℕ) → take (length text - count) 
 rest_range count text = take_all (length text - count) (drop count text) (omega (arith, length-drop count text))
 
 -- the lines that were read come before the remaining ones
-abbrev pub with_lines : List (List ℕ) → FileLines → FileLines
+abbrev pub with_lines : List (List ℕ) → FileLinesOf → FileLinesOf
 with_lines front rest = record { texts = front ++ rest.texts; open_comment = rest.open_comment }
 
 -- one more line
-pub lines_after-line : (front : List (List ℕ)) (text : List ℕ) (rest : FileLines) → with_lines (front ++ text ∷ []) rest ≡ with_lines front (with_line text rest)
-lines_after-line front text rest = ap (λ texts. let lines : FileLines = record { texts = texts; open_comment = rest.open_comment } in lines) (append_assoc front (text ∷ []) rest.texts)
+pub lines_after-line : (front : List (List ℕ)) (text : List ℕ) (rest : FileLinesOf) → with_lines (front ++ text ∷ []) rest ≡ with_lines front (with_line text rest)
+lines_after-line front text rest = ap (λ texts. let lines : FileLinesOf = record { texts = texts; open_comment = rest.open_comment } in lines) (append_assoc front (text ∷ []) rest.texts)
 
 -- at the end of the line
 pub uncovered_from-over : (line : ℕ) (unclosed : List ℕ) (previous : ℕ) (left kept : List ℕ) (whole : Uncovered) → with_front kept (uncovered_from line 0 unclosed previous left) ≡ whole → length left ≡ 0

@@ -10,10 +10,10 @@ use Rattle.dp_conf.specs.Numbers.{digits_number, is_digit, number_of}
 use Rattle.dp_conf.specs.Words.{same_word}
 use Rattle.dp_conf.proofs.TextLemmas.{Avoids, cut_once-nowhere}
 use Rattle.dp_files.proofs.LimitLemmas.{number_base_capped}
-use Rattle.dp_files.specs.Priorities.{Base, Hint, Counted, Written, Priority, base_by, counted, number_base, priority_by, priority_of, written_of}
+use Rattle.dp_files.specs.Priorities.{BaseOf, Hint, Counted, WrittenBaseOf, WrittenPriorityOf, base_by, base_with_added, number_base, priority_by, priority_of, written_of}
 
 -- the priority of a base without an added number and without a label
-abbrev pub alone : Option Base → Option Priority
+abbrev pub alone : Option BaseOf → Option WrittenPriorityOf
 alone base = option_map (λ base. record { written = Counted base None; label = None }) base
 
 -- a digit is no byte below the digits
@@ -61,8 +61,8 @@ written_of-digits : (text : List ℕ) (number : ℕ) → number_of text ≡ Some
 unfolding written_of
 written_of-digits text number e =
     let digits = is_digits text number e in
-    ap (λ t. cond {A = Option Written} t (Some Hint) (counted text (cut_once 43 text))) digits.no_hint
-    ∙ ap (counted text) digits.no_plus
+    ap (λ t. cond {A = Option WrittenBaseOf} t (Some Hint) (base_with_added text (cut_once 43 text))) digits.no_hint
+    ∙ ap (base_with_added text) digits.no_plus
     ∙ ap (λ n. option_map (λ base. Counted base None) (base_by text n)) e
 
 -- a priority of digits
@@ -73,7 +73,7 @@ priority_of-digits text number e =
     ∙ ap (option_map (λ written. record { written = written; label = None })) (written_of-digits text number e)
     ∙ by (number_base number)
   where
-    by : (base : Option Base) → option_map (λ written. record { written = written; label = None }) (option_map (λ base. Counted base None) base) ≡ alone base
+    by : (base : Option BaseOf) → option_map (λ written. record { written = written; label = None }) (option_map (λ base. Counted base None) base) ≡ alone base
     by None = refl
     by (Some base) = refl
 

@@ -15,7 +15,7 @@ use Rattle.indexmap.specs.IndexMap.{insert_entry}
 use Rattle.dp_conf.specs.Whole.{most_bytes}
 use Rattle.dp_conf.specs.Words.{same_text}
 use Rattle.dp_files.proofs.LookupLemmas.{lookup-insert_entry}
-use Rattle.dp_files.specs.FolderFiles.{Known, FitsKnown, AreKnown, Agrees, MayFit, MayFitKnown, MayBeKnown, MayKnow}
+use Rattle.dp_files.specs.FolderFiles.{KnownFiles, FitsKnown, AreKnown, Agrees, MayFit, MayFitKnown, MayBeKnown, MayKnow}
 use Rattle.dp_files.specs.Sources.{Files, Telling, TextOf, NamesOf, Bytes, TooLong, text_read}
 use Rattle.dp_files.specs.declared.known_text.KnownText.{KnownText}
 
@@ -76,7 +76,7 @@ module _ (texts : List (List ℕ × KnownText)) (lists new : List (List ℕ × L
   }
 
 -- what one may report another may report
-pub may_know-weaker : (A B : Telling → Type 0) (known : Known) → ((told : Telling) → A told → B told) → MayKnow A known → MayKnow B known
+pub may_know-weaker : (A B : Telling → Type 0) (known : KnownFiles) → ((told : Telling) → A told → B told) → MayKnow A known → MayKnow B known
 may_know-weaker A B known weaker all = record {
   texts = λ name. text name (lookup (same_text name) known.texts) (all.texts name);
   names = λ pattern. names pattern (lookup (same_text pattern) known.lists) (all.names pattern);

@@ -30,30 +30,30 @@ record IsName (name : List ℕ) : Type 0 where
   no_end : Avoids 93 name
 
 -- a refused header is not a header
-refused : {X : Type 0} (kind : LineKind) (header : HeaderOf) → (let read : Result HeaderOf LineKind = Err kind in read ≡ Ok header) → X
-refused kind header e = absurd (false≢true (ap (λ (read : Result HeaderOf LineKind). is_ok read) e))
+refusal_is_no_header : {X : Type 0} (kind : LineKind) (header : HeaderOf) → (let read : Result HeaderOf LineKind = Err kind in read ≡ Ok header) → X
+refusal_is_no_header kind header e = absurd (false≢true (ap (λ (read : Result HeaderOf LineKind). is_ok read) e))
 
 -- a header with parentheses has the name before them
 options_name : (name : List ℕ) (header : HeaderOf) (cut : Option (List ℕ × List ℕ)) → with_options name cut ≡ Ok header → name ≡ header.name
-options_name name header None e = refused Template header e
+options_name name header None e = refusal_is_no_header Template header e
 options_name name header (Some cut) e = by (eqb (length (trim_start cut.1)) 0) e
   where
     by : (t : Bool) → cond {A = Result HeaderOf LineKind} t (Ok (record { name = name; options = Some cut.0 })) (Err Template) ≡ Ok header → name ≡ header.name
     by true e = ap name_in e
-    by false e = refused Template header e
+    by false e = refusal_is_no_header Template header e
 
 -- a header has its trimmed name
 name_by : (name after : List ℕ) (header : HeaderOf) → header_by name after ≡ Ok header → (name ≡ header.name) × (has_byte name ≡ true)
-name_by [] after header e = refused BadHeader header e
+name_by [] after header e = refusal_is_no_header BadHeader header e
 name_by (n ∷ name) [] header e = (ap name_in e, refl)
 name_by (n ∷ name) (b ∷ after) header e = (by (eqb b 40) e, refl)
   where
     by : (t : Bool) → cond t (with_options (n ∷ name) (cut_once 41 after)) (Err BadHeader) ≡ Ok header → n ∷ name ≡ header.name
     by true e = options_name (n ∷ name) header (cut_once 41 after) e
-    by false e = refused BadHeader header e
+    by false e = refusal_is_no_header BadHeader header e
 
 is_name : (inside : List ℕ) (header : HeaderOf) (cut : Option (List ℕ × List ℕ)) → cut_once 93 inside ≡ cut → header_cut cut ≡ Ok header → IsName header.name
-is_name inside header None cuts e = refused BadHeader header e
+is_name inside header None cuts e = refusal_is_no_header BadHeader header e
 is_name inside header (Some cut) cuts e =
     let found = name_by (trim cut.0) (trim_start cut.1) header e in
     let is = cut_once-is 93 inside cut.0 cut.1 cuts in

@@ -6,12 +6,12 @@ use Rattle.std.specs.Cmp.Lexicographic.{nat_list_eq_equiv}
 use Rattle.std.proofs.lemmas.Cmp.{on_equiv}
 use Rattle.dp_conf.specs.Words.{same_text}
 use Rattle.dp_files.proofs.LookupLemmas.{both_equiv, lookup-insert_entry}
-use Rattle.dp_files.specs.ContextHistory.{Said, Counts, History, nearest, number_in, extension_in, hint_in, label_in, number_with, history_of}
+use Rattle.dp_files.specs.ContextHistory.{Said, Counts, LineHistoryOf, nearest, number_in, extension_in, hint_in, label_in, number_with, history_of}
 use Rattle.dp_files.specs.ContextLines.{all_made, line_reading}
 use Rattle.dp_files.specs.ContextSteps.{after, all_made_after, label_key, number_of_label, same_label, with_label}
-use Rattle.dp_files.specs.declared.extension.Extension.{Extension}
+use Rattle.dp_files.specs.declared.extension.WrittenExtension.{WrittenExtension}
 use Rattle.dp_files.specs.declared.history.ExtensionLabel.{ExtensionLabel}
-use Rattle.dp_files.specs.declared.line_reading.Made.{Made}
+use Rattle.dp_files.specs.declared.line_reading.LineResult.{LineResult}
 
 -- ---- labels
 
@@ -25,7 +25,7 @@ or_if true x o = refl
 or_if false x o = refl
 
 -- the number of a label after a line with a number was added
-label_added : (labels : List (ExtensionLabel × ℕ)) (extension : Extension) (number : ℕ) (own : Option (List ℕ)) (name label : List ℕ)
+label_added : (labels : List (ExtensionLabel × ℕ)) (extension : WrittenExtension) (number : ℕ) (own : Option (List ℕ)) (name label : List ℕ)
     → number_of_label (with_label labels extension.spelling number own) name label ≡ option_or (number_with name label extension number own) (number_of_label labels name label)
 label_added labels extension number None name label = refl
 label_added labels extension number (Some own) name label =
@@ -33,7 +33,7 @@ label_added labels extension number (Some own) name label =
     ∙ or_if (same_text name extension.spelling && same_text label own) number (number_of_label labels name label)
 
 -- the history with these values
-abbrev history_by : Option ℕ → Option Extension → Bool → List (ExtensionLabel × ℕ) → History
+abbrev history_by : Option ℕ → Option WrittenExtension → Bool → List (ExtensionLabel × ℕ) → LineHistoryOf
 history_by number extension after_hint labels = record {
   number = number;
   extension = extension;
@@ -42,10 +42,10 @@ history_by number extension after_hint labels = record {
 }
 
 -- the history after a line with a number was added
-pub counted : (last : Option ℕ) (before : Option Extension) (hint : Bool) (labels new_labels : List (ExtensionLabel × ℕ)) (extension : Extension) (number : ℕ) (own : Option (List ℕ))
+pub history_after_number : (last : Option ℕ) (before : Option WrittenExtension) (hint : Bool) (labels new_labels : List (ExtensionLabel × ℕ)) (extension : WrittenExtension) (number : ℕ) (own : Option (List ℕ))
     → new_labels ≡ with_label labels extension.spelling number own
     → history_by (Some number) (Some extension) false new_labels ≡ after (history_by last before hint labels) (Counts extension number own)
-counted last before hint labels new_labels extension number own same =
+history_after_number last before hint labels new_labels extension number own same =
     ap (history_by (Some number) (Some extension) false) same
     ∙ (λ i. record {
       number = Some number;
@@ -74,5 +74,5 @@ pub made_by_history : (before : List Said) (lines : List (ℕ × List ℕ)) → 
 made_by_history before [] = refl
 made_by_history before (line ∷ lines) =
     let said = (line_reading (history_of before) line.1).said in
-    ap (λ (rest : List (ℕ × Made)). (line.0, (line_reading (history_of before) line.1).made) ∷ rest)
-    (made_by_history (said ∷ before) lines ∙ ap (λ (history : History). all_made_after history lines) (history_of-more said before))
+    ap (λ (rest : List (ℕ × LineResult)). (line.0, (line_reading (history_of before) line.1).made) ∷ rest)
+    (made_by_history (said ∷ before) lines ∙ ap (λ (history : LineHistoryOf). all_made_after history lines) (history_of-more said before))

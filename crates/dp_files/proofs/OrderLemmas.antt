@@ -16,11 +16,11 @@ use Rattle.dp_conf.specs.declared.fault.LineKind.TheVariants.{BadHeader}
 use Rattle.std.specs.Str.{byte}
 use Rattle.dp_conf.specs.Cut.{begins_with}
 use Rattle.dp_files.specs.Headers.{HeaderOf, header_in, header_of}
-use Rattle.dp_files.specs.Order.{IsPlain, KeepsOrder, section_places, has_remark, without_remark}
+use Rattle.dp_files.specs.Order.{IsPlainLine, KeepsOrder, section_places, has_remark, without_remark}
 use Rattle.dp_files.specs.SectionParts.{fault_at}
 use Rattle.dp_files.specs.Sections.{SectionsSoFar, after_lines, before_lines, after_content, with_copies, copies_within, after_header, after_known_header, including, after_line, after_named_header, open_after, sections_after, after_plain_line, after_item, new_section, section_of_next, opening_of, sections_of, with_fault, with_lines, with_open}
 use Rattle.dp_files.specs.declared.remark.Fault.{Fault}
-use Rattle.dp_files.specs.declared.remark.Remark.{Remark}
+use Rattle.dp_files.specs.declared.remark.LineRemark.{LineRemark}
 use Rattle.dp_files.specs.declared.sections.Opening.TheVariants.{New}
 use Rattle.dp_files.specs.declared.sections.SourceSection.{SourceSection}
 use Rattle.dp_files.specs.declared.source_line.SourceFile.{SourceFile}
@@ -34,7 +34,7 @@ range-push a (suc n) =
     ap (λ (t : List ℕ). a ∷ t) (range-push (a + 1) n ∙ ap (λ (k : ℕ). range_with_len (a + 1) n ++ k ∷ []) e)
 
 -- a remark on a later line does not concern a place
-has_remark-push : (remarks : List Remark) (remark : Remark) (place : ℕ) → place < remark.source → has_remark (remarks ++ remark ∷ []) place ≡ has_remark remarks place
+has_remark-push : (remarks : List LineRemark) (remark : LineRemark) (place : ℕ) → place < remark.source → has_remark (remarks ++ remark ∷ []) place ≡ has_remark remarks place
 has_remark-push remarks remark place later =
     let other : eqb remark.source place ≡ false = ne_eqb remark.source place (λ e. absurd (omega (arith, later, e))) in
     list_any-append (λ r. eqb r.source place) remarks (remark ∷ [])
@@ -45,14 +45,14 @@ has_remark-push remarks remark place later =
     or_false false = refl
 
 -- remarks on lines before a place do not concern it
-no_remark_before : (remarks : List Remark) (place : ℕ) → AllByRecursion (λ remark. remark.source < place) remarks → has_remark remarks place ≡ false
+no_remark_before : (remarks : List LineRemark) (place : ℕ) → AllByRecursion (λ remark. remark.source < place) remarks → has_remark remarks place ≡ false
 no_remark_before [] place before = refl
 no_remark_before (remark ∷ remarks) place before =
     let other : eqb remark.source place ≡ false = ne_eqb remark.source place (λ e. absurd (omega (arith, before.0, e))) in
     ap (λ (b : Bool). b || has_remark remarks place) other ∙ no_remark_before remarks place before.1
 
 -- two tests that agree on numbers keep the same ones
-without_remark_from : (remarks : List Remark) (remark : Remark) (a n : ℕ) → a + n ≤ remark.source
+without_remark_from : (remarks : List LineRemark) (remark : LineRemark) (a n : ℕ) → a + n ≤ remark.source
     → filter (λ place. not (has_remark (remarks ++ remark ∷ []) place)) (range_with_len a n) ≡ filter (λ place. not (has_remark remarks place)) (range_with_len a n)
 without_remark_from remarks remark a zero within = refl
 without_remark_from remarks remark a (suc n) within =
@@ -62,7 +62,7 @@ without_remark_from remarks remark a (suc n) within =
     ∙ ap (λ (t : List ℕ). cond (not (has_remark remarks a)) (a ∷ t) t) (without_remark_from remarks remark (a + 1) n (omega (arith, within)))
 
 -- one more line
-without_remark-more : (remarks : List Remark) (place : ℕ) → without_remark remarks (suc place) ≡ without_remark remarks place ++ cond (not (has_remark remarks place)) (place ∷ []) []
+without_remark-more : (remarks : List LineRemark) (place : ℕ) → without_remark remarks (suc place) ≡ without_remark remarks place ++ cond (not (has_remark remarks place)) (place ∷ []) []
 without_remark-more remarks place =
     let keeps = λ (k : ℕ). not (has_remark remarks k) in
     let e : 0 + place ≡ place = omega arith in
@@ -70,7 +70,7 @@ without_remark-more remarks place =
     ∙ ap (λ (k : ℕ). filter keeps (range_with_len 0 place) ++ cond (keeps k) (k ∷ []) []) e
 
 -- a line without a remark is one more
-without_remark-kept : (remarks : List Remark) (place : ℕ) → AllByRecursion (λ remark. remark.source < place) remarks → without_remark remarks (suc place) ≡ without_remark remarks place ++ place ∷ []
+without_remark-kept : (remarks : List LineRemark) (place : ℕ) → AllByRecursion (λ remark. remark.source < place) remarks → without_remark remarks (suc place) ≡ without_remark remarks place ++ place ∷ []
 without_remark-kept remarks place before =
     without_remark-more remarks place ∙ ap (λ (b : Bool). without_remark remarks place ++ cond (not b) (place ∷ []) []) (no_remark_before remarks place before)
 
@@ -79,7 +79,7 @@ append-nil [] = refl
 append-nil (x ∷ xs) = ap (λ (t : List ℕ). x ∷ t) (append-nil xs)
 
 -- a line with a remark is left out
-without_remark-with_fault : (remarks : List Remark) (remark : Remark) → without_remark (remarks ++ remark ∷ []) (suc remark.source) ≡ without_remark remarks remark.source
+without_remark-with_fault : (remarks : List LineRemark) (remark : LineRemark) → without_remark (remarks ++ remark ∷ []) (suc remark.source) ≡ without_remark remarks remark.source
 without_remark-with_fault remarks remark =
     without_remark-more (remarks ++ remark ∷ []) remark.source
     ∙ ap (λ (b : Bool). without_remark (remarks ++ remark ∷ []) remark.source ++ cond (not b) (remark.source ∷ []) []) remark_here
@@ -100,11 +100,11 @@ without_remark-with_fault remarks remark =
         ∙ or_true (has_remark remarks remark.source)
 
 -- what holds of remarks before a place holds of them before the next place, and of one more
-before_more : (remarks : List Remark) (place : ℕ) → AllByRecursion (λ remark. remark.source < place) remarks → AllByRecursion (λ remark. remark.source < suc place) remarks
+before_more : (remarks : List LineRemark) (place : ℕ) → AllByRecursion (λ remark. remark.source < place) remarks → AllByRecursion (λ remark. remark.source < suc place) remarks
 before_more [] place before = tt
 before_more (remark ∷ remarks) place before = (omega (arith, before.0), before_more remarks place before.1)
 
-before_push : (remarks : List Remark) (remark : Remark) → AllByRecursion (λ other. other.source < remark.source) remarks → AllByRecursion (λ other. other.source < suc remark.source) (remarks ++ remark ∷ [])
+before_push : (remarks : List LineRemark) (remark : LineRemark) → AllByRecursion (λ other. other.source < remark.source) remarks → AllByRecursion (λ other. other.source < suc remark.source) (remarks ++ remark ∷ [])
 before_push [] remark before = (omega arith, tt)
 before_push (other ∷ remarks) remark before = (omega (arith, before.0), before_push remarks remark before.1)
 
@@ -233,14 +233,14 @@ in_order-after files lines so_far place after known f = record {
     known_after : 0 < length after.0.open_in
     known_after = subst (λ (open_in : List (Option ℕ)). 0 < length open_in) (sym f.same) known
 
-in_order-line : (files : List SourceFile) (lines : List SourceLine) (so_far : SectionsSoFar) (place : ℕ) (line : SourceLine) → IsPlain line → InOrder files lines so_far place
+in_order-line : (files : List SourceFile) (lines : List SourceLine) (so_far : SectionsSoFar) (place : ℕ) (line : SourceLine) → IsPlainLine line → InOrder files lines so_far place
     → InOrder files lines (after_line files lines so_far place line) (suc place)
 in_order-line files lines so_far place line plain o =
     subst (λ (file : ℕ). InOrder files lines (with_open file (after_content place (section_of_next files lines so_far.open_in file) (content_of line.text) so_far)) (suc place)) (sym plain.file)
     (in_order-after files lines so_far place _ o.known
     (follows-content so_far (section_of_next files lines so_far.open_in 0) place (content_of line.text) plain.directive plain.header o.ordered))
 
-in_order-all : (files : List SourceFile) (lines : List SourceLine) (so_far : SectionsSoFar) (place : ℕ) (rest : List SourceLine) → AllByRecursion IsPlain rest → InOrder files lines so_far place
+in_order-all : (files : List SourceFile) (lines : List SourceLine) (so_far : SectionsSoFar) (place : ℕ) (rest : List SourceLine) → AllByRecursion IsPlainLine rest → InOrder files lines so_far place
     → InOrder files lines (after_lines files lines so_far place rest) (place + length rest)
 in_order-all files lines so_far place [] plain o = let e : place ≡ place + 0 = omega arith in subst (InOrder files lines so_far) e o
 in_order-all files lines so_far place (line ∷ rest) plain o =
@@ -278,7 +278,7 @@ in_order-before files lines some = record {
 }
 
 -- plain lines of the first file are kept in order
-pub keeps_order : (files : List SourceFile) (lines : List SourceLine) → 0 < length files → AllByRecursion IsPlain lines → KeepsOrder files lines
+pub keeps_order : (files : List SourceFile) (lines : List SourceLine) → 0 < length files → AllByRecursion IsPlainLine lines → KeepsOrder files lines
 unfolding sections_of
 keeps_order files lines some plain =
     let e : 0 + length lines ≡ length lines = omega arith in

@@ -6,10 +6,10 @@ use Rattle.std.proofs.lemmas.Bool.{le-leb}
 use Rattle.dp_conf.specs.Blanks.{trim}
 use Rattle.dp_conf.specs.Cut.{begins_with}
 use Rattle.dp_conf.specs.Lines.{without_mark, parts_of, comment_start, comment_of, opens_block, content_of}
-use Rattle.dp_files.specs.Comments.{Uncovered, with_byte, uncovered_from, uncovered, FileLines, with_line as before_lines, lines_after, file_lines}
-use Rattle.dp_files.specs.Directives.{DirectiveOf, word_length, unquoted, directive_by, directive_of}
-use Rattle.dp_files.specs.PlainFiles.{is_special, IsPlain, numbered, plain_reading}
-use Rattle.dp_files.specs.Reading.{ReadSoFar, RequestOf, FilesOf, after_directive, after_comment, after_line, after_lines, after_text, including_first, files_of, reading_by, reading_of, with_line}
+use Rattle.dp_files.specs.Comments.{Uncovered, with_byte, uncovered_from, rest_of_line, FileLinesOf, with_line as before_lines, lines_after, file_lines}
+use Rattle.dp_files.specs.Directives.{DirectiveOf, word_length, without_quotes, directive_by, directive_of}
+use Rattle.dp_files.specs.PlainFiles.{is_special, IsPlainFile, numbered_lines, plain_reading}
+use Rattle.dp_files.specs.Reading.{FilesReadSoFar, FileRequestOf, FilesOf, after_directive, after_comment, after_line, after_lines, after_text, including_first, files_of, reading_by, reading_of, with_line}
 use Rattle.dp_files.specs.Sources.{Files, TextRead, Bytes, TooLong, text_read}
 use Rattle.dp_files.specs.declared.reading.ReadingFault.{ReadingFault}
 
@@ -37,8 +37,8 @@ uncovered_from-plain line previous (b ∷ bs) plain = by (uncovered_from-plain l
     by rest true plain = ap (λ t. cond {A = Uncovered} t (uncovered_from line 2 (line ∷ []) 10 bs) (record { text = b ∷ bs; unclosed = [] })) plain
     by rest false plain = ap (with_byte b) (rest (sym (ap opens_block (drop-next (comment_start b bs) b bs)) ∙ plain))
 
-uncovered-plain : (line : ℕ) (part : List ℕ) → opens_block (comment_of part) ≡ false → uncovered line [] part ≡ record { text = part; unclosed = [] }
-unfolding uncovered
+uncovered-plain : (line : ℕ) (part : List ℕ) → opens_block (comment_of part) ≡ false → rest_of_line line [] part ≡ record { text = part; unclosed = [] }
+unfolding rest_of_line
 uncovered-plain line part plain = uncovered_from-plain line 10 part plain
 
 -- the lines are the parts
@@ -56,44 +56,44 @@ file_lines-plain text plain = lines_after-plain 0 (parts_of (without_mark text))
 directive_of-none : (content : List ℕ) → begins_with 35 content ≡ false → directive_of content ≡ None
 unfolding directive_of
 directive_of-none [] plain = refl
-directive_of-none (b ∷ bs) plain = ap (λ t. cond {A = Option DirectiveOf} t (Some (directive_by (take (word_length bs) bs) (unquoted (trim (drop (word_length bs) bs))))) None) plain
+directive_of-none (b ∷ bs) plain = ap (λ t. cond {A = Option DirectiveOf} t (Some (directive_by (take (word_length bs) bs) (without_quotes (trim (drop (word_length bs) bs))))) None) plain
 
 -- a plain line is kept, and requests nothing
-after_line-plain : (include : RequestOf → ReadSoFar → ReadSoFar) (line : ℕ) (part : List ℕ) (read : ReadSoFar) → begins_with 35 (content_of part) ≡ false
+after_line-plain : (include : FileRequestOf → FilesReadSoFar → FilesReadSoFar) (line : ℕ) (part : List ℕ) (read : FilesReadSoFar) → begins_with 35 (content_of part) ≡ false
     → after_line include 0 false line part read ≡ with_line 0 line part read
 unfolding after_line
 after_line-plain include line part read plain =
     ap (λ directive. after_directive include (length read.lines) directive (after_comment false (length read.lines) (with_line 0 line part read))) (directive_of-none (content_of part) plain)
 
 -- these lines after those that were read
-abbrev with_lines : ReadSoFar → List (List ℕ) → ℕ → ReadSoFar
-with_lines read parts count = record { files = read.files; lines = read.lines ++ numbered count parts; remarks = read.remarks; room = read.room }
+abbrev with_lines : FilesReadSoFar → List (List ℕ) → ℕ → FilesReadSoFar
+with_lines read parts count = record { files = read.files; lines = read.lines ++ numbered_lines count parts; remarks = read.remarks; room = read.room }
 
-after_lines-plain : (include : RequestOf → ReadSoFar → ReadSoFar) (count : ℕ) (parts : List (List ℕ)) (read : ReadSoFar) → list_any is_special parts ≡ false
+after_lines-plain : (include : FileRequestOf → FilesReadSoFar → FilesReadSoFar) (count : ℕ) (parts : List (List ℕ)) (read : FilesReadSoFar) → list_any is_special parts ≡ false
     → after_lines include 0 None count parts read ≡ with_lines read parts count
 after_lines-plain include count [] read plain =
-    ap (λ lines. let r : ReadSoFar = record { files = read.files; lines = lines; remarks = read.remarks; room = read.room } in r) (sym (append-nil read.lines))
+    ap (λ lines. let r : FilesReadSoFar = record { files = read.files; lines = lines; remarks = read.remarks; room = read.room } in r) (sym (append-nil read.lines))
 after_lines-plain include count (part ∷ parts) read plain =
     let none = or-false_right (opens_block (comment_of part)) (begins_with 35 (content_of part)) (or-false_left (is_special part) (list_any is_special parts) plain) in
     ap (after_lines include 0 None (count + 1) parts) (after_line-plain include (count + 1) part read none)
     ∙ after_lines-plain include (count + 1) parts (with_line 0 (count + 1) part read) (or-false_right (is_special part) (list_any is_special parts) plain)
-    ∙ ap (λ lines. let r : ReadSoFar = record { files = read.files; lines = lines; remarks = read.remarks; room = read.room } in r)
-    (append_assoc read.lines (record { file = 0; line = count + 1; text = part } ∷ []) (numbered (count + 1) parts))
+    ∙ ap (λ lines. let r : FilesReadSoFar = record { files = read.files; lines = lines; remarks = read.remarks; room = read.room } in r)
+    (append_assoc read.lines (record { file = 0; line = count + 1; text = part } ∷ []) (numbered_lines (count + 1) parts))
 
-after_text-plain : (include : RequestOf → ReadSoFar → ReadSoFar) (text : List ℕ) (read : ReadSoFar) → list_any is_special (parts_of (without_mark text)) ≡ false
+after_text-plain : (include : FileRequestOf → FilesReadSoFar → FilesReadSoFar) (text : List ℕ) (read : FilesReadSoFar) → list_any is_special (parts_of (without_mark text)) ≡ false
     → after_text include 0 text read ≡ with_lines read (parts_of (without_mark text)) 0
 unfolding after_text
 after_text-plain include text read plain =
-    ap (λ (lines : FileLines). after_lines include 0 lines.open_comment 0 lines.texts read) (file_lines-plain text plain)
+    ap (λ (lines : FileLinesOf). after_lines include 0 lines.open_comment 0 lines.texts read) (file_lines-plain text plain)
     ∙ after_lines-plain include 0 (parts_of (without_mark text)) read plain
 
 text_read-short : (text : List ℕ) → length text ≤ 16777216 → text_read 16777216 (Some text) ≡ Bytes text
 text_read-short text short = ap (λ t. cond {A = TextRead} t (Bytes text) TooLong) (le-leb (length text) 16777216 short)
 
 -- a plain file is read unchanged
-pub plain_is_kept : (files : Files) (name text : List ℕ) → IsPlain files name text → reading_of files name ≡ Ok (plain_reading name text)
+pub plain_is_kept : (files : Files) (name text : List ℕ) → IsPlainFile files name text → reading_of files name ≡ Ok (plain_reading name text)
 unfolding reading_of
 plain_is_kept files name text p =
     ap (λ found. reading_by files name (text_read 16777216 found)) p.there
     ∙ ap (reading_by files name) (text_read-short text p.short)
-    ∙ ap (λ (read : ReadSoFar). let done : Result FilesOf ReadingFault = Ok (files_of read) in done) (after_text-plain (including_first files) text (record { files = record { name = name; included_by = None } ∷ []; lines = []; remarks = []; room = 16777216 - length text }) p.plain)
+    ∙ ap (λ (read : FilesReadSoFar). let done : Result FilesOf ReadingFault = Ok (files_of read) in done) (after_text-plain (including_first files) text (record { files = record { name = name; included_by = None } ∷ []; lines = []; remarks = []; room = 16777216 - length text }) p.plain)

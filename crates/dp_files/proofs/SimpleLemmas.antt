@@ -10,9 +10,9 @@ use Rattle.dp_pattern.specs.Name.{Meaning, Plain, is_bad, meaning_of, pattern_re
 use Rattle.dp_pattern.specs.Spelling.{spelling}
 use Rattle.dp_pattern.specs.declared.fault.NameFault.{NameFault}
 use Rattle.dp_pattern.specs.declared.fault.NameFault.TheVariants.{BadByte}
-use Rattle.dp_files.specs.ContextHistory.{extension_of, has_group, has_slash, is_known_by_text, spelled}
+use Rattle.dp_files.specs.ContextHistory.{extension_of, has_group, has_slash, is_known_by_text, spelled_extension}
 use Rattle.dp_files.specs.NameSteps.{is_simple}
-use Rattle.dp_files.specs.declared.extension.Extension.{Extension}
+use Rattle.dp_files.specs.declared.extension.WrittenExtension.{WrittenExtension}
 
 -- what a simple byte is not
 record IsSimple (b : ℕ) : Type 0 where
@@ -87,8 +87,8 @@ pub simple_extension : (b : ℕ) (bs : List ℕ) → list_all is_simple (b ∷ b
     → extension_of (b ∷ bs) ≡ Some (record { name = b ∷ bs; spelling = b ∷ bs })
 unfolding extension_of spelling
 simple_extension b bs all =
-    ap (λ t. cond {A = Option Extension} t (Some (record { name = b ∷ bs; spelling = b ∷ bs })) (spelled (b ∷ bs) (meaning_of (b ∷ bs)))) (known_by_name (b ∷ bs) all)
-    ∙ ap (spelled (b ∷ bs)) (meaning_of-simple b bs all)
+    ap (λ t. cond {A = Option WrittenExtension} t (Some (record { name = b ∷ bs; spelling = b ∷ bs })) (spelled_extension (b ∷ bs) (meaning_of (b ∷ bs)))) (known_by_name (b ∷ bs) all)
+    ∙ ap (spelled_extension (b ∷ bs)) (meaning_of-simple b bs all)
 
 -- the same for a text that is not empty
 pub simple_name : (text : List ℕ) → (eqb (length text) 0) ≡ false → list_all is_simple text ≡ true

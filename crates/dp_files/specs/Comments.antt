@@ -32,16 +32,16 @@ uncovered_from line zero (inner ∷ outer) previous (b ∷ bs) =
     else uncovered_from line 0 (inner ∷ outer) line_feed bs
 
 -- the rest of the line with this number
-unfoldable pub uncovered : ℕ → List ℕ → List ℕ → Uncovered
-uncovered line unclosed part = uncovered_from line 0 unclosed line_feed part
+unfoldable pub rest_of_line : ℕ → List ℕ → List ℕ → Uncovered
+rest_of_line line unclosed part = uncovered_from line 0 unclosed line_feed part
 
 -- the lines of a file without block comments, and the line of the innermost opening of those that are open at its end
-pub record FileLines : Type 0 where
+pub record FileLinesOf : Type 0 where
   pub texts : List (List ℕ)
   pub open_comment : Option ℕ
 
 -- a line before the lines after it
-abbrev pub with_line : List ℕ → FileLines → FileLines
+abbrev pub with_line : List ℕ → FileLinesOf → FileLinesOf
 with_line text rest = record { texts = text ∷ rest.texts; open_comment = rest.open_comment }
 
 -- the innermost of the openings
@@ -50,11 +50,11 @@ innermost [] = None
 innermost (inner ∷ outer) = Some inner
 
 -- the lines made from these parts, which come after this many others
-abbrev pub lines_after : ℕ → List ℕ → List (List ℕ) → FileLines
+abbrev pub lines_after : ℕ → List ℕ → List (List ℕ) → FileLinesOf
 lines_after count unclosed [] = record { texts = []; open_comment = innermost unclosed }
 lines_after count unclosed (part ∷ parts) =
-    with_line (uncovered (count + 1) unclosed part).text (lines_after (count + 1) (uncovered (count + 1) unclosed part).unclosed parts)
+    with_line (rest_of_line (count + 1) unclosed part).text (lines_after (count + 1) (rest_of_line (count + 1) unclosed part).unclosed parts)
 
 -- the lines of the text of a file
-unfoldable pub file_lines : List ℕ → FileLines
+unfoldable pub file_lines : List ℕ → FileLinesOf
 file_lines text = lines_after 0 [] (parts_of (without_mark text))

@@ -8,7 +8,7 @@ use Rattle.dp_files.specs.Sections.{SectionsSoFar, sections_of}
 use Rattle.dp_files.specs.Sources.{Files}
 use Rattle.dp_files.specs.declared.configuration.ConfigurationFiles.{ConfigurationFiles}
 use Rattle.dp_files.specs.declared.reading.ReadingFault.{ReadingFault}
-use Rattle.dp_files.specs.declared.remark.Remark.{Remark}
+use Rattle.dp_files.specs.declared.remark.LineRemark.{LineRemark}
 use Rattle.dp_files.specs.declared.sections.SourceSection.{SourceSection}
 use Rattle.dp_files.specs.declared.source_line.MadeLine.{MadeLine}
 use Rattle.dp_files.specs.declared.source_line.SourceFile.{SourceFile}
@@ -19,7 +19,7 @@ pub record ConfigurationOf : Type 0 where
   pub files : List SourceFile
   pub lines : List SourceLine
   pub made : List MadeLine
-  pub remarks : List Remark
+  pub remarks : List LineRemark
 
 -- the header of a section and its lines, unless it is a template
 abbrev pub section_text : List SourceLine → SourceSection → List MadeLine

@@ -8,7 +8,7 @@ use Rattle.dp_conf.specs.Words.{same_text}
 use Rattle.dp_pattern.specs.Name.{Meaning, meaning_of}
 use Rattle.dp_pattern.specs.Spelling.{spelling}
 use Rattle.dp_pattern.specs.declared.fault.NameFault.{NameFault}
-use Rattle.dp_files.specs.declared.extension.Extension.{Extension}
+use Rattle.dp_files.specs.declared.extension.WrittenExtension.{WrittenExtension}
 
 -- ---- extensions
 
@@ -30,22 +30,22 @@ abbrev pub is_known_by_text : List ℕ → Bool
 is_known_by_text name = has_group name || has_caller name
 
 -- a name that was read has the canonical spelling of its meaning: names with one meaning are one extension
-abbrev pub spelled : List ℕ → Result Meaning NameFault → Option Extension
-spelled name (Err fault) = None
-spelled name (Ok meaning) = Some (record { name = name; spelling = spelling meaning })
+abbrev pub spelled_extension : List ℕ → Result Meaning NameFault → Option WrittenExtension
+spelled_extension name (Err fault) = None
+spelled_extension name (Ok meaning) = Some (record { name = name; spelling = spelling meaning })
 
 -- the extension of a name, if it is valid; one with a group or with a caller's number is distinguished from others only by its text
-unfoldable pub extension_of : List ℕ → Option Extension
-extension_of name = if is_known_by_text name then Some (record { name = name; spelling = name }) else spelled name (meaning_of name)
+unfoldable pub extension_of : List ℕ → Option WrittenExtension
+extension_of name = if is_known_by_text name then Some (record { name = name; spelling = name }) else spelled_extension name (meaning_of name)
 
 -- ---- what a line says to those after it
 
 -- nothing; its extension; its extension, and that it is a hint; or its extension, its number and the label that it keeps
 pub data Said : Type 0 where
   Nothing : Said
-  Names : Extension → Said
-  Hints : Extension → Said
-  Counts : Extension → ℕ → Option (List ℕ) → Said
+  Names : WrittenExtension → Said
+  Hints : WrittenExtension → Said
+  Counts : WrittenExtension → ℕ → Option (List ℕ) → Said
 
 -- the number
 abbrev pub number_in : Said → Option ℕ
@@ -55,7 +55,7 @@ number_in (Hints extension) = None
 number_in (Counts extension number label) = Some number
 
 -- the extension
-abbrev pub extension_in : Said → Option Extension
+abbrev pub extension_in : Said → Option WrittenExtension
 extension_in Nothing = None
 extension_in (Names extension) = Some extension
 extension_in (Hints extension) = Some extension
@@ -69,7 +69,7 @@ hint_in (Hints extension) = Some true
 hint_in (Counts extension number label) = Some false
 
 -- the number of the label, if the line has the label and its extension has the spelling
-abbrev pub number_with : List ℕ → List ℕ → Extension → ℕ → Option (List ℕ) → Option ℕ
+abbrev pub number_with : List ℕ → List ℕ → WrittenExtension → ℕ → Option (List ℕ) → Option ℕ
 number_with name label extension number None = None
 number_with name label extension number (Some own) =
     if same_text name extension.spelling && same_text label own then Some number else None
@@ -85,9 +85,9 @@ label_in name label (Counts extension number own) = number_with name label exten
 
 -- the last number, the last extension, whether a hint comes after the last number, and the number of a label of an extension, which is
 -- identified by the spelling of its name
-pub record History : Type 0 where
+pub record LineHistoryOf : Type 0 where
   pub number : Option ℕ
-  pub extension : Option Extension
+  pub extension : Option WrittenExtension
   pub is_after_hint : Bool
   pub label : List ℕ → List ℕ → Option ℕ
 
@@ -97,7 +97,7 @@ nearest f [] = None
 nearest f (x ∷ xs) = option_or (f x) (nearest f xs)
 
 -- what the lines before say, the nearest line first
-abbrev pub history_of : List Said → History
+abbrev pub history_of : List Said → LineHistoryOf
 history_of before = record {
   number = nearest number_in before;
   extension = nearest extension_in before;

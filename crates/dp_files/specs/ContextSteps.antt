@@ -11,18 +11,18 @@ use Rattle.dp_files.specs.ContextWords as words
 use Rattle.dp_files.specs.PriorityView.{priority_now}
 use Rattle.dp_files.specs.declared.context_line.ContextLine.{ContextLine}
 use Rattle.dp_files.specs.declared.context_line.ContextLine.TheVariants.{Exten, Same, LeftOut, Other}
-use Rattle.dp_files.specs.declared.extension.Extension.{Extension}
+use Rattle.dp_files.specs.declared.extension.WrittenExtension.{WrittenExtension}
 use Rattle.dp_files.specs.declared.history.ExtensionLabel.{ExtensionLabel}
-use Rattle.dp_files.specs.declared.history.History.{History}
-use Rattle.dp_files.specs.declared.history.Leaves.{Leaves}
-use Rattle.dp_files.specs.declared.history.Leaves.TheVariants.{Nothing, Names, Hints, Counts}
-use Rattle.dp_files.specs.declared.line_reading.Made.{Made}
-use Rattle.dp_files.specs.declared.line_reading.Reading.{Reading}
+use Rattle.dp_files.specs.declared.history.LineHistory.{LineHistory}
+use Rattle.dp_files.specs.declared.history.LineLeaves.{LineLeaves}
+use Rattle.dp_files.specs.declared.history.LineLeaves.TheVariants.{Nothing, Names, Hints, Counts}
+use Rattle.dp_files.specs.declared.line_reading.LineResult.{LineResult}
+use Rattle.dp_files.specs.declared.line_reading.LineReading.{LineReading}
 use Rattle.dp_files.specs.declared.line_reading.EntrySource.{EntrySource}
 use Rattle.dp_files.specs.declared.entry_line.EntryLine.{EntryLine}
 
 -- a line of a context, as its texts
-abbrev pub line_now : ContextLine → words.ContextLine
+abbrev pub line_now : ContextLine → words.ContextLineOf
 line_now (Exten name entry) = words.Exten name.now entry.priority.now entry.application.now
 line_now (Same entry) = words.Same entry.priority.now entry.application.now
 line_now (LeftOut note) = words.LeftOut note
@@ -50,7 +50,7 @@ number_of_label labels spelling label = lookup (same_label (label_key spelling l
 -- ---- the history
 
 -- the history that the kept values represent
-abbrev pub history_in : History → said.History
+abbrev pub history_in : LineHistory → said.LineHistoryOf
 history_in history = record {
   number = history.number;
   extension = history.extension;
@@ -59,7 +59,7 @@ history_in history = record {
 }
 
 -- the history after one more line
-abbrev pub after : said.History → said.Said → said.History
+abbrev pub after : said.LineHistoryOf → said.Said → said.LineHistoryOf
 after history line = record {
   number = option_or (said.number_in line) history.number;
   extension = option_or (said.extension_in line) history.extension;
@@ -68,7 +68,7 @@ after history line = record {
 }
 
 -- what a line of the extension says
-abbrev pub said_by : Extension → Leaves → said.Said
+abbrev pub said_by : WrittenExtension → LineLeaves → said.Said
 said_by extension Nothing = said.Nothing
 said_by extension Names = said.Names extension
 said_by extension Hints = said.Hints extension
@@ -77,7 +77,7 @@ said_by extension (Counts number label) = said.Counts extension number (option_m
 -- ---- readings
 
 -- an entry, as its texts
-abbrev pub entry_now : EntryLine → lines.Entry
+abbrev pub entry_now : EntryLine → lines.ContextEntry
 entry_now entry = record {
   is_same = entry.is_same;
   extension = entry.extension.now;
@@ -86,16 +86,16 @@ entry_now entry = record {
 }
 
 -- the reading of a line of the extension
-abbrev pub reading_now : Extension → Reading → lines.Reading
+abbrev pub reading_now : WrittenExtension → LineReading → lines.ContextReading
 reading_now extension reading = record { said = said_by extension reading.leaves; made = reading.made }
 
 -- the reading of the line of an entry, given as its texts, whose extension may not be valid
-abbrev pub source_reading : said.History → Option Extension → EntrySource → lines.Reading
+abbrev pub source_reading : said.LineHistoryOf → Option WrittenExtension → EntrySource → lines.ContextReading
 source_reading history extension source =
     lines.reading_of history source.line.now source.is_same extension source.text.priority.now source.text.application.now
 
 -- the result of each line, given the history before the first
-abbrev pub all_made_after : said.History → List (ℕ × List ℕ) → List (ℕ × Made)
+abbrev pub all_made_after : said.LineHistoryOf → List (ℕ × List ℕ) → List (ℕ × LineResult)
 all_made_after history [] = []
 all_made_after history (line ∷ rest) =
     (line.0, (lines.line_reading history line.1).made)

@@ -6,53 +6,53 @@ use Rattle.dp_conf.specs.Blanks.{trim}
 use Rattle.dp_conf.specs.Cut.{cut_once}
 use Rattle.dp_conf.specs.Lines.{after_sign}
 use Rattle.dp_conf.specs.Words.{same_word}
-use Rattle.dp_files.specs.declared.remark.Note.{Note}
-use Rattle.dp_files.specs.declared.remark.Note.TheVariants.{IgnorePat, Switch}
+use Rattle.dp_files.specs.declared.remark.LineNote.{LineNote}
+use Rattle.dp_files.specs.declared.remark.LineNote.TheVariants.{IgnorePat, Switch}
 
 -- an `exten` line with its name, its priority and its application; a `same` line with the latter two; a line that is left out with this
 -- note; or any other line
-pub data ContextLine : Type 0 where
-  Exten : List ℕ → List ℕ → List ℕ → ContextLine
-  Same : List ℕ → List ℕ → ContextLine
-  LeftOut : Note → ContextLine
-  Other : ContextLine
+pub data ContextLineOf : Type 0 where
+  Exten : List ℕ → List ℕ → List ℕ → ContextLineOf
+  Same : List ℕ → List ℕ → ContextLineOf
+  LeftOut : LineNote → ContextLineOf
+  Other : ContextLineOf
 
 -- an `exten` line, given its name and the rest cut at the second comma
-abbrev pub exten_rest : List ℕ → Option (List ℕ × List ℕ) → ContextLine
+abbrev pub exten_rest : List ℕ → Option (List ℕ × List ℕ) → ContextLineOf
 exten_rest name None = Other
 exten_rest name (Some cut) = Exten name (trim cut.0) (trim cut.1)
 
 -- the same, given the value cut at the first comma
-abbrev pub exten_line : Option (List ℕ × List ℕ) → ContextLine
+abbrev pub exten_line : Option (List ℕ × List ℕ) → ContextLineOf
 exten_line None = Other
 exten_line (Some cut) = exten_rest (trim cut.0) (cut_once (byte ",") cut.1)
 
 -- a `same` line, given the value cut at its comma
-abbrev pub same_line : Option (List ℕ × List ℕ) → ContextLine
+abbrev pub same_line : Option (List ℕ × List ℕ) → ContextLineOf
 same_line None = Other
 same_line (Some cut) = Same (trim cut.0) (trim cut.1)
 
 -- a key that is left out, whatever its value
-abbrev pub key_line : List ℕ → ContextLine
+abbrev pub key_line : List ℕ → ContextLineOf
 key_line key =
     if same_word key (codes "ignorepat") then LeftOut IgnorePat
     else if same_word key (codes "switch") || same_word key (codes "lswitch") || same_word key (codes "eswitch") then LeftOut Switch
     else Other
 
 -- a key and its value
-abbrev pub pair_line : List ℕ → List ℕ → ContextLine
+abbrev pub pair_line : List ℕ → List ℕ → ContextLineOf
 pair_line key value =
     if same_word key (codes "exten") then exten_line (cut_once (byte ",") value)
     else if same_word key (codes "same") then same_line (cut_once (byte ",") value)
     else key_line key
 
 -- a line cut at the first `=`: a key and its value, after a `>` that belongs to the sign
-abbrev pub line_by : Option (List ℕ × List ℕ) → ContextLine
+abbrev pub line_by : Option (List ℕ × List ℕ) → ContextLineOf
 line_by None = Other
 line_by (Some cut) = pair_line (trim cut.0) (trim (after_sign cut.1))
 
 -- the line with this content
-unfoldable pub context_line : List ℕ → ContextLine
+unfoldable pub context_line : List ℕ → ContextLineOf
 context_line content = line_by (cut_once (byte "=") content)
 
 -- the text before the cut, or the whole text

@@ -7,7 +7,7 @@ use Rattle.dp_files.specs.Sections.{SectionsSoFar, sections_of}
 use Rattle.dp_files.specs.Sources.{Files}
 use Rattle.dp_files.specs.declared.dialplan.DialplanFiles.{DialplanFiles}
 use Rattle.dp_files.specs.declared.reading.ReadingFault.{ReadingFault}
-use Rattle.dp_files.specs.declared.remark.Remark.{Remark}
+use Rattle.dp_files.specs.declared.remark.LineRemark.{LineRemark}
 use Rattle.dp_files.specs.declared.source_line.MadeLine.{MadeLine}
 use Rattle.dp_files.specs.declared.source_line.SourceFile.{SourceFile}
 use Rattle.dp_files.specs.declared.source_line.SourceLine.{SourceLine}
@@ -17,7 +17,7 @@ pub record DialplanOf : Type 0 where
   pub files : List SourceFile
   pub lines : List SourceLine
   pub made : List MadeLine
-  pub remarks : List Remark
+  pub remarks : List LineRemark
 
 -- the dialplan, given the sections of the lines: the remarks from reading files come first, then those on sections, then those on their
 -- lines

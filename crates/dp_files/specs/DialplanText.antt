@@ -5,7 +5,7 @@ use Rattle.dp_conf.specs.Words.{same_word}
 use Rattle.dp_files.specs.ContextLines.{context_lines, context_remarks, section_lines}
 use Rattle.dp_files.specs.GeneralLines.{general_lines, general_remarks}
 use Rattle.dp_files.specs.Headers.{made_header}
-use Rattle.dp_files.specs.declared.remark.Remark.{Remark}
+use Rattle.dp_files.specs.declared.remark.LineRemark.{LineRemark}
 use Rattle.dp_files.specs.declared.sections.SourceSection.{SourceSection}
 use Rattle.dp_files.specs.declared.source_line.MadeLine.{MadeLine}
 use Rattle.dp_files.specs.declared.source_line.SourceLine.{SourceLine}
@@ -46,7 +46,7 @@ body_lines lines section =
     else context_lines (section_lines lines section.lines)
 
 -- the remarks on them
-abbrev pub body_remarks : List SourceLine → SourceSection → List Remark
+abbrev pub body_remarks : List SourceLine → SourceSection → List LineRemark
 body_remarks lines section =
     if is_general section then general_remarks (section_lines lines section.lines)
     else if is_without_entries section then []
@@ -59,7 +59,7 @@ lines_of_section lines section =
     else header_lines lines section.header ++ body_lines lines section
 
 -- the remarks on the lines of a section
-unfoldable pub remarks_on_section : List SourceLine → SourceSection → List Remark
+unfoldable pub remarks_on_section : List SourceLine → SourceSection → List LineRemark
 remarks_on_section lines section =
     if section.is_template then [] else body_remarks lines section
 
@@ -68,7 +68,7 @@ abbrev pub dialplan_lines : List SourceLine → List SourceSection → List Made
 dialplan_lines lines sections = flat_map (lines_of_section lines) sections
 
 -- the remarks on lines, section by section
-abbrev pub dialplan_remarks : List SourceLine → List SourceSection → List Remark
+abbrev pub dialplan_remarks : List SourceLine → List SourceSection → List LineRemark
 dialplan_remarks lines sections = flat_map (remarks_on_section lines) sections
 
 -- the text of some lines, each with the byte that ends it

@@ -34,9 +34,9 @@ closing_of b =
     else None
 
 -- a name in quotes or in `<` and `>` is the text between them, and any other is unchanged
-abbrev pub unquoted : List ℕ → List ℕ
-unquoted [] = []
-unquoted (b ∷ bs) = unwrap_or (option_and_then (λ closing. before_end closing bs) (closing_of b)) (b ∷ bs)
+abbrev pub without_quotes : List ℕ → List ℕ
+without_quotes [] = []
+without_quotes (b ∷ bs) = unwrap_or (option_and_then (λ closing. before_end closing bs) (closing_of b)) (b ∷ bs)
 
 -- a directive, given its word and its name: a command is one whatever comes after its word
 abbrev pub directive_by : List ℕ → List ℕ → DirectiveOf
@@ -51,7 +51,7 @@ directive_by word (b ∷ bs) =
 unfoldable pub directive_of : List ℕ → Option DirectiveOf
 directive_of [] = None
 directive_of (b ∷ bs) =
-    if b == byte "#" then Some (directive_by (take (word_length bs) bs) (unquoted (trim (drop (word_length bs) bs)))) else None
+    if b == byte "#" then Some (directive_by (take (word_length bs) bs) (without_quotes (trim (drop (word_length bs) bs)))) else None
 
 -- a directive with its name
 abbrev pub directive_now : Directive → DirectiveOf

@@ -61,20 +61,20 @@ MayTell may_be may_list first (NamesOf pattern names) =
 -- ---- what is known
 
 -- something is known of each requested file, and for each name with `*` and `?` the names that match it
-pub record Known : Type 0 where
+pub record KnownFiles : Type 0 where
   pub texts : List (List ℕ × KnownText)
   pub lists : List (List ℕ × List (List ℕ))
 
 -- before any file was requested
-abbrev pub nothing_known : Known
+abbrev pub nothing_known : KnownFiles
 nothing_known = record { texts = []; lists = [] }
 
 -- what is known of a file
-abbrev pub text_known : Known → List ℕ → Option KnownText
+abbrev pub text_known : KnownFiles → List ℕ → Option KnownText
 text_known known name = lookup (same_text name) known.texts
 
 -- the names that are known to match one with `*` and `?`
-abbrev pub names_known : Known → List ℕ → Option (List (List ℕ))
+abbrev pub names_known : KnownFiles → List ℕ → Option (List (List ℕ))
 names_known known pattern = lookup (same_text pattern) known.lists
 
 -- a file agrees with what is known of it
@@ -94,7 +94,7 @@ AreKnown None names = Unit {0}
 AreKnown (Some known) names = names ≡ known
 
 -- files that agree with what is known
-pub record Agrees (known : Known) (has : Files) : Type 0 where
+pub record Agrees (known : KnownFiles) (has : Files) : Type 0 where
   pub texts : (name : List ℕ) → FitsKnown (text_known known name) (has.text name)
   pub names : (pattern : List ℕ) → AreKnown (names_known known pattern) (has.names pattern)
 
@@ -113,7 +113,7 @@ MayBeKnown may None = Unit {0}
 MayBeKnown may (Some names) = may names
 
 -- everything known is something that may be reported
-pub record MayKnow (may_tell : Telling → Type 0) (known : Known) : Type 0 where
+pub record MayKnow (may_tell : Telling → Type 0) (known : KnownFiles) : Type 0 where
   pub texts : (name : List ℕ) → MayFitKnown (λ text. may_tell (TextOf name text)) (text_known known name)
   pub names : (pattern : List ℕ) → MayBeKnown (λ names. may_tell (NamesOf pattern names)) (names_known known pattern)
 
@@ -125,4 +125,4 @@ known_of TooLong = too_long_known
 
 -- for something that a system may report, a property holds of all files that agree with it
 abbrev pub ReadsFolder : (Telling → Type 0) → (Files → Type 0) → Type 0
-ReadsFolder may_tell Holds = (known : Known) × MayKnow may_tell known × ((has : Files) → Agrees known has → Holds has)
+ReadsFolder may_tell Holds = (known : KnownFiles) × MayKnow may_tell known × ((has : Files) → Agrees known has → Holds has)

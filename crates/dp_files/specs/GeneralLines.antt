@@ -7,9 +7,9 @@ use Rattle.dp_conf.specs.Cut.{cut_once}
 use Rattle.dp_conf.specs.Lines.{after_sign, content_of}
 use Rattle.dp_conf.specs.Words.{same_word}
 use Rattle.dp_files.specs.ContextLines.{made_line, remark_on}
-use Rattle.dp_files.specs.declared.line_reading.Made.{Made}
-use Rattle.dp_files.specs.declared.remark.Note.TheVariants.{AutoFallThrough}
-use Rattle.dp_files.specs.declared.remark.Remark.{Remark}
+use Rattle.dp_files.specs.declared.line_reading.LineResult.{LineResult}
+use Rattle.dp_files.specs.declared.remark.LineNote.TheVariants.{AutoFallThrough}
+use Rattle.dp_files.specs.declared.remark.LineRemark.{LineRemark}
 use Rattle.dp_files.specs.declared.remark.RemarkKind.TheVariants.{Note}
 use Rattle.dp_files.specs.declared.source_line.MadeLine.{MadeLine}
 
@@ -29,13 +29,13 @@ turns_off_by None = false
 turns_off_by (Some cut) = turns_off (trim cut.0) (trim (after_sign cut.1))
 
 -- a line: that setting is left out with a note, and everything else is unchanged
-unfoldable pub general_made : List ℕ → Made
+unfoldable pub general_made : List ℕ → LineResult
 general_made line =
     if turns_off_by (cut_once (byte "=") (content_of line)) then record { text = None; remark = Some (Note AutoFallThrough) }
     else record { text = Some line; remark = None }
 
 -- the result of each line
-abbrev pub all_general_made : List (ℕ × List ℕ) → List (ℕ × Made)
+abbrev pub all_general_made : List (ℕ × List ℕ) → List (ℕ × LineResult)
 all_general_made lines = map (λ (line : ℕ × List ℕ). (line.0, general_made line.1)) lines
 
 -- the lines made from the lines of a section, in order
@@ -43,5 +43,5 @@ abbrev pub general_lines : List (ℕ × List ℕ) → List MadeLine
 general_lines lines = flat_map made_line (all_general_made lines)
 
 -- the remarks on the lines of a section, in order
-abbrev pub general_remarks : List (ℕ × List ℕ) → List Remark
+abbrev pub general_remarks : List (ℕ × List ℕ) → List LineRemark
 general_remarks lines = flat_map remark_on (all_general_made lines)

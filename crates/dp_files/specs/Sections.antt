@@ -11,7 +11,7 @@ use Rattle.dp_conf.specs.declared.fault.LineKind.TheVariants.{Template}
 use Rattle.dp_files.specs.Headers.{HeaderOf, header_of, makes_template, is_addition, parents_of}
 use Rattle.dp_files.specs.declared.remark.Fault.{Fault}
 use Rattle.dp_files.specs.declared.remark.Fault.TheVariants.{TooLong, Line}
-use Rattle.dp_files.specs.declared.remark.Remark.{Remark}
+use Rattle.dp_files.specs.declared.remark.LineRemark.{LineRemark}
 use Rattle.dp_files.specs.declared.remark.RemarkKind.TheVariants.{Fault as fault_kind}
 use Rattle.dp_files.specs.declared.sections.Opening.{Opening}
 use Rattle.dp_files.specs.declared.sections.Opening.TheVariants.{New, Extends}
@@ -27,7 +27,7 @@ most_copied = 16777216
 -- line so far; and the number of places that may still be copied
 pub record SectionsSoFar : Type 0 where
   pub sections : List SourceSection
-  pub remarks : List Remark
+  pub remarks : List LineRemark
   pub open_in : List (Option ℕ)
   pub room : ℕ
 

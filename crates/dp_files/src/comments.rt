@@ -106,7 +106,7 @@ fn pass_covered<'a>(
 
 /// Whether a line has no `;`. Then it has no comment, and its content is all of it, without blanks at its ends.
 fn is_plain(part: &[u8]) -> bool
-    ensures stands { (line : ℕ) → result ≡ true → spec.uncovered line [] part.now ≡ record { text = part.now; unclosed = [] } }
+    ensures stands { (line : ℕ) → result ≡ true → spec.rest_of_line line [] part.now ≡ record { text = part.now; unclosed = [] } }
     ensures content { result ≡ true → content_of part.now ≡ trim part.now }
 {
     !part.contains(&b';')
@@ -114,7 +114,7 @@ fn is_plain(part: &[u8]) -> bool
 
 /// Whether a block comment opens in a line outside block comments.
 fn begins_block(part: &[u8]) -> bool
-    ensures { (line : ℕ) → result ≡ false → spec.uncovered line [] part.now ≡ record { text = part.now; unclosed = [] } }
+    ensures { (line : ℕ) → result ≡ false → spec.rest_of_line line [] part.now ≡ record { text = part.now; unclosed = [] } }
 {
     let mut previous = b'\n';
     let mut left = part;
@@ -135,7 +135,7 @@ fn uncover_part(
     open: &mut OpenComments,
     part: &[u8],
 ) -> Result<Text, NoMemory>
-    ensures { IfOk result (λ text. spec.uncovered line open.old part.now ≡ record { text = text; unclosed = open.new }) }
+    ensures { IfOk result (λ text. spec.rest_of_line line open.old part.now ≡ record { text = text; unclosed = open.new }) }
 {
     let mut kept = Vec::new(alloc);
     let mut previous = b'\n';
@@ -199,13 +199,13 @@ fn uncover_line(
     range: LineRange,
 ) -> Result<LineText, NoMemory>
     requires { (range.start ≤ range.end) × (range.end ≤ length whole.now) }
-    ensures { IfOk result (λ text. spec.uncovered line open.old (slice_range whole.now range.start range.end)
+    ensures { IfOk result (λ text. spec.rest_of_line line open.old (slice_range whole.now range.start range.end)
         ≡ record { text = text; unclosed = open.new }) }
 {
     let part = &whole.bytes()[range.start..range.end];
     let is_plain = is_plain(part);
     if open.is_empty() && (is_plain || !begins_block(part)) {
-        return whole.cut(range.start, range.end, is_plain);
+        return whole.part_between(range.start, range.end, is_plain);
     }
     let text = uncover_part(alloc, line, open, part)?;
     Ok(LineText::new(text))

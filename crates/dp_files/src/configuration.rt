@@ -7,7 +7,7 @@ ghost use Rattle.dp_files.specs.Sources.{Files, Telling};
 
 use crate::dialplan_text::{push_all_standing, push_header};
 use crate::reading::{FilesRead, ReadingFault, read_files};
-use crate::remark::Remark;
+use crate::remark::LineRemark;
 use crate::sections::{Sections, SourceSection, read_sections};
 use crate::source::Source;
 use crate::source_line::{MadeLine, SourceFile, SourceLine};
@@ -24,7 +24,7 @@ pub struct ConfigurationFiles {
     /// The lines of all sections, unchanged, each section after its header. A template is left out, and so are the parentheses of headers.
     pub made: Vec<MadeLine>,
     /// The remarks on the lines: first those from reading the files, then those on sections.
-    pub remarks: Vec<Remark>,
+    pub remarks: Vec<LineRemark>,
 }
 
 /// Adds the header of a section and its lines, unless it is a template.

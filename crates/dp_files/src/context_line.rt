@@ -5,7 +5,7 @@ ghost use Rattle.dp_conf.specs.Lines as lines;
 ghost use Rattle.dp_files.specs.ContextSteps as steps;
 ghost use Rattle.dp_files.specs.ContextWords as spec;
 
-use crate::remark::Note;
+use crate::remark::LineNote;
 use dp_conf::{cut_once, same_word, trim};
 
 /// The priority and the application of an entry's line.
@@ -24,7 +24,7 @@ pub(crate) enum ContextLine<'a> {
     },
     Same(EntryText<'a>),
     /// A line that is left out, with this note.
-    LeftOut(Note),
+    LeftOut(LineNote),
     Other,
 }
 
@@ -65,10 +65,10 @@ fn key_line(key: &[u8]) -> ContextLine<'static>
     ensures { steps.line_now result ≡ spec.key_line key.now }
 {
     if same_word(key, b"ignorepat") {
-        return ContextLine::LeftOut(Note::IgnorePat);
+        return ContextLine::LeftOut(LineNote::IgnorePat);
     }
     if same_word(key, b"switch") || same_word(key, b"lswitch") || same_word(key, b"eswitch") {
-        return ContextLine::LeftOut(Note::Switch);
+        return ContextLine::LeftOut(LineNote::Switch);
     }
     ContextLine::Other
 }

@@ -4,7 +4,7 @@ ghost use Rattle.dp_files.specs.ContextLines as spec;
 ghost use Rattle.dp_files.specs.ToldSteps as steps;
 ghost use Rattle.dp_files.specs.PlainContexts.{PlainLinesStand};
 
-use crate::history::History;
+use crate::history::LineHistory;
 use crate::line_reading::make_line;
 use crate::line_text::LineText;
 use crate::made_text::MadeText;
@@ -15,15 +15,15 @@ use std::alloc::Global;
 /// The result of the lines so far, and what they leave for the next one.
 #[derive(Drop)]
 struct ContextReader {
-    history: History,
+    history: LineHistory,
     text: MadeText,
 }
 
 impl ContextReader {
     /// Reads a line.
     fn read_line(&mut self, alloc: Global, place: usize, line: &LineText) -> Result<(), NoMemory>
-        ensures { OnOk result ((rest : List (ℕ × List ℕ)) → steps.told self.new rest
-            ≡ steps.told self.old ((place, line.now) ∷ rest)) }
+        ensures { OnOk result ((rest : List (ℕ × List ℕ)) → steps.results_of_reader self.new rest
+            ≡ steps.results_of_reader self.old ((place, line.now) ∷ rest)) }
     {
         let made = make_line(alloc, &mut self.history, line)?;
         self.text.push(place, made)?;
@@ -37,8 +37,8 @@ impl ContextReader {
         lines: &[SourceLine],
         place: usize,
     ) -> Result<(), NoMemory>
-        ensures { OnOk result ((rest : List (ℕ × List ℕ)) → steps.told self.new rest
-            ≡ steps.told self.old (spec.line_at place (slice_get lines.now place) ++ rest)) }
+        ensures { OnOk result ((rest : List (ℕ × List ℕ)) → steps.results_of_reader self.new rest
+            ≡ steps.results_of_reader self.old (spec.line_at place (slice_get lines.now place) ++ rest)) }
     {
         match lines.get(place) {
             Some(line) => self.read_line(alloc, place, &line.text),
@@ -66,7 +66,7 @@ pub fn read_context(
         ≡ spec.context_remarks (spec.section_lines lines.now places.now)) }
 {
     let mut reader = ContextReader {
-        history: History::new(alloc),
+        history: LineHistory::new(alloc),
         text: MadeText::new(alloc),
     };
     for place in places {

@@ -57,8 +57,8 @@ fn closing_of(byte: u8) -> Option<u8>
 }
 
 /// A name without the quotes, or the `<` and the `>`, around it. A name without the closing byte at its end is unchanged.
-fn unquoted(text: &[u8]) -> &[u8]
-    ensures { result.now ≡ spec.unquoted text.now }
+fn without_quotes(text: &[u8]) -> &[u8]
+    ensures { result.now ≡ spec.without_quotes text.now }
 {
     let Some((first, inside)) = text.split_first() else {
         return text;
@@ -100,7 +100,7 @@ pub(crate) fn read_directive(content: &[u8]) -> Option<Directive<'_>>
     match content.split_first() {
         Some((b'#', after)) => {
             let (word, rest) = after.split_at(word_length(after));
-            Some(directive_by(word, unquoted(trim(rest))))
+            Some(directive_by(word, without_quotes(trim(rest))))
         }
         _ => None,
     }

@@ -5,9 +5,9 @@ ghost use Rattle.dp_files.specs.ContextLines as spec;
 ghost use Rattle.dp_files.specs.ContextSteps as steps;
 ghost use Rattle.dp_files.specs.PriorityView as view;
 
-use crate::extension::Extension;
+use crate::extension::WrittenExtension;
 use crate::line_text::LineText;
-use crate::priority::{Base, Priority, Written};
+use crate::priority::{Base, WrittenBase, WrittenPriority};
 use dp_conf::{NoMemory, Text, escape};
 use itoa::Buffer;
 use std::alloc::Global;
@@ -16,8 +16,8 @@ use std::alloc::Global;
 #[derive(Clone, Copy)]
 pub(crate) struct EntryLine<'a, 'e> {
     pub(crate) is_same: bool,
-    pub(crate) extension: &'e Extension,
-    pub(crate) priority: Option<Priority<'a>>,
+    pub(crate) extension: &'e WrittenExtension,
+    pub(crate) priority: Option<WrittenPriority<'a>>,
     pub(crate) application: &'a [u8],
 }
 
@@ -53,12 +53,12 @@ impl<'a> EntryLine<'a, '_> {
 }
 
 /// Whether a priority without its label is a plain number.
-fn is_number_alone(written: Written<'_>) -> bool
+fn is_number_alone(written: WrittenBase<'_>) -> bool
     ensures { result ≡ spec.is_alone (view.written_now written.entry) }
 {
     matches!(
         written,
-        Written::Counted {
+        WrittenBase::Counted {
             base: Base::Number(_),
             more: None
         }

@@ -18,7 +18,7 @@ use std::alloc::Global;
 /// Names with one meaning are one extension. Names without their dashes would not do: `_[1-3]` and `_[123]` are one extension, and `_[13]`
 /// is another.
 #[derive(Drop)]
-pub(crate) struct Extension {
+pub(crate) struct WrittenExtension {
     pub(crate) name: ShortText,
     pub(crate) spelling: ShortText,
 }
@@ -84,7 +84,7 @@ fn is_spelled(name: &[u8]) -> bool
 
 /// The canonical spelling of a name.
 #[tactic(auto, unfolding(dp_pattern::specs::Spelling::spelling))]
-fn spelled(alloc: Global, name: &Name) -> Result<ShortText, NoMemory>
+fn spelling_of(alloc: Global, name: &Name) -> Result<ShortText, NoMemory>
     ensures { IfOk result (λ text. text ≡ spelling name.now) }
 {
     match name.parts() {
@@ -96,14 +96,14 @@ fn spelled(alloc: Global, name: &Name) -> Result<ShortText, NoMemory>
     }
 }
 
-impl Extension {
+impl WrittenExtension {
     /// A copy of the extension.
     pub(crate) fn copy(&self) -> Result<Self, NoMemory>
         ensures { IfOk result (λ copy. copy ≡ self.now) }
     {
         let name = self.name.copy()?;
         let spelling = self.spelling.copy()?;
-        Ok(Extension { name, spelling })
+        Ok(WrittenExtension { name, spelling })
     }
 
     /// The extension of a name that is spelled as it is written, or of which only the text is known.
@@ -112,18 +112,18 @@ impl Extension {
     {
         let spelling = ShortText::copy_of(alloc, name)?;
         let name = ShortText::copy_of(alloc, name)?;
-        Ok(Extension { name, spelling })
+        Ok(WrittenExtension { name, spelling })
     }
 
     /// The extension of a name without a group and without a caller's number, if the text is a name.
     fn of_name(alloc: Global, text: &[u8]) -> Result<Option<Self>, NoMemory>
-        ensures { IfOk result (λ extension. extension ≡ spec.spelled text.now (meaning_of text.now)) }
+        ensures { IfOk result (λ extension. extension ≡ spec.spelled_extension text.now (meaning_of text.now)) }
     {
         match Name::read(alloc, text) {
             Ok(meaning) => {
-                let spelling = spelled(alloc, &meaning)?;
+                let spelling = spelling_of(alloc, &meaning)?;
                 let name = ShortText::copy_of(alloc, text)?;
-                Ok(Some(Extension { name, spelling }))
+                Ok(Some(WrittenExtension { name, spelling }))
             }
             Err(PatternFault::Name(_)) => Ok(None),
             Err(PatternFault::NoMemory) => Err(NoMemory),
@@ -135,10 +135,10 @@ impl Extension {
         ensures { IfOk result (λ extension. extension ≡ spec.extension_of name.now) }
     {
         if is_spelled(name) {
-            let extension = Extension::of_text(alloc, name)?;
+            let extension = WrittenExtension::of_text(alloc, name)?;
             return Ok(Some(extension));
         }
-        Extension::read_any(alloc, name)
+        WrittenExtension::read_any(alloc, name)
     }
 
     /// The extension of a name, if the text is one, however it is spelled.
@@ -147,9 +147,9 @@ impl Extension {
         ensures { IfOk result (λ extension. extension ≡ spec.extension_of name.now) }
     {
         if is_known_by_text(name) {
-            let extension = Extension::of_text(alloc, name)?;
+            let extension = WrittenExtension::of_text(alloc, name)?;
             return Ok(Some(extension));
         }
-        Extension::of_name(alloc, name)
+        WrittenExtension::of_name(alloc, name)
     }
 }

@@ -44,9 +44,9 @@ pub struct FolderFiles<'a, P: Paths> {
 
 impl<'a, P: Paths> Model for FolderFiles<'a, P> {
     ghost use Rattle.std.specs.Prelude.{ℕ, List};
-    ghost use Rattle.dp_files.specs.FolderFiles.{Known, MayKnow, MayTell};
+    ghost use Rattle.dp_files.specs.FolderFiles.{KnownFiles, MayKnow, MayTell};
 
-    ghost Value = { P × List ℕ × Known };
+    ghost Value = { P × List ℕ × KnownFiles };
 
     ghost view = { λ source. (source.paths.now, source.first.now, record { texts = source.texts.entries; lists = source.lists.entries }) };
 

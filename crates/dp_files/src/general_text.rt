@@ -6,10 +6,10 @@ ghost use Rattle.dp_files.specs.GeneralLines as spec;
 ghost use Rattle.dp_files.specs.GeneralSteps as steps;
 
 use crate::context_line::after_sign;
-use crate::line_reading::Made;
+use crate::line_reading::LineResult;
 use crate::line_text::LineText;
 use crate::made_text::MadeText;
-use crate::remark::{Note, RemarkKind};
+use crate::remark::{LineNote, RemarkKind};
 use crate::source_line::SourceLine;
 use dp_conf::{NoMemory, cut_once, same_word, trim};
 use std::alloc::Global;
@@ -38,14 +38,14 @@ fn turns_off(content: &[u8]) -> bool
 
 /// The result of a line.
 #[tactic(auto, unfolding(crate::specs::GeneralLines::general_made))]
-fn make_general(alloc: Global, line: &LineText) -> Result<Made, NoMemory>
+fn make_general(alloc: Global, line: &LineText) -> Result<LineResult, NoMemory>
     ensures { IfOk result (λ made. made ≡ spec.general_made line.now) }
 {
     let content = line.content(alloc)?;
     if turns_off(content.bytes()) {
-        return Ok(Made::remark(RemarkKind::Note(Note::AutoFallThrough)));
+        return Ok(LineResult::remark(RemarkKind::Note(LineNote::AutoFallThrough)));
     }
-    Made::standing(line)
+    LineResult::standing(line)
 }
 
 /// Adds the result of a line.
@@ -55,8 +55,8 @@ fn read_line(
     place: usize,
     line: &LineText,
 ) -> Result<(), NoMemory>
-    ensures { OnOk result ((rest : List (ℕ × List ℕ)) → steps.told text.new rest
-        ≡ steps.told text.old ((place, line.now) ∷ rest)) }
+    ensures { OnOk result ((rest : List (ℕ × List ℕ)) → steps.results_with_rest text.new rest
+        ≡ steps.results_with_rest text.old ((place, line.now) ∷ rest)) }
 {
     let made = make_general(alloc, line)?;
     text.push(place, made)?;
@@ -70,8 +70,8 @@ fn read_place(
     lines: &[SourceLine],
     place: usize,
 ) -> Result<(), NoMemory>
-    ensures { OnOk result ((rest : List (ℕ × List ℕ)) → steps.told text.new rest
-        ≡ steps.told text.old (line_at place (slice_get lines.now place) ++ rest)) }
+    ensures { OnOk result ((rest : List (ℕ × List ℕ)) → steps.results_with_rest text.new rest
+        ≡ steps.results_with_rest text.old (line_at place (slice_get lines.now place) ++ rest)) }
 {
     match lines.get(place) {
         Some(line) => read_line(alloc, text, place, &line.text),

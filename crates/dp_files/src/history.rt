@@ -4,7 +4,7 @@ ghost use Rattle.std.specs.Option.{option_map};
 ghost use Rattle.dp_files.specs.ContextHistory as spec;
 ghost use Rattle.dp_files.specs.ContextSteps as steps;
 
-use crate::extension::Extension;
+use crate::extension::WrittenExtension;
 use dp_conf::{NoMemory, Text};
 use indexmap::IndexMap;
 use std::alloc::Global;
@@ -18,7 +18,7 @@ pub(crate) struct ExtensionLabel {
 
 /// What a line leaves for those after it, in addition to its extension.
 #[derive(Clone, Copy)]
-pub(crate) enum Leaves<'a> {
+pub(crate) enum LineLeaves<'a> {
     /// Not even the extension.
     Nothing,
     /// The extension.
@@ -34,9 +34,9 @@ pub(crate) enum Leaves<'a> {
 
 /// What the lines of a section so far leave for the next one.
 #[derive(Drop)]
-pub(crate) struct History {
+pub(crate) struct LineHistory {
     number: Option<u64>,
-    extension: Option<Extension>,
+    extension: Option<WrittenExtension>,
     is_after_hint: bool,
     labels: IndexMap<ExtensionLabel, u64>,
 }
@@ -71,12 +71,12 @@ fn add_label(
     Ok(())
 }
 
-impl History {
+impl LineHistory {
     /// The value before the first line.
     pub(crate) fn new(alloc: Global) -> Self
         ensures { steps.history_in result ≡ spec.history_of [] }
     {
-        History {
+        LineHistory {
             number: None,
             extension: None,
             is_after_hint: false,
@@ -92,7 +92,7 @@ impl History {
     }
 
     /// A copy of the last extension.
-    pub(crate) fn extension(&self) -> Result<Option<Extension>, NoMemory>
+    pub(crate) fn extension(&self) -> Result<Option<WrittenExtension>, NoMemory>
         ensures { IfOk result (λ extension. extension ≡ (steps.history_in self.now).extension) }
     {
         match &self.extension {
@@ -126,7 +126,7 @@ impl History {
     }
 
     /// Adds a hint of the extension.
-    fn hint(&mut self, extension: Extension)
+    fn hint(&mut self, extension: WrittenExtension)
         ensures { steps.history_in self.new ≡ steps.after (steps.history_in self.old) (spec.Hints extension) }
     {
         self.extension = Some(extension);
@@ -134,7 +134,7 @@ impl History {
     }
 
     /// Adds a line of the extension without a number.
-    fn name(&mut self, extension: Extension)
+    fn name(&mut self, extension: WrittenExtension)
         ensures { steps.history_in self.new ≡ steps.after (steps.history_in self.old) (spec.Names extension) }
     {
         self.extension = Some(extension);
@@ -144,7 +144,7 @@ impl History {
     fn count(
         &mut self,
         alloc: Global,
-        extension: Extension,
+        extension: WrittenExtension,
         number: u64,
         label: Option<&[u8]>,
     ) -> Result<(), NoMemory>
@@ -168,23 +168,23 @@ impl History {
     pub(crate) fn add(
         &mut self,
         alloc: Global,
-        extension: Extension,
-        leaves: Leaves<'_>,
+        extension: WrittenExtension,
+        leaves: LineLeaves<'_>,
     ) -> Result<(), NoMemory>
         ensures { OnOk result (steps.history_in self.new
             ≡ steps.after (steps.history_in self.old) (steps.said_by extension leaves.entry)) }
     {
         match leaves {
-            Leaves::Nothing => Ok(()),
-            Leaves::Names => {
+            LineLeaves::Nothing => Ok(()),
+            LineLeaves::Names => {
                 self.name(extension);
                 Ok(())
             }
-            Leaves::Hints => {
+            LineLeaves::Hints => {
                 self.hint(extension);
                 Ok(())
             }
-            Leaves::Counts { number, label } => self.count(alloc, extension, number, label),
+            LineLeaves::Counts { number, label } => self.count(alloc, extension, number, label),
         }
     }
 }

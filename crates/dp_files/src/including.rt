@@ -7,8 +7,8 @@ ghost use Rattle.dp_files.specs.Sources.{Files, Telling};
 use crate::comments::{FileLines, file_lines};
 use crate::directive::{Directive, read_directive};
 use crate::line_text::{LineText, WholeText};
-use crate::reading::Reading;
-use crate::remark::{Fault, Note, RemarkKind};
+use crate::reading::FilesReading;
+use crate::remark::{Fault, LineNote, RemarkKind};
 use crate::source::{FileText, Source};
 use crate::wildcard::is_wildcard;
 use dp_conf::{LineKind, NoMemory, Text};
@@ -17,7 +17,7 @@ use std::marker::PhantomData;
 
 /// The request of a line for the files with a name.
 #[derive(Clone, Copy)]
-pub(crate) struct Request<'a> {
+pub(crate) struct FileRequest<'a> {
     /// The place of the line.
     place: usize,
     name: &'a [u8],
@@ -47,14 +47,14 @@ struct LineRead<'a> {
 /// How the files requested by a line are read. The type says how deep they may be nested.
 pub(crate) trait Including<S: Source> {
     // The result after reading the files requested by a line.
-    ghost after: { Files → spec.RequestOf → spec.ReadSoFar → spec.ReadSoFar };
+    ghost after: { Files → spec.FileRequestOf → spec.FilesReadSoFar → spec.FilesReadSoFar };
 
     /// Reads the files requested by a line.
     fn include(
         alloc: Global,
         source: &mut S,
-        reading: &mut Reading,
-        request: Request<'_>,
+        reading: &mut FilesReading,
+        request: FileRequest<'_>,
     ) -> Result<(), NoMemory>
         ensures read { OnOk result ((has : Files) → S.agrees source.new has
             → reading.new ≡ after has (spec.request_now request.entry) reading.old) }
@@ -74,8 +74,8 @@ impl<S: Source> Including<S> for Deepest {
     fn include(
         _alloc: Global,
         _source: &mut S,
-        reading: &mut Reading,
-        request: Request<'_>,
+        reading: &mut FilesReading,
+        request: FileRequest<'_>,
     ) -> Result<(), NoMemory> {
         reading.tell(request.place, RemarkKind::Fault(Fault::IncludeDepth))?;
         Ok(())
@@ -95,8 +95,8 @@ impl<S: Source, I: Including<S>> Including<S> for Within<I> {
     fn include(
         alloc: Global,
         source: &mut S,
-        reading: &mut Reading,
-        request: Request<'_>,
+        reading: &mut FilesReading,
+        request: FileRequest<'_>,
     ) -> Result<(), NoMemory> {
         include_request::<S, I>(alloc, source, reading, request)?;
         Ok(())
@@ -113,8 +113,8 @@ pub(crate) type First = Within<
 fn include_request<S: Source, I: Including<S>>(
     alloc: Global,
     source: &mut S,
-    reading: &mut Reading,
-    request: Request<'_>,
+    reading: &mut FilesReading,
+    request: FileRequest<'_>,
 ) -> Result<(), NoMemory>
     ensures read { OnOk result ((has : Files) → S.agrees source.new has
         → reading.new ≡ spec.after_request (I.after has) has (spec.request_now request.entry) reading.old) }
@@ -134,8 +134,8 @@ fn include_request<S: Source, I: Including<S>>(
 fn include_names<S: Source, I: Including<S>>(
     alloc: Global,
     source: &mut S,
-    reading: &mut Reading,
-    request: Request<'_>,
+    reading: &mut FilesReading,
+    request: FileRequest<'_>,
     names: &[Text],
 ) -> Result<(), NoMemory>
     ensures read { OnOk result ((has : Files) → S.agrees source.new has
@@ -158,8 +158,8 @@ fn include_names<S: Source, I: Including<S>>(
 fn include_name<S: Source, I: Including<S>>(
     alloc: Global,
     source: &mut S,
-    reading: &mut Reading,
-    request: Request<'_>,
+    reading: &mut FilesReading,
+    request: FileRequest<'_>,
     name: &[u8],
 ) -> Result<(), NoMemory>
     ensures read { OnOk result ((has : Files) → S.agrees source.new has
@@ -193,7 +193,7 @@ fn include_name<S: Source, I: Including<S>>(
 fn include_file<S: Source, I: Including<S>>(
     alloc: Global,
     source: &mut S,
-    reading: &mut Reading,
+    reading: &mut FilesReading,
     place: usize,
     file: FileRead<'_>,
 ) -> Result<(), NoMemory>
@@ -216,7 +216,7 @@ fn include_file<S: Source, I: Including<S>>(
 pub(crate) fn read_file<S: Source, I: Including<S>>(
     alloc: Global,
     source: &mut S,
-    reading: &mut Reading,
+    reading: &mut FilesReading,
     file: FileRead<'_>,
 ) -> Result<(), NoMemory>
     ensures read { OnOk result ((has : Files) → S.agrees source.new has
@@ -244,7 +244,7 @@ fn is_open_at(opening: Option<usize>, line: usize) -> bool
 fn read_lines<S: Source, I: Including<S>>(
     alloc: Global,
     source: &mut S,
-    reading: &mut Reading,
+    reading: &mut FilesReading,
     file: usize,
     lines: &FileLines,
 ) -> Result<(), NoMemory>
@@ -270,7 +270,7 @@ fn read_lines<S: Source, I: Including<S>>(
 fn read_line<S: Source, I: Including<S>>(
     alloc: Global,
     source: &mut S,
-    reading: &mut Reading,
+    reading: &mut FilesReading,
     line: LineRead<'_>,
 ) -> Result<(), NoMemory>
     ensures read { OnOk result ((has : Files) → S.agrees source.new has
@@ -289,7 +289,7 @@ fn read_line<S: Source, I: Including<S>>(
 fn follow_line<S: Source, I: Including<S>>(
     alloc: Global,
     source: &mut S,
-    reading: &mut Reading,
+    reading: &mut FilesReading,
     place: usize,
     content: &[u8],
 ) -> Result<(), NoMemory>
@@ -308,7 +308,7 @@ fn follow_line<S: Source, I: Including<S>>(
                 alloc,
                 source,
                 reading,
-                Request {
+                FileRequest {
                     place,
                     name,
                     required,
@@ -321,14 +321,14 @@ fn follow_line<S: Source, I: Including<S>>(
                 alloc,
                 source,
                 reading,
-                Request {
+                FileRequest {
                     place,
                     name,
                     required,
                 },
             )?;
         }
-        Directive::Exec => reading.tell(place, RemarkKind::Note(Note::Exec))?,
+        Directive::Exec => reading.tell(place, RemarkKind::Note(LineNote::Exec))?,
         Directive::Unknown => {
             reading.tell(place, RemarkKind::Fault(Fault::Line(LineKind::Directive)))?;
         }

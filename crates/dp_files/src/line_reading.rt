@@ -3,41 +3,41 @@ ghost use Rattle.std.specs.Prelude.{◌≡◌, IfOk, OnOk, None, Some};
 ghost use Rattle.std.specs.Option.{option_map};
 ghost use Rattle.dp_files.specs.ContextLines as spec;
 ghost use Rattle.dp_files.specs.ContextSteps as steps;
-ghost use Rattle.dp_files.specs.declared.extension.Extension.{Extension};
+ghost use Rattle.dp_files.specs.declared.extension.WrittenExtension.{WrittenExtension};
 ghost use Rattle.dp_files.specs.declared.remark.RemarkKind.TheVariants.{Note as note_kind};
 
 use crate::context_line::{ContextLine, EntryText, is_old_form, read_context_line};
 use crate::entry_line::{EntryLine, NumberedLine};
-use crate::extension::{Extension, has_caller};
-use crate::history::{History, Leaves};
+use crate::extension::{WrittenExtension, has_caller};
+use crate::history::{LineHistory, LineLeaves};
 use crate::line_text::LineText;
-use crate::outcome::{Outcome, outcome_of};
+use crate::outcome::{PriorityOutcome, outcome_of};
 use crate::priority::read_priority;
-use crate::remark::{Fault, Note, RemarkKind};
+use crate::remark::{Fault, LineNote, RemarkKind};
 use dp_conf::{NoMemory, beside};
 use std::alloc::Global;
 
 /// The result of a line: a text, unless the line is left out, and a remark, if there is one.
 #[derive(Drop)]
-pub(crate) struct Made {
+pub(crate) struct LineResult {
     pub(crate) text: Option<LineText>,
     pub(crate) remark: Option<RemarkKind>,
 }
 
 /// The result of a line, and what it leaves for those after it.
 #[derive(Drop)]
-pub(crate) struct Reading<'a> {
-    pub(crate) leaves: Leaves<'a>,
-    pub(crate) made: Made,
+pub(crate) struct LineReading<'a> {
+    pub(crate) leaves: LineLeaves<'a>,
+    pub(crate) made: LineResult,
 }
 
-impl Made {
+impl LineResult {
     /// The line unchanged.
     pub(crate) fn standing(line: &LineText) -> Result<Self, NoMemory>
         ensures { IfOk result (λ made. made ≡ (spec.stands line.now).made) }
     {
         let text = line.clone()?;
-        Ok(Made {
+        Ok(LineResult {
             text: Some(text),
             remark: None,
         })
@@ -47,7 +47,7 @@ impl Made {
     pub(crate) fn remark(kind: RemarkKind) -> Self
         ensures { (result.text ≡ None) × (result.remark ≡ Some kind) }
     {
-        Made {
+        LineResult {
             text: None,
             remark: Some(kind),
         }
@@ -59,7 +59,7 @@ fn double_note(is_double: bool) -> Option<RemarkKind>
     ensures { result ≡ spec.double_note is_double }
 {
     if is_double {
-        Some(RemarkKind::Note(Note::DoubleLabel))
+        Some(RemarkKind::Note(LineNote::DoubleLabel))
     } else {
         None
     }
@@ -68,7 +68,7 @@ fn double_note(is_double: bool) -> Option<RemarkKind>
 /// The label, unless an earlier line of the extension has it.
 fn kept_label<'a>(
     alloc: Global,
-    history: &History,
+    history: &LineHistory,
     spelling: &[u8],
     label: Option<&'a [u8]>,
 ) -> Result<Option<&'a [u8]>, NoMemory>
@@ -85,14 +85,14 @@ fn kept_label<'a>(
 }
 
 /// What an entry leaves if it is left out because of its caller's number.
-fn caller_leaves(outcome: Outcome, label: Option<&[u8]>) -> Leaves<'_>
-    ensures { (extension : Extension) → steps.said_by extension result
+fn caller_leaves(outcome: PriorityOutcome, label: Option<&[u8]>) -> LineLeaves<'_>
+    ensures { (extension : WrittenExtension) → steps.said_by extension result
         ≡ spec.caller_said extension (option_map (λ label. label.now) label.entry) outcome }
 {
     match outcome {
-        Outcome::Refused | Outcome::AfterTheHint => Leaves::Names,
-        Outcome::Hinted => Leaves::Hints,
-        Outcome::Numbered(number) => Leaves::Counts { number, label },
+        PriorityOutcome::Refused | PriorityOutcome::AfterTheHint => LineLeaves::Names,
+        PriorityOutcome::Hinted => LineLeaves::Hints,
+        PriorityOutcome::Numbered(number) => LineLeaves::Counts { number, label },
     }
 }
 
@@ -102,25 +102,25 @@ fn numbered_reading<'a>(
     alloc: Global,
     line: &LineText,
     numbered: &NumberedLine<'a, '_>,
-) -> Result<Reading<'a>, NoMemory>
+) -> Result<LineReading<'a>, NoMemory>
     ensures { IfOk result (λ reading.
         steps.reading_now numbered.now.entry.extension.now reading
         ≡ spec.numbered_reading numbered.now.is_after_hint line.now (steps.entry_now numbered.now.entry) numbered.now.number
         (option_map (λ label. label.now) numbered.now.label)) }
 {
     if is_old_form(numbered.entry.application) {
-        return Ok(Reading {
-            leaves: Leaves::Nothing,
-            made: Made::remark(RemarkKind::Fault(Fault::OldForm)),
+        return Ok(LineReading {
+            leaves: LineLeaves::Nothing,
+            made: LineResult::remark(RemarkKind::Fault(Fault::OldForm)),
         });
     }
     let text = numbered.text(alloc, line)?;
-    Ok(Reading {
-        leaves: Leaves::Counts {
+    Ok(LineReading {
+        leaves: LineLeaves::Counts {
             number: numbered.number,
             label: numbered.label,
         },
-        made: Made {
+        made: LineResult {
             text: Some(text),
             remark: double_note(numbered.is_double()),
         },
@@ -128,30 +128,30 @@ fn numbered_reading<'a>(
 }
 
 /// A line of an extension, left out.
-fn left_out<'a>(leaves: Leaves<'a>, note: Note) -> Reading<'a>
-    ensures { (extension : Extension) → steps.reading_now extension result
+fn left_out<'a>(leaves: LineLeaves<'a>, note: LineNote) -> LineReading<'a>
+    ensures { (extension : WrittenExtension) → steps.reading_now extension result
         ≡ spec.left_out (steps.said_by extension leaves.entry) (note_kind note) }
 {
-    Reading {
+    LineReading {
         leaves,
-        made: Made::remark(RemarkKind::Note(note)),
+        made: LineResult::remark(RemarkKind::Note(note)),
     }
 }
 
 /// A line of an extension, unchanged.
-fn standing(line: &LineText) -> Result<Reading<'static>, NoMemory>
-    ensures { IfOk result (λ reading. (extension : Extension) → steps.reading_now extension reading ≡ spec.stands line.now) }
+fn standing(line: &LineText) -> Result<LineReading<'static>, NoMemory>
+    ensures { IfOk result (λ reading. (extension : WrittenExtension) → steps.reading_now extension reading ≡ spec.stands line.now) }
 {
-    let made = Made::standing(line)?;
-    Ok(Reading {
-        leaves: Leaves::Nothing,
+    let made = LineResult::standing(line)?;
+    Ok(LineReading {
+        leaves: LineLeaves::Nothing,
         made,
     })
 }
 
 /// The line of an entry, with the label that it keeps, and whether a hint comes before it.
 #[derive(Clone, Copy)]
-struct KeptLine<'a, 'e> {
+struct KeptEntryLine<'a, 'e> {
     entry: EntryLine<'a, 'e>,
     label: Option<&'a [u8]>,
     is_after_hint: bool,
@@ -161,18 +161,18 @@ struct KeptLine<'a, 'e> {
 fn plain_reading<'a>(
     alloc: Global,
     line: &LineText,
-    kept: &KeptLine<'a, '_>,
-    outcome: Outcome,
-) -> Result<Reading<'a>, NoMemory>
+    kept: &KeptEntryLine<'a, '_>,
+    outcome: PriorityOutcome,
+) -> Result<LineReading<'a>, NoMemory>
     ensures { IfOk result (λ reading. steps.reading_now kept.now.entry.extension.now reading
         ≡ spec.plain_reading kept.now.is_after_hint line.now (steps.entry_now kept.now.entry)
         (option_map (λ label. label.now) kept.now.label) outcome) }
 {
     match outcome {
-        Outcome::Refused => standing(line),
-        Outcome::Hinted => Ok(left_out(Leaves::Hints, Note::Hint)),
-        Outcome::AfterTheHint => Ok(left_out(Leaves::Names, Note::AfterHint)),
-        Outcome::Numbered(number) => {
+        PriorityOutcome::Refused => standing(line),
+        PriorityOutcome::Hinted => Ok(left_out(LineLeaves::Hints, LineNote::Hint)),
+        PriorityOutcome::AfterTheHint => Ok(left_out(LineLeaves::Names, LineNote::AfterHint)),
+        PriorityOutcome::Numbered(number) => {
             let numbered = NumberedLine {
                 entry: kept.entry,
                 number,
@@ -188,10 +188,10 @@ fn plain_reading<'a>(
 #[tactic(auto, unfolding(crate::specs::ContextLines::entry_reading))]
 fn entry_reading<'a>(
     alloc: Global,
-    history: &History,
+    history: &LineHistory,
     line: &LineText,
     entry: EntryLine<'a, '_>,
-) -> Result<Reading<'a>, NoMemory>
+) -> Result<LineReading<'a>, NoMemory>
     ensures { IfOk result (λ reading. steps.reading_now entry.entry.extension.now reading
         ≡ spec.entry_reading (steps.history_in history.now) line.now (steps.entry_now entry.entry)) }
 {
@@ -199,9 +199,9 @@ fn entry_reading<'a>(
     let label = kept_label(alloc, history, spelling, entry.label())?;
     let outcome = outcome_of(alloc, history, spelling, entry.priority)?;
     if has_caller(entry.extension.name.bytes()) {
-        return Ok(left_out(caller_leaves(outcome, label), Note::CallerId));
+        return Ok(left_out(caller_leaves(outcome, label), LineNote::CallerId));
     }
-    let kept = KeptLine {
+    let kept = KeptEntryLine {
         entry,
         label,
         is_after_hint: history.is_after_hint(),
@@ -220,10 +220,10 @@ struct EntrySource<'a> {
 /// Makes the line of an entry with the extension.
 fn make_entry(
     alloc: Global,
-    history: &mut History,
-    extension: Extension,
+    history: &mut LineHistory,
+    extension: WrittenExtension,
     source: EntrySource<'_>,
-) -> Result<Made, NoMemory>
+) -> Result<LineResult, NoMemory>
     ensures made { IfOk result (λ made. made ≡ (steps.source_reading (steps.history_in history.old) (Some extension) source.entry).made) }
     ensures said { OnOk result (steps.history_in history.new ≡ steps.after (steps.history_in history.old)
         (steps.source_reading (steps.history_in history.old) (Some extension) source.entry).said) }
@@ -234,7 +234,7 @@ fn make_entry(
         priority: read_priority(source.text.priority),
         application: source.text.application,
     };
-    let Reading { leaves, made } = entry_reading(alloc, history, source.line, entry)?;
+    let LineReading { leaves, made } = entry_reading(alloc, history, source.line, entry)?;
     let (_, made) = beside(history.add(alloc, extension, leaves), made)?;
     Ok(made)
 }
@@ -242,16 +242,16 @@ fn make_entry(
 /// Makes the line of an entry, if its extension is valid.
 fn make_known(
     alloc: Global,
-    history: &mut History,
-    extension: Option<Extension>,
+    history: &mut LineHistory,
+    extension: Option<WrittenExtension>,
     source: EntrySource<'_>,
-) -> Result<Made, NoMemory>
+) -> Result<LineResult, NoMemory>
     ensures made { IfOk result (λ made. made ≡ (steps.source_reading (steps.history_in history.old) extension source.entry).made) }
     ensures said { OnOk result (steps.history_in history.new ≡ steps.after (steps.history_in history.old)
         (steps.source_reading (steps.history_in history.old) extension source.entry).said) }
 {
     match extension {
-        None => Made::standing(source.line),
+        None => LineResult::standing(source.line),
         Some(extension) => make_entry(alloc, history, extension, source),
     }
 }
@@ -260,9 +260,9 @@ fn make_known(
 #[tactic(auto, unfolding(crate::specs::ContextLines::line_reading))]
 pub(crate) fn make_line(
     alloc: Global,
-    history: &mut History,
+    history: &mut LineHistory,
     line: &LineText,
-) -> Result<Made, NoMemory>
+) -> Result<LineResult, NoMemory>
     ensures made { IfOk result (λ made. made ≡ (spec.line_reading (steps.history_in history.old) line.now).made) }
     ensures said { OnOk result (steps.history_in history.new ≡ steps.after (steps.history_in history.old)
         (spec.line_reading (steps.history_in history.old) line.now).said) }
@@ -270,7 +270,7 @@ pub(crate) fn make_line(
     let content = line.content(alloc)?;
     match read_context_line(content.bytes()) {
         ContextLine::Exten { name, entry } => {
-            let extension = Extension::read(alloc, name)?;
+            let extension = WrittenExtension::read(alloc, name)?;
             let source = EntrySource {
                 line,
                 is_same: false,
@@ -287,7 +287,7 @@ pub(crate) fn make_line(
             };
             make_known(alloc, history, extension, source)
         }
-        ContextLine::LeftOut(note) => Ok(Made::remark(RemarkKind::Note(note))),
-        ContextLine::Other => Made::standing(line),
+        ContextLine::LeftOut(note) => Ok(LineResult::remark(RemarkKind::Note(note))),
+        ContextLine::Other => LineResult::standing(line),
     }
 }

@@ -49,7 +49,12 @@ impl WholeText {
 
     /// The part of the text between two places, which shares its bytes. It may be given as plain only if its content is all of it, without
     /// blanks at its ends.
-    pub(crate) fn cut(&self, start: usize, end: usize, is_plain: bool) -> Result<LineText, NoMemory>
+    pub(crate) fn part_between(
+        &self,
+        start: usize,
+        end: usize,
+        is_plain: bool,
+    ) -> Result<LineText, NoMemory>
         requires within { (start ≤ end) × (end ≤ length self.now) }
         requires plain { is_plain ≡ true → content_of (slice_range self.now start end) ≡ trim (slice_range self.now start end) }
         ensures { IfOk result (λ part. part ≡ slice_range self.now start end) }

@@ -3,9 +3,9 @@ ghost use Rattle.std.specs.Prelude.{◌≡◌, ◌++◌, OnOk};
 ghost use Rattle.dp_files.specs.ContextLines as spec;
 ghost use Rattle.dp_files.specs.ToldSteps as steps;
 
-use crate::line_reading::Made;
+use crate::line_reading::LineResult;
 use crate::line_text::LineText;
-use crate::remark::{Remark, RemarkKind};
+use crate::remark::{LineRemark, RemarkKind};
 use crate::source_line::MadeLine;
 use dp_conf::NoMemory;
 use std::alloc::Global;
@@ -14,7 +14,7 @@ use std::alloc::Global;
 #[derive(Drop)]
 pub struct MadeText {
     pub lines: Vec<MadeLine>,
-    pub remarks: Vec<Remark>,
+    pub remarks: Vec<LineRemark>,
 }
 
 /// Adds the text of a line, if there is one.
@@ -36,7 +36,7 @@ fn push_text(
 
 /// Adds a remark on a line, if there is one.
 fn push_remark(
-    remarks: &mut Vec<Remark>,
+    remarks: &mut Vec<LineRemark>,
     source: usize,
     kind: Option<RemarkKind>,
 ) -> Result<(), NoMemory>
@@ -44,7 +44,7 @@ fn push_remark(
 {
     match kind {
         Some(kind) => {
-            remarks.push(Remark { source, kind })?;
+            remarks.push(LineRemark { source, kind })?;
             Ok(())
         }
         None => Ok(()),
@@ -76,11 +76,11 @@ impl MadeText {
     }
 
     /// Adds the result of a line.
-    pub(crate) fn push(&mut self, source: usize, made: Made) -> Result<(), NoMemory>
+    pub(crate) fn push(&mut self, source: usize, made: LineResult) -> Result<(), NoMemory>
         ensures lines { OnOk result (self.new.lines.items ≡ self.old.lines.items ++ spec.made_line (source, made)) }
         ensures remarks { OnOk result (self.new.remarks.items ≡ self.old.remarks.items ++ spec.remark_on (source, made)) }
     {
-        let Made { text, remark } = made;
+        let LineResult { text, remark } = made;
         push_text(&mut self.lines, source, text)?;
         push_remark(&mut self.remarks, source, remark)?;
         Ok(())

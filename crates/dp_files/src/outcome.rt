@@ -5,14 +5,14 @@ ghost use Rattle.dp_files.specs.ContextSteps as steps;
 ghost use Rattle.dp_files.specs.PriorityView as view;
 ghost use Rattle.std.specs.Option.{option_map};
 
-use crate::history::History;
-use crate::priority::{Base, Priority, Written, within_limit};
+use crate::history::LineHistory;
+use crate::priority::{Base, WrittenBase, WrittenPriority, within_limit};
 use dp_conf::NoMemory;
 use std::alloc::Global;
 
 /// The outcome of a priority.
 #[derive(Clone, Copy)]
-pub(crate) enum Outcome {
+pub(crate) enum PriorityOutcome {
     /// The loader refuses it.
     Refused,
     /// It is a hint.
@@ -37,7 +37,7 @@ fn sum_of(base: Option<u64>, more: Option<u64>) -> Option<u64>
 /// The number from which a priority counts, for an extension with this spelling.
 fn base_number(
     alloc: Global,
-    history: &History,
+    history: &LineHistory,
     spelling: &[u8],
     base: Base<'_>,
 ) -> Result<Option<u64>, NoMemory>
@@ -63,33 +63,33 @@ fn is_next(base: Base<'_>) -> bool
 }
 
 /// The outcome of a number, if there is one.
-fn numbered(number: Option<u64>) -> Outcome
-    ensures { result ≡ spec.numbered number }
+fn outcome_of_number(number: Option<u64>) -> PriorityOutcome
+    ensures { result ≡ spec.outcome_of_number number }
 {
     match number {
-        Some(number) => Outcome::Numbered(number),
-        None => Outcome::Refused,
+        Some(number) => PriorityOutcome::Numbered(number),
+        None => PriorityOutcome::Refused,
     }
 }
 
 /// The outcome of a priority without its label.
 fn written_outcome(
     alloc: Global,
-    history: &History,
+    history: &LineHistory,
     spelling: &[u8],
-    written: Written<'_>,
-) -> Result<Outcome, NoMemory>
+    written: WrittenBase<'_>,
+) -> Result<PriorityOutcome, NoMemory>
     ensures { IfOk result (λ outcome.
         outcome ≡ spec.written_outcome (steps.history_in history.now) spelling.now (view.written_now written.entry)) }
 {
     match written {
-        Written::Hint => Ok(Outcome::Hinted),
-        Written::Counted { base, more } => {
+        WrittenBase::Hint => Ok(PriorityOutcome::Hinted),
+        WrittenBase::Counted { base, more } => {
             if is_next(base) && history.is_after_hint() {
-                return Ok(Outcome::AfterTheHint);
+                return Ok(PriorityOutcome::AfterTheHint);
             }
             let number = base_number(alloc, history, spelling, base)?;
-            Ok(numbered(sum_of(number, more)))
+            Ok(outcome_of_number(sum_of(number, more)))
         }
     }
 }
@@ -97,15 +97,15 @@ fn written_outcome(
 /// The outcome of a priority of the extension with this spelling.
 pub(crate) fn outcome_of(
     alloc: Global,
-    history: &History,
+    history: &LineHistory,
     spelling: &[u8],
-    priority: Option<Priority<'_>>,
-) -> Result<Outcome, NoMemory>
+    priority: Option<WrittenPriority<'_>>,
+) -> Result<PriorityOutcome, NoMemory>
     ensures { IfOk result (λ outcome. outcome
         ≡ spec.outcome_of (steps.history_in history.now) spelling.now (option_map view.priority_now priority.entry)) }
 {
     match priority {
         Some(priority) => written_outcome(alloc, history, spelling, priority.written),
-        None => Ok(Outcome::Refused),
+        None => Ok(PriorityOutcome::Refused),
     }
 }

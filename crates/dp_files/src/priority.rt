@@ -27,7 +27,7 @@ pub(crate) enum Base<'a> {
 
 /// A priority without its label.
 #[derive(Clone, Copy)]
-pub(crate) enum Written<'a> {
+pub(crate) enum WrittenBase<'a> {
     Hint,
     /// A base, and the number after a `+`, if there is one.
     Counted { base: Base<'a>, more: Option<u64> },
@@ -35,8 +35,8 @@ pub(crate) enum Written<'a> {
 
 /// A priority as written in its line.
 #[derive(Clone, Copy)]
-pub(crate) struct Priority<'a> {
-    pub(crate) written: Written<'a>,
+pub(crate) struct WrittenPriority<'a> {
+    pub(crate) written: WrittenBase<'a>,
     pub(crate) label: Option<&'a [u8]>,
 }
 
@@ -91,7 +91,7 @@ fn read_base(text: &[u8]) -> Option<Base<'_>>
 /// The number after a `+`.
 #[tactic(auto, using(crate::proofs::LimitLemmas::within_limit_capped))]
 fn read_added(text: &[u8]) -> Option<u64>
-    ensures { result ≡ spec.added text.now }
+    ensures { result ≡ spec.added_number text.now }
 {
     match read_number(text) {
         Some(number) => within_limit(number),
@@ -100,11 +100,11 @@ fn read_added(text: &[u8]) -> Option<u64>
 }
 
 /// A base with an added number.
-fn read_sum<'a>(base: &'a [u8], more: &[u8]) -> Option<Written<'a>>
-    ensures { option_map view.written_now result ≡ spec.counted base.now (Some (base.now, more.now)) }
+fn read_sum<'a>(base: &'a [u8], more: &[u8]) -> Option<WrittenBase<'a>>
+    ensures { option_map view.written_now result ≡ spec.base_with_added base.now (Some (base.now, more.now)) }
 {
     match (read_base(trim(base)), read_added(trim(more))) {
-        (Some(base), Some(more)) => Some(Written::Counted {
+        (Some(base), Some(more)) => Some(WrittenBase::Counted {
             base,
             more: Some(more),
         }),
@@ -113,25 +113,25 @@ fn read_sum<'a>(base: &'a [u8], more: &[u8]) -> Option<Written<'a>>
 }
 
 /// A base with or without an added number.
-fn read_counted(text: &[u8]) -> Option<Written<'_>>
-    ensures { option_map view.written_now result ≡ spec.counted text.now (cuts.cut_once 43 text.now) }
+fn read_counted(text: &[u8]) -> Option<WrittenBase<'_>>
+    ensures { option_map view.written_now result ≡ spec.base_with_added text.now (cuts.cut_once 43 text.now) }
 {
     if let Some((base, more)) = cut_once(text, b'+') {
         return read_sum(base, more);
     }
     match read_base(text) {
-        Some(base) => Some(Written::Counted { base, more: None }),
+        Some(base) => Some(WrittenBase::Counted { base, more: None }),
         None => None,
     }
 }
 
 /// A priority without its label.
 #[tactic(auto, unfolding(crate::specs::Priorities::written_of))]
-fn read_written(text: &[u8]) -> Option<Written<'_>>
+fn read_written(text: &[u8]) -> Option<WrittenBase<'_>>
     ensures { option_map view.written_now result ≡ spec.written_of text.now }
 {
     if same_word(text, b"hint") {
-        return Some(Written::Hint);
+        return Some(WrittenBase::Hint);
     }
     read_counted(text)
 }
@@ -178,11 +178,11 @@ fn read_label(text: &[u8]) -> Option<&[u8]>
 }
 
 /// A priority with a label.
-fn read_labelled<'a>(written: &'a [u8], label: &'a [u8]) -> Option<Priority<'a>>
+fn read_labelled<'a>(written: &'a [u8], label: &'a [u8]) -> Option<WrittenPriority<'a>>
     ensures { option_map view.priority_now result ≡ spec.priority_by written.now (Some (written.now, label.now)) }
 {
     match (read_written(trim(written)), read_label(label)) {
-        (Some(written), Some(label)) => Some(Priority {
+        (Some(written), Some(label)) => Some(WrittenPriority {
             written,
             label: Some(label),
         }),
@@ -191,12 +191,12 @@ fn read_labelled<'a>(written: &'a [u8], label: &'a [u8]) -> Option<Priority<'a>>
 }
 
 /// The priority that is a number alone.
-fn plain_priority(number: u64) -> Option<Priority<'static>>
+fn plain_priority(number: u64) -> Option<WrittenPriority<'static>>
     ensures { option_map view.priority_now result ≡ option_map (λ base. record { written = spec.Counted base None; label = None }) (spec.number_base number) }
 {
     match number_base(number) {
-        Some(base) => Some(Priority {
-            written: Written::Counted { base, more: None },
+        Some(base) => Some(WrittenPriority {
+            written: WrittenBase::Counted { base, more: None },
             label: None,
         }),
         None => None,
@@ -204,7 +204,7 @@ fn plain_priority(number: u64) -> Option<Priority<'static>>
 }
 
 /// The priority that the text writes, or None if it is malformed.
-pub(crate) fn read_priority(text: &[u8]) -> Option<Priority<'_>>
+pub(crate) fn read_priority(text: &[u8]) -> Option<WrittenPriority<'_>>
     ensures { option_map view.priority_now result ≡ spec.priority_of text.now }
 {
     // Most priorities are numbers alone.
@@ -216,14 +216,14 @@ pub(crate) fn read_priority(text: &[u8]) -> Option<Priority<'_>>
 
 /// The priority that the text writes, or None if it is malformed, however it is written.
 #[tactic(auto, unfolding(crate::specs::Priorities::priority_of))]
-fn read_words(text: &[u8]) -> Option<Priority<'_>>
+fn read_words(text: &[u8]) -> Option<WrittenPriority<'_>>
     ensures { option_map view.priority_now result ≡ spec.priority_of text.now }
 {
     if let Some((written, label)) = cut_once(text, b'(') {
         return read_labelled(written, label);
     }
     match read_written(text) {
-        Some(written) => Some(Priority {
+        Some(written) => Some(WrittenPriority {
             written,
             label: None,
         }),

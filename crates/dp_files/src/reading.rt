@@ -6,7 +6,7 @@ ghost use Rattle.dp_files.specs.Sources.{Files, Telling};
 
 use crate::including::{FileRead, First, read_file};
 use crate::line_text::{LineText, WholeText};
-use crate::remark::{Fault, Note, Remark, RemarkKind};
+use crate::remark::{Fault, LineNote, LineRemark, RemarkKind};
 use crate::source::{FileText, Source};
 use crate::source_line::{SourceFile, SourceLine};
 use dp_conf::{MOST_BYTES, NoMemory, Text};
@@ -25,7 +25,7 @@ pub struct FilesRead {
     pub lines: Vec<SourceLine>,
     /// The remarks on the lines, in the order in which they are found. That is the order of the lines, except if a line names several files
     /// with `*` or `?`: a remark on it for one of them comes after the remarks on the lines of earlier ones.
-    pub remarks: Vec<Remark>,
+    pub remarks: Vec<LineRemark>,
 }
 
 /// Why nothing was read.
@@ -52,17 +52,17 @@ impl From<AllocError> for ReadingFault {
 
 /// The result of reading so far.
 #[derive(Drop)]
-pub(crate) struct Reading {
+pub(crate) struct FilesReading {
     files: Vec<SourceFile>,
     lines: Vec<SourceLine>,
-    remarks: Vec<Remark>,
+    remarks: Vec<LineRemark>,
     room: usize,
 }
 
-impl Model for Reading {
-    ghost use Rattle.dp_files.specs.Reading.{ReadSoFar};
+impl Model for FilesReading {
+    ghost use Rattle.dp_files.specs.Reading.{FilesReadSoFar};
 
-    ghost Value = { ReadSoFar };
+    ghost Value = { FilesReadSoFar };
 
     ghost view = { λ reading. record {
       files = reading.files.items;
@@ -72,7 +72,7 @@ impl Model for Reading {
     } };
 }
 
-impl Reading {
+impl FilesReading {
     ghost use Rattle.std.specs.Prelude.{◌≡◌, IfOk, OnOk, length, nat_le};
     ghost use Rattle.dp_files.specs.Reading as spec;
 
@@ -80,7 +80,7 @@ impl Reading {
     fn new(alloc: Global) -> Self
         ensures { result ≡ spec.nothing_read }
     {
-        Reading {
+        FilesReading {
             files: Vec::new(alloc),
             lines: Vec::new(alloc),
             remarks: Vec::new(alloc),
@@ -104,9 +104,9 @@ impl Reading {
 
     /// Adds a remark on the line at a place.
     pub(crate) fn tell(&mut self, place: usize, kind: RemarkKind) -> Result<(), NoMemory>
-        ensures { OnOk result (self.new ≡ spec.told place kind self.old) }
+        ensures { OnOk result (self.new ≡ spec.with_remark place kind self.old) }
     {
-        self.remarks.push(Remark {
+        self.remarks.push(LineRemark {
             source: place,
             kind,
         })?;
@@ -118,7 +118,7 @@ impl Reading {
         ensures { OnOk result (self.new ≡ spec.after_comment opens place self.old) }
     {
         if opens {
-            self.tell(place, RemarkKind::Note(Note::OpenComment))?;
+            self.tell(place, RemarkKind::Note(LineNote::OpenComment))?;
         }
         Ok(())
     }
@@ -171,7 +171,7 @@ impl Reading {
     fn into_files_read(self) -> FilesRead
         ensures { spec.files_read result ≡ spec.files_of self }
     {
-        let Reading {
+        let FilesReading {
             files,
             lines,
             remarks,
@@ -197,7 +197,7 @@ fn read_first<S: Source>(
     ensures kept { (has : Files) → S.agrees source.new has → S.agrees source.old has }
     ensures same { (told : Telling) → S.may_tell source.new told → S.may_tell source.old told }
 {
-    let mut reading = Reading::new(alloc);
+    let mut reading = FilesReading::new(alloc);
     let file = FileRead {
         name,
         included_by: None,

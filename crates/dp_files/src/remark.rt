@@ -4,7 +4,7 @@ use dp_conf::LineKind;
 
 /// A note on a line. The rest of the file is read as if the note were not there.
 #[derive(Clone, Copy, Debug, PartialEq, Eq)]
-pub enum Note {
+pub enum LineNote {
     /// A block comment that is open at the end of its file.
     OpenComment,
     /// `#exec`, which runs nothing here.
@@ -45,13 +45,13 @@ pub enum Fault {
 /// A note or a fault.
 #[derive(Clone, Copy, Debug, PartialEq, Eq)]
 pub enum RemarkKind {
-    Note(Note),
+    Note(LineNote),
     Fault(Fault),
 }
 
 /// A remark on a line.
 #[derive(Clone, Copy, Debug, PartialEq, Eq)]
-pub struct Remark {
+pub struct LineRemark {
     /// The place of the line among the lines of all files.
     pub source: usize,
     pub kind: RemarkKind,

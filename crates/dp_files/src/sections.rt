@@ -9,7 +9,7 @@ ghost use Rattle.dp_files.specs.SectionParts as parts;
 ghost use Rattle.dp_files.specs.Sections as spec;
 
 use crate::header::{SectionHeader, parents_of, read_header};
-use crate::remark::{Fault, Remark, RemarkKind};
+use crate::remark::{Fault, LineRemark, RemarkKind};
 use crate::source_line::{SourceFile, SourceLine};
 use dp_conf::{ConfFault, LineKind, NoMemory, Text, read_line, same_word};
 use std::alloc::Global;
@@ -22,11 +22,11 @@ pub const MOST_COPIED: usize = 16_777_216;
 ///
 /// A contract sees it as the list of the places.
 #[derive(Drop)]
-pub struct Places {
+pub struct SectionPlaces {
     places: Vec<usize>,
 }
 
-impl Model for Places {
+impl Model for SectionPlaces {
     ghost use Rattle.std.specs.Prelude.{ℕ, List};
 
     ghost Value = { List ℕ };
@@ -34,14 +34,14 @@ impl Model for Places {
     ghost view = { λ places. places.places.items };
 }
 
-impl Places {
+impl SectionPlaces {
     ghost use Rattle.std.specs.Prelude.{◌≡◌, ◌++◌, OnOk, OnErr};
 
     /// The list of these places. It never allocates.
     pub fn new(places: Vec<usize>) -> Self
         ensures { result ≡ places.items }
     {
-        Places { places }
+        SectionPlaces { places }
     }
 
     /// Adds places at the end. If memory runs out nothing changes.
@@ -71,7 +71,7 @@ pub struct SourceSection {
     /// Whether its lines only count if other sections name it.
     pub is_template: bool,
     /// The places of its lines: first those of the sections that its header names, then its own.
-    pub lines: Places,
+    pub lines: SectionPlaces,
 }
 
 /// The sections in the lines of files, with remarks on lines.
@@ -80,7 +80,7 @@ pub struct Sections {
     /// The sections in the order of their headers. The first has no header.
     pub sections: Vec<SourceSection>,
     /// The remarks, in the order of the lines.
-    pub remarks: Vec<Remark>,
+    pub remarks: Vec<LineRemark>,
 }
 
 /// A header, and the place of its line.
@@ -109,9 +109,9 @@ struct NamedSections {
 
 /// The result of reading so far.
 #[derive(Drop)]
-struct Reading {
+struct SectionReading {
     sections: Vec<SourceSection>,
-    remarks: Vec<Remark>,
+    remarks: Vec<LineRemark>,
     /// For each file, the section that is open after its last line so far.
     open_in: Vec<Option<usize>>,
     /// The number of places that may still be copied.
@@ -260,7 +260,7 @@ fn begin_section(
         header: Some(line.place),
         name,
         is_template: line.header.makes_template(),
-        lines: Places::new(lines),
+        lines: SectionPlaces::new(lines),
     })?;
     Ok(())
 }
@@ -292,10 +292,10 @@ fn open_section(
 }
 
 /// Reports a fault of the line at a place.
-fn tell(remarks: &mut Vec<Remark>, place: usize, fault: Fault) -> Result<(), NoMemory>
+fn tell(remarks: &mut Vec<LineRemark>, place: usize, fault: Fault) -> Result<(), NoMemory>
     ensures { OnOk result (remarks.new.items ≡ remarks.old.items ++ parts.fault_at place fault ∷ []) }
 {
-    remarks.push(Remark {
+    remarks.push(LineRemark {
         source: place,
         kind: RemarkKind::Fault(fault),
     })?;
@@ -306,7 +306,7 @@ fn tell(remarks: &mut Vec<Remark>, place: usize, fault: Fault) -> Result<(), NoM
 #[tactic(auto, unfolding(crate::specs::Sections::with_copies))]
 fn lines_to_copy(
     alloc: Global,
-    reading: &mut Reading,
+    reading: &mut SectionReading,
     place: usize,
     parents: &[usize],
 ) -> Result<Vec<usize>, NoMemory>
@@ -329,7 +329,7 @@ fn lines_to_copy(
 #[tactic(auto, unfolding(crate::specs::Sections::after_named_header))]
 fn take_header(
     alloc: Global,
-    reading: &mut Reading,
+    reading: &mut SectionReading,
     current: usize,
     line: HeaderLine<'_>,
 ) -> Result<usize, NoMemory>
@@ -357,7 +357,7 @@ fn take_header(
 /// Takes a line that begins with `[`.
 fn take_header_line(
     alloc: Global,
-    reading: &mut Reading,
+    reading: &mut SectionReading,
     place: usize,
     current: usize,
     inside: &[u8],
@@ -390,7 +390,7 @@ fn is_pair(content: &[u8]) -> bool
 /// Takes a line that is neither a header nor a directive.
 #[tactic(auto, unfolding(crate::specs::Sections::after_item))]
 fn take_plain_line(
-    reading: &mut Reading,
+    reading: &mut SectionReading,
     place: usize,
     current: usize,
     content: &[u8],
@@ -416,7 +416,7 @@ fn take_plain_line(
 #[tactic(auto, unfolding(crate::specs::Sections::after_content))]
 fn take_content(
     alloc: Global,
-    reading: &mut Reading,
+    reading: &mut SectionReading,
     place: usize,
     current: usize,
     content: &[u8],
@@ -487,7 +487,7 @@ fn keep_open(open_in: &mut Vec<Option<usize>>, file: usize, current: usize)
 /// Takes the line at a place.
 fn take_line(
     alloc: Global,
-    reading: &mut Reading,
+    reading: &mut SectionReading,
     current: usize,
     place: usize,
     line: &SourceLine,
@@ -509,7 +509,7 @@ fn none_open(alloc: Global, files: &[SourceFile]) -> Result<Vec<Option<usize>>, 
 }
 
 /// The value before the first line: one section without a header.
-fn before_lines(alloc: Global, files: &[SourceFile]) -> Result<Reading, NoMemory>
+fn before_lines(alloc: Global, files: &[SourceFile]) -> Result<SectionReading, NoMemory>
     ensures { IfOk result (λ reading. parts.reading_now reading ≡ spec.before_lines files.now) }
 {
     let open_in = none_open(alloc, files)?;
@@ -518,9 +518,9 @@ fn before_lines(alloc: Global, files: &[SourceFile]) -> Result<Reading, NoMemory
         header: None,
         name: Text::new(Vec::new(alloc)),
         is_template: false,
-        lines: Places::new(Vec::new(alloc)),
+        lines: SectionPlaces::new(Vec::new(alloc)),
     })?;
-    Ok(Reading {
+    Ok(SectionReading {
         sections,
         remarks: Vec::new(alloc),
         open_in,
@@ -560,7 +560,7 @@ pub fn read_sections(
         let current = section_of_next(files, lines, &reading.open_in, line.file);
         take_line(alloc, &mut reading, current, place, line)?;
     }
-    let Reading {
+    let SectionReading {
         sections,
         remarks,
         open_in: _,

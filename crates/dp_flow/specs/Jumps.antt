@@ -37,7 +37,7 @@ abbrev pub goto_if_row : Row
 goto_if_row arguments cell = stays cell (jump_if (chosen_side arguments))
 
 -- the priority of a subroutine, and its arguments
-pub record SubroutineCall : Type 0 where
+pub record SubroutineCallOf : Type 0 where
   pub priority : List ℕ
   pub arguments : List (List ℕ)
 
@@ -48,13 +48,13 @@ inner_arguments (b ∷ bs) = arguments_of (b ∷ bs)
 
 -- the last part of a subroutine's target, given its first `(`: the arguments end at the last `)` after it, and without a `)` there is no
 -- target
-abbrev pub called_by : List ℕ → Option (List ℕ × List ℕ) → Option SubroutineCall
+abbrev pub called_by : List ℕ → Option (List ℕ × List ℕ) → Option SubroutineCallOf
 called_by part None = Some (record { priority = part; arguments = [] })
 called_by part (Some cut) =
     option_map (λ inside. record { priority = trim cut.0; arguments = inner_arguments inside }) (before_last 41 cut.1)
 
 -- the last part of a subroutine's target
-abbrev pub subroutine_call : List (List ℕ) → Option SubroutineCall
+abbrev pub subroutine_call : List (List ℕ) → Option SubroutineCallOf
 subroutine_call parts = option_and_then (λ part. called_by part (cut_once 40 part)) (slice_get parts (length parts - 1))
 
 -- the locals of a subroutine: `ARG1`, `ARG2` and so on, from a number on
@@ -67,7 +67,7 @@ abbrev pub place_after : Place → Place
 place_after place = record { context = place.context; exten = place.exten; priority = place.priority + 1 }
 
 -- the entry into a subroutine, given the parts before the last one: it pushes a frame that returns to the place after this one
-abbrev pub enter_subroutine : CellOf → List (List ℕ) → Option SubroutineCall → Outcome
+abbrev pub enter_subroutine : CellOf → List (List ℕ) → Option SubroutineCallOf → Outcome
 enter_subroutine cell front None = stays cell Hang
 enter_subroutine cell front (Some c) = record {
   cell = record cell { store = with_frame cell.store (place_after cell.place) (argument_locals 1 c.arguments) };

@@ -49,5 +49,5 @@ same_among : (arrow : Arrow) (arrows : List Arrow) → list_any ((arrow_eq.ghost
 same_among arrow arrows = λ i. list_any (λ other. same_arrows arrow other i) arrows
 
 -- one more arrow
-pub inserted : (arrows : List Arrow) (arrow : Arrow) → insert_key (arrow_eq.ghosts).eq arrows arrow ≡ with_arrow arrows arrow
-inserted arrows arrow = ap (λ t. cond t arrows (arrows ++ arrow ∷ [])) (same_among arrow arrows)
+pub insert_arrow : (arrows : List Arrow) (arrow : Arrow) → insert_key (arrow_eq.ghosts).eq arrows arrow ≡ with_arrow arrows arrow
+insert_arrow arrows arrow = ap (λ t. cond t arrows (arrows ++ arrow ∷ [])) (same_among arrow arrows)

@@ -16,9 +16,9 @@ use Rattle.dp_graph.specs.Jumps.{by_entry, by_exten, by_parts, destination_of, t
 use Rattle.dp_graph.specs.declared.arrow.Destination.TheVariants.{Computed}
 
 -- a test that fails
-negated : (t : Bool) → not t ≡ true → t ≡ false
-negated true e = absurd cc
-negated false e = refl
+not_true_is_false : (t : Bool) → not t ≡ true → t ≡ false
+not_true_is_false true e = absurd cc
+not_true_is_false false e = refl
 
 module _ (plan : PlanOf) (context exten : List ℕ) where
   -- the entry at a priority
@@ -72,7 +72,7 @@ module _ (plan : PlanOf) (context : List ℕ) (own : EntryId) (entry : Entry) (t
   red_by_target jump e = by (parts_stand target (parts_of jump target)) e where
     by : (t : Bool) → (t && not (leads plan context entry.name (parts_of jump target))) ≡ true
         → cond t (by_parts plan context own entry target (parts_of jump target)) (Some (Computed entry.priority)) ≡ to_missing target
-    by true e = red_by_parts (parts_of jump target) (negated (leads plan context entry.name (parts_of jump target)) e)
+    by true e = red_by_parts (parts_of jump target) (not_true_is_false (leads plan context entry.name (parts_of jump target)) e)
     by false e = absurd cc
 
 pub red_if_missing : (plan : PlanOf) (context : List ℕ) (own : EntryId) (entry : Entry) (jump : Jump) (target : List ℕ)

@@ -41,7 +41,7 @@ shade_of (ByCall reached) ids = shade_by_call reached ids
 shade_of (ByTests ran) ids = shade_by_tests ran ids
 
 -- a row: the name of an extension, what its first entry does, and what is known of its entries
-pub record Row : Type 0 where
+pub record BoxRow : Type 0 where
   pub name : List ℕ
   pub action : List ℕ
   pub shade : Shade
@@ -51,11 +51,11 @@ abbrev pub action_of : Entry → List ℕ
 action_of entry = entry.application ++ codes "(" ++ entry.arguments ++ codes ")"
 
 -- the row of an extension with this shade, given its first entry
-abbrev pub row_by : Shade → Entry → Row
+abbrev pub row_by : Shade → Entry → BoxRow
 row_by shade entry = record { name = spelling entry.name; action = action_of entry; shade = shade }
 
 -- the row of an extension, whose entries are ranked, so that the first has the least priority
-abbrev pub rows_of : PlanOf → ShadingOf → List EntryId → List Row
+abbrev pub rows_of : PlanOf → ShadingOf → List EntryId → List BoxRow
 rows_of plan shading [] = []
 rows_of plan shading (first ∷ ids) = option_to_list (option_map (row_by (shade_of shading (first ∷ ids))) (entry_at plan first))
 
@@ -64,7 +64,7 @@ pub record Box : Type 0 where
   pub number : ℕ
   pub name : List ℕ
   pub shade : Shade
-  pub rows : List Row
+  pub rows : List BoxRow
 
 -- the box of the context with a number, with its extensions in the order in which a look-up tries them
 abbrev pub box_at : PlanOf → ShadingOf → ℕ → Box

@@ -5,8 +5,8 @@ use Rattle.std.specs.Str.{byte}
 use Rattle.dp_conf.specs.Blanks.{trim}
 use Rattle.dp_conf.specs.Cut.{before_last, cut_once}
 use Rattle.dp_conf.specs.Levels.{cut_outside}
-use Rattle.dp_graph.specs.declared.exec_if.Call.{Call}
-use Rattle.dp_graph.specs.declared.exec_if.Calls.{Calls}
+use Rattle.dp_graph.specs.declared.exec_if.CalledApplication.{CalledApplication}
+use Rattle.dp_graph.specs.declared.exec_if.CalledApplications.{CalledApplications}
 
 -- the name of an application, and its arguments
 pub record CallOf : Type 0 where
@@ -17,10 +17,10 @@ abbrev pub call_of : List ℕ → List ℕ → CallOf
 call_of name arguments = record { name = name; arguments = arguments }
 
 -- what the program keeps
-abbrev pub call_now : Call → CallOf
+abbrev pub call_now : CalledApplication → CallOf
 call_now call = call_of call.name.now call.arguments.now
 
-abbrev pub calls_now : Calls → List CallOf
+abbrev pub calls_now : CalledApplications → List CallOf
 calls_now calls = option_to_list (option_map call_now calls.first) ++ option_to_list (option_map call_now calls.second)
 
 -- the application of a side, given its first `(`: the arguments after it end at the last `)`, or at the end of the side without one

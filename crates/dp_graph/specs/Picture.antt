@@ -21,51 +21,51 @@ use Rattle.dp_graph.specs.declared.exit.QueueExit.{QueueExit}
 
 -- an include: the number of the context that has it, its place there, counted from 1, the name that it includes, and the number of the
 -- context with that name, if there is one
-pub record Inclusion : Type 0 where
+pub record DrawnInclusion : Type 0 where
   pub number : ℕ
   pub place : ℕ
   pub name : List ℕ
   pub included : Option ℕ
 
-abbrev pub inclusion_of : PlanOf → ℕ → ℕ → List ℕ → Inclusion
+abbrev pub inclusion_of : PlanOf → ℕ → ℕ → List ℕ → DrawnInclusion
 inclusion_of plan number place name = record { number = number; place = place; name = name; included = number_of plan name }
 
 -- the include at an index of the context with a number
-abbrev pub inclusion_at : PlanOf → ℕ → ℕ → Inclusion
+abbrev pub inclusion_at : PlanOf → ℕ → ℕ → DrawnInclusion
 inclusion_at plan number index = inclusion_of plan number (index + 1) (get_or (includes_at plan number) index [])
 
 -- the includes of the context with a number
-abbrev pub inclusions_at : PlanOf → ℕ → List Inclusion
+abbrev pub inclusions_at : PlanOf → ℕ → List DrawnInclusion
 inclusions_at plan number = map (inclusion_at plan number) (range_with_len 0 (length (includes_at plan number)))
 
 -- the includes of all contexts
-abbrev pub inclusions_of : PlanOf → List Inclusion
+abbrev pub inclusions_of : PlanOf → List DrawnInclusion
 inclusions_of plan = flat_map (inclusions_at plan) (range_with_len 0 (context_count plan))
 
 -- ---- arrows
 
 -- an extension from which arrows come: the number and the name of its context, and its own name
-pub record Origin : Type 0 where
+pub record OriginOf : Type 0 where
   pub number : ℕ
   pub context : List ℕ
   pub extension : List ℕ
 
 -- an arrow with its origin
 pub record DrawnArrow : Type 0 where
-  pub origin : Origin
+  pub origin : OriginOf
   pub arrow : Arrow
 
 -- the origin that the program keeps
-abbrev pub seen : HeldOrigin → Origin
-seen origin = record { number = origin.number; context = origin.context.now; extension = origin.extension.now }
+abbrev pub origin_view : HeldOrigin → OriginOf
+origin_view origin = record { number = origin.number; context = origin.context.now; extension = origin.extension.now }
 
-abbrev pub origin_of : PlanOf → ℕ → Entry → Origin
+abbrev pub origin_of : PlanOf → ℕ → Entry → OriginOf
 origin_of plan number entry = record { number = number; context = context_name plan number; extension = spelling entry.name }
 
-abbrev pub drawn_from : Origin → Arrow → DrawnArrow
+abbrev pub drawn_from : OriginOf → Arrow → DrawnArrow
 drawn_from origin arrow = record { origin = origin; arrow = arrow }
 
-abbrev pub drawn_all : Origin → List Arrow → List DrawnArrow
+abbrev pub drawn_all : OriginOf → List Arrow → List DrawnArrow
 drawn_all origin arrows = map (drawn_from origin) arrows
 
 -- the arrows of an extension of the context with a number, given its ranked entries
@@ -87,7 +87,7 @@ all_arrows plan exits = flat_map (context_arrows plan exits) (range_with_len 0 (
 -- a picture: its boxes, the includes between them, and the arrows of their rows
 pub record Picture : Type 0 where
   pub boxes : List Box
-  pub inclusions : List Inclusion
+  pub inclusions : List DrawnInclusion
   pub arrows : List DrawnArrow
 
 -- the picture of a dialplan, given what its fills say, and the ways out of queues

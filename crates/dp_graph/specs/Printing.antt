@@ -2,9 +2,9 @@
 use Rattle.std.specs.Prelude.{ℕ, Bool, ◌==◌, List, [], ◌∷◌, ◌++◌, Option, Some, None, codes, decimal, if◌then◌else◌}
 use Rattle.std.specs.Char.{is_ascii_alphanumeric}
 use Rattle.std.specs.List.{flat_map}
-use Rattle.dp_graph.specs.Boxes.{Box, Row}
+use Rattle.dp_graph.specs.Boxes.{Box, BoxRow}
 use Rattle.dp_graph.specs.Labels.{label_text, short_text}
-use Rattle.dp_graph.specs.Picture.{DrawnArrow, Inclusion, Origin, Picture}
+use Rattle.dp_graph.specs.Picture.{DrawnArrow, DrawnInclusion, OriginOf, Picture}
 use Rattle.dp_graph.specs.declared.arrow.Arrow.{Arrow}
 use Rattle.dp_graph.specs.declared.arrow.ArrowKind.{ArrowKind}
 use Rattle.dp_graph.specs.declared.arrow.ArrowKind.TheVariants.{Jump, Subroutine, WayOut}
@@ -63,15 +63,15 @@ unfoldable pub cell_start : List ℕ → List ℕ → Shade → List ℕ
 cell_start side name shade = port_start side ++ name_part name ++ cell_style shade
 
 -- the cell of a row's name, at which arrows from other boxes end
-unfoldable pub name_cell : Row → List ℕ
+unfoldable pub name_cell : BoxRow → List ℕ
 name_cell row = cell_start (codes "x") row.name row.shade ++ label_text row.name ++ codes " </td>"
 
 -- the cell of what its first entry does, at which arrows begin
-unfoldable pub action_cell : Row → List ℕ
+unfoldable pub action_cell : BoxRow → List ℕ
 action_cell row = cell_start (codes "y") row.name row.shade ++ short_text row.action ++ codes " </td>"
 
 -- a row
-unfoldable pub row_text : Row → List ℕ
+unfoldable pub row_text : BoxRow → List ℕ
 row_text row = codes "<tr>" ++ name_cell row ++ action_cell row ++ codes "</tr>\n"
 
 -- the start of the row with the name of a context
@@ -141,42 +141,42 @@ inclusion_by number place name (Some included) = known_inclusion number place in
 inclusion_by number place name None = unknown_inclusion number place name
 
 -- an include
-unfoldable pub inclusion_text : Inclusion → List ℕ
+unfoldable pub inclusion_text : DrawnInclusion → List ℕ
 inclusion_text i = inclusion_by i.number i.place i.name i.included
 
 -- ---- arrows
 
 -- an extension in the name of a node
-abbrev pub origin_part : Origin → List ℕ
+abbrev pub origin_part : OriginOf → List ℕ
 origin_part origin = decimal origin.number ++ codes "_x" ++ name_part origin.extension
 
 -- the node of the computed targets of an entry with a priority, and that of a missing target
-abbrev pub computed_node : Origin → ℕ → List ℕ
+abbrev pub computed_node : OriginOf → ℕ → List ℕ
 computed_node origin priority = codes "d" ++ origin_part origin ++ codes "_" ++ decimal priority
 
-unfoldable pub missing_node : Origin → List ℕ → List ℕ
+unfoldable pub missing_node : OriginOf → List ℕ → List ℕ
 missing_node origin target = codes "m" ++ origin_part origin ++ codes "_x" ++ name_part target
 
 -- the entry with a priority, `CONTEXT,EXTENSION,PRIORITY`
-abbrev pub entry_text : Origin → ℕ → List ℕ
+abbrev pub entry_text : OriginOf → ℕ → List ℕ
 entry_text origin priority = origin.context ++ codes "," ++ origin.extension ++ codes "," ++ decimal priority
 
 -- the statement of the node of the computed targets of an entry with a priority, and that of the node of a missing target
-unfoldable pub computed_text : Origin → ℕ → List ℕ
+unfoldable pub computed_text : OriginOf → ℕ → List ℕ
 computed_text origin priority = computed_node origin priority ++ codes " [shape=diamond," ++ label_end (entry_text origin priority)
 
-unfoldable pub missing_text : Origin → List ℕ → List ℕ
+unfoldable pub missing_text : OriginOf → List ℕ → List ℕ
 missing_text origin target = missing_node origin target ++ missing_style ++ label_end target
 
 -- the statement of the node to which an arrow leads, if that is no box
-unfoldable pub node_text : Origin → Destination → List ℕ
+unfoldable pub node_text : OriginOf → Destination → List ℕ
 node_text origin (Extension number name) = []
 node_text origin (Context number) = []
 node_text origin (Computed priority) = computed_text origin priority
 node_text origin (Missing target) = missing_text origin target
 
 -- the start of an arrow: the right side of the extension's row
-unfoldable pub start_text : Origin → List ℕ
+unfoldable pub start_text : OriginOf → List ℕ
 start_text origin = box_node origin.number ++ codes ":y" ++ name_part origin.extension ++ codes ":e -> "
 
 -- the row at which an arrow ends: its left side, or its right side in the same box
@@ -190,7 +190,7 @@ abbrev pub box_end : ℕ → List ℕ
 box_end number = box_node number ++ codes ":top:w"
 
 -- the end of an arrow
-unfoldable pub end_text : Origin → Destination → List ℕ
+unfoldable pub end_text : OriginOf → Destination → List ℕ
 end_text origin (Extension number name) = row_end (number == origin.number) number name
 end_text origin (Context number) = box_end number
 end_text origin (Computed priority) = computed_node origin priority
@@ -218,7 +218,7 @@ style_text Subroutine ink = double_style ink
 style_text WayOut ink = single_style (codes " [style=dotted,color=") ink
 
 -- an arrow from an extension, after the node to which it leads if that is no box
-unfoldable pub arrow_from : Origin → Arrow → List ℕ
+unfoldable pub arrow_from : OriginOf → Arrow → List ℕ
 arrow_from origin arrow =
     node_text origin arrow.destination ++ start_text origin ++ end_text origin arrow.destination
     ++ style_text arrow.kind (ink_of arrow.destination)
@@ -238,7 +238,7 @@ opening =
 abbrev pub boxes_text : List Box → List ℕ
 boxes_text boxes = flat_map box_text boxes
 
-abbrev pub inclusions_text : List Inclusion → List ℕ
+abbrev pub inclusions_text : List DrawnInclusion → List ℕ
 inclusions_text inclusions = flat_map inclusion_text inclusions
 
 abbrev pub arrows_text : List DrawnArrow → List ℕ

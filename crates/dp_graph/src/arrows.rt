@@ -25,7 +25,7 @@ struct Origin<'a> {
 
 /// Adds an extension as part of the name of a node.
 fn push_origin(out: &mut Vec<u8>, origin: Origin<'_>) -> Result<(), NoMemory>
-    ensures { OnOk result (out.new.items ≡ out.old.items ++ spec.origin_part (picture.seen origin.entry)) }
+    ensures { OnOk result (out.new.items ≡ out.old.items ++ spec.origin_part (picture.origin_view origin.entry)) }
 {
     push_index(out, origin.number)?;
     out.extend_from_slice(b"_x")?;
@@ -34,7 +34,7 @@ fn push_origin(out: &mut Vec<u8>, origin: Origin<'_>) -> Result<(), NoMemory>
 
 /// Adds the name of the node of the computed targets of an entry with a priority.
 fn push_computed(out: &mut Vec<u8>, origin: Origin<'_>, priority: u32) -> Result<(), NoMemory>
-    ensures { OnOk result (out.new.items ≡ out.old.items ++ spec.computed_node (picture.seen origin.entry) priority) }
+    ensures { OnOk result (out.new.items ≡ out.old.items ++ spec.computed_node (picture.origin_view origin.entry) priority) }
 {
     out.extend_from_slice(b"d")?;
     push_origin(out, origin)?;
@@ -45,7 +45,7 @@ fn push_computed(out: &mut Vec<u8>, origin: Origin<'_>, priority: u32) -> Result
 /// Adds the name of the node of a missing target.
 #[tactic(auto, unfolding(crate::specs::Printing::missing_node))]
 fn push_missing(out: &mut Vec<u8>, origin: Origin<'_>, target: &[u8]) -> Result<(), NoMemory>
-    ensures { OnOk result (out.new.items ≡ out.old.items ++ spec.missing_node (picture.seen origin.entry) target.now) }
+    ensures { OnOk result (out.new.items ≡ out.old.items ++ spec.missing_node (picture.origin_view origin.entry) target.now) }
 {
     out.extend_from_slice(b"m")?;
     push_origin(out, origin)?;
@@ -55,7 +55,7 @@ fn push_missing(out: &mut Vec<u8>, origin: Origin<'_>, target: &[u8]) -> Result<
 
 /// The entry with a priority, `CONTEXT,EXTENSION,PRIORITY`.
 fn entry_text(alloc: Global, origin: Origin<'_>, priority: u32) -> Result<Vec<u8>, NoMemory>
-    ensures { IfOk result (λ text. text.items ≡ spec.entry_text (picture.seen origin.entry) priority) }
+    ensures { IfOk result (λ text. text.items ≡ spec.entry_text (picture.origin_view origin.entry) priority) }
 {
     let mut text = Vec::new(alloc);
     text.extend_from_slice(origin.context)?;
@@ -74,7 +74,7 @@ fn push_computed_node(
     origin: Origin<'_>,
     priority: u32,
 ) -> Result<(), NoMemory>
-    ensures { OnOk result (out.new.items ≡ out.old.items ++ spec.computed_text (picture.seen origin.entry) priority) }
+    ensures { OnOk result (out.new.items ≡ out.old.items ++ spec.computed_text (picture.origin_view origin.entry) priority) }
 {
     let text = entry_text(alloc, origin, priority)?;
     push_computed(out, origin, priority)?;
@@ -90,7 +90,7 @@ fn push_missing_node(
     origin: Origin<'_>,
     target: &[u8],
 ) -> Result<(), NoMemory>
-    ensures { OnOk result (out.new.items ≡ out.old.items ++ spec.missing_text (picture.seen origin.entry) target.now) }
+    ensures { OnOk result (out.new.items ≡ out.old.items ++ spec.missing_text (picture.origin_view origin.entry) target.now) }
 {
     push_missing(out, origin, target)?;
     out.extend_from_slice(b" [shape=box,color=red,fontcolor=red,")?;
@@ -105,7 +105,7 @@ fn push_node(
     origin: Origin<'_>,
     destination: &Destination,
 ) -> Result<(), NoMemory>
-    ensures { OnOk result (out.new.items ≡ out.old.items ++ spec.node_text (picture.seen origin.entry) destination.now) }
+    ensures { OnOk result (out.new.items ≡ out.old.items ++ spec.node_text (picture.origin_view origin.entry) destination.now) }
 {
     match destination {
         Destination::Extension { .. } | Destination::Context(_) => Ok(()),
@@ -117,7 +117,7 @@ fn push_node(
 /// Adds the start of an arrow.
 #[tactic(auto, unfolding(crate::specs::Printing::start_text))]
 fn push_start(out: &mut Vec<u8>, origin: Origin<'_>) -> Result<(), NoMemory>
-    ensures { OnOk result (out.new.items ≡ out.old.items ++ spec.start_text (picture.seen origin.entry)) }
+    ensures { OnOk result (out.new.items ≡ out.old.items ++ spec.start_text (picture.origin_view origin.entry)) }
 {
     push_box_node(out, origin.number)?;
     out.extend_from_slice(b":y")?;
@@ -155,7 +155,7 @@ fn push_end(
     origin: Origin<'_>,
     destination: &Destination,
 ) -> Result<(), NoMemory>
-    ensures { OnOk result (out.new.items ≡ out.old.items ++ spec.end_text (picture.seen origin.entry) destination.now) }
+    ensures { OnOk result (out.new.items ≡ out.old.items ++ spec.end_text (picture.origin_view origin.entry) destination.now) }
 {
     match destination {
         Destination::Extension { context, spelling } => {
@@ -220,7 +220,7 @@ fn push_arrow(
     origin: Origin<'_>,
     arrow: &Arrow,
 ) -> Result<(), NoMemory>
-    ensures { OnOk result (out.new.items ≡ out.old.items ++ spec.arrow_from (picture.seen origin.entry) arrow.now) }
+    ensures { OnOk result (out.new.items ≡ out.old.items ++ spec.arrow_from (picture.origin_view origin.entry) arrow.now) }
 {
     push_node(alloc, out, origin, &arrow.destination)?;
     push_start(out, origin)?;
@@ -236,7 +236,7 @@ fn push_all(
     arrows: &[Arrow],
 ) -> Result<(), NoMemory>
     ensures { OnOk result (out.new.items ≡ out.old.items
-        ++ spec.arrows_text (picture.drawn_all (picture.seen origin.entry) arrows.now)) }
+        ++ spec.arrows_text (picture.drawn_all (picture.origin_view origin.entry) arrows.now)) }
 {
     for arrow in arrows {
         push_arrow(alloc, out, origin, arrow)?;

@@ -9,16 +9,16 @@ use dp_conf::{before_last, cut_once, cut_outside, trim};
 
 /// The name of an application, and its arguments.
 #[derive(Clone, Copy)]
-pub(crate) struct Call<'a> {
+pub(crate) struct CalledApplication<'a> {
     pub(crate) name: &'a [u8],
     pub(crate) arguments: &'a [u8],
 }
 
 /// The applications that an entry may run: at most two.
 #[derive(Clone, Copy)]
-pub(crate) struct Calls<'a> {
-    pub(crate) first: Option<Call<'a>>,
-    pub(crate) second: Option<Call<'a>>,
+pub(crate) struct CalledApplications<'a> {
+    pub(crate) first: Option<CalledApplication<'a>>,
+    pub(crate) second: Option<CalledApplication<'a>>,
 }
 
 /// The text before its last `)`, or all of it if there is none.
@@ -32,16 +32,16 @@ fn before_closing(text: &[u8]) -> &[u8]
 }
 
 /// The application of a side.
-fn side_call(side: &[u8]) -> Call<'_>
+fn side_call(side: &[u8]) -> CalledApplication<'_>
     ensures { spec.call_now result ≡ spec.side_call side.now }
 {
     let side = trim(side);
     match cut_once(side, b'(') {
-        None => Call {
+        None => CalledApplication {
             name: side,
             arguments: b"",
         },
-        Some((name, after)) => Call {
+        Some((name, after)) => CalledApplication {
             name: trim(name),
             arguments: before_closing(after),
         },
@@ -49,15 +49,15 @@ fn side_call(side: &[u8]) -> Call<'_>
 }
 
 /// The applications of the sides.
-fn side_calls(sides: &[u8]) -> Calls<'_>
+fn side_calls(sides: &[u8]) -> CalledApplications<'_>
     ensures { spec.calls_now result ≡ spec.side_calls sides.now (cut_outside 58 sides.now) }
 {
     match cut_outside(sides, b':') {
-        None => Calls {
+        None => CalledApplications {
             first: Some(side_call(sides)),
             second: None,
         },
-        Some((first, second)) => Calls {
+        Some((first, second)) => CalledApplications {
             first: Some(side_call(first)),
             second: Some(side_call(second)),
         },
@@ -65,15 +65,15 @@ fn side_calls(sides: &[u8]) -> Calls<'_>
 }
 
 /// The application that `NAME,ARGUMENTS` names.
-fn named_call(text: &[u8]) -> Call<'_>
+fn named_call(text: &[u8]) -> CalledApplication<'_>
     ensures { spec.call_now result ≡ spec.old_by text.now (cut_outside 44 text.now) }
 {
     match cut_outside(text, b',') {
-        None => Call {
+        None => CalledApplication {
             name: trim(text),
             arguments: b"",
         },
-        Some((name, arguments)) => Call {
+        Some((name, arguments)) => CalledApplication {
             name: trim(name),
             arguments,
         },
@@ -81,14 +81,14 @@ fn named_call(text: &[u8]) -> Call<'_>
 }
 
 /// The application of the old form, if there is one.
-fn old_calls(arguments: &[u8]) -> Calls<'_>
+fn old_calls(arguments: &[u8]) -> CalledApplications<'_>
     ensures { spec.calls_now result ≡ spec.old_calls (cut_outside 44 arguments.now) }
 {
     let first = match cut_outside(arguments, b',') {
         None => None,
         Some((_condition, rest)) => Some(named_call(rest)),
     };
-    Calls {
+    CalledApplications {
         first,
         second: None,
     }
@@ -100,7 +100,7 @@ fn old_calls(arguments: &[u8]) -> Calls<'_>
 /// `NAME` or `NAME(ARGUMENTS)`; the arguments end at its last `)`. If a comma outside parentheses comes before the first `?`, or there is no
 /// `?`, it is the old form `CONDITION,NAME[,ARGUMENTS]`.
 #[tactic(auto, unfolding(crate::specs::ExecIf::exec_if_calls))]
-pub(crate) fn exec_if_calls(arguments: &[u8]) -> Calls<'_>
+pub(crate) fn exec_if_calls(arguments: &[u8]) -> CalledApplications<'_>
     ensures { spec.calls_now result ≡ spec.exec_if_calls arguments.now }
 {
     let Some((condition, sides)) = cut_once(arguments, b'?') else {

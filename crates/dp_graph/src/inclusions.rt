@@ -11,14 +11,14 @@ use std::alloc::Global;
 
 /// The place of an include: the number of the context that has it, and its place there, counted from 1.
 #[derive(Clone, Copy)]
-struct Place {
+struct IncludePlace {
     number: usize,
     place: usize,
 }
 
 /// Adds the start of the arrow of an include.
 #[tactic(auto, unfolding(crate::specs::Printing::inclusion_start))]
-fn push_start(out: &mut Vec<u8>, at: Place) -> Result<(), NoMemory>
+fn push_start(out: &mut Vec<u8>, at: IncludePlace) -> Result<(), NoMemory>
     ensures { OnOk result (out.new.items ≡ out.old.items ++ spec.inclusion_start at.number) }
 {
     push_box_node(out, at.number)?;
@@ -27,7 +27,7 @@ fn push_start(out: &mut Vec<u8>, at: Place) -> Result<(), NoMemory>
 
 /// Adds the name of the node of an include that no context has.
 #[tactic(auto, unfolding(crate::specs::Printing::inclusion_node))]
-fn push_node(out: &mut Vec<u8>, at: Place) -> Result<(), NoMemory>
+fn push_node(out: &mut Vec<u8>, at: IncludePlace) -> Result<(), NoMemory>
     ensures { OnOk result (out.new.items ≡ out.old.items ++ spec.inclusion_node at.number at.place) }
 {
     out.extend_from_slice(b"i")?;
@@ -38,7 +38,7 @@ fn push_node(out: &mut Vec<u8>, at: Place) -> Result<(), NoMemory>
 
 /// Adds the end of the arrow of an include.
 #[tactic(auto, unfolding(crate::specs::Printing::place_end))]
-fn push_end(out: &mut Vec<u8>, at: Place) -> Result<(), NoMemory>
+fn push_end(out: &mut Vec<u8>, at: IncludePlace) -> Result<(), NoMemory>
     ensures { OnOk result (out.new.items ≡ out.old.items ++ spec.place_end at.place) }
 {
     out.extend_from_slice(b",label=\"")?;
@@ -57,7 +57,7 @@ fn push_included(out: &mut Vec<u8>, included: usize) -> Result<(), NoMemory>
 
 /// Adds an include of the context with this number.
 #[tactic(auto, unfolding(crate::specs::Printing::known_inclusion))]
-fn push_known(out: &mut Vec<u8>, at: Place, included: usize) -> Result<(), NoMemory>
+fn push_known(out: &mut Vec<u8>, at: IncludePlace, included: usize) -> Result<(), NoMemory>
     ensures { OnOk result (out.new.items ≡ out.old.items ++ spec.known_inclusion at.number at.place included) }
 {
     push_start(out, at)?;
@@ -70,7 +70,7 @@ fn push_known(out: &mut Vec<u8>, at: Place, included: usize) -> Result<(), NoMem
 fn push_unknown_node(
     alloc: Global,
     out: &mut Vec<u8>,
-    at: Place,
+    at: IncludePlace,
     name: &[u8],
 ) -> Result<(), NoMemory>
     ensures { OnOk result (out.new.items ≡ out.old.items ++ spec.unknown_node at.number at.place name.now) }
@@ -82,7 +82,12 @@ fn push_unknown_node(
 
 /// Adds an include that no context has.
 #[tactic(auto, unfolding(crate::specs::Printing::unknown_inclusion))]
-fn push_unknown(alloc: Global, out: &mut Vec<u8>, at: Place, name: &[u8]) -> Result<(), NoMemory>
+fn push_unknown(
+    alloc: Global,
+    out: &mut Vec<u8>,
+    at: IncludePlace,
+    name: &[u8],
+) -> Result<(), NoMemory>
     ensures { OnOk result (out.new.items ≡ out.old.items ++ spec.unknown_inclusion at.number at.place name.now) }
 {
     push_unknown_node(alloc, out, at, name)?;
@@ -98,7 +103,7 @@ fn push_inclusion(
     alloc: Global,
     out: &mut Vec<u8>,
     plan: &Dialplan,
-    at: Place,
+    at: IncludePlace,
     name: &Text,
 ) -> Result<(), NoMemory>
     ensures { OnOk result (out.new.items ≡ out.old.items
@@ -115,7 +120,7 @@ fn push_at(
     alloc: Global,
     out: &mut Vec<u8>,
     plan: &Dialplan,
-    at: Place,
+    at: IncludePlace,
     index: usize,
 ) -> Result<(), NoMemory>
     requires has { index < length (includes_at plan.now at.number) }
@@ -136,7 +141,7 @@ fn push_all_at(
 {
     for index in 0..plan.includes_at(number).len() {
         let place = index + 1;
-        push_at(alloc, out, plan, Place { number, place }, index)?;
+        push_at(alloc, out, plan, IncludePlace { number, place }, index)?;
     }
     Ok(())
 }

@@ -9,7 +9,7 @@ ghost use Rattle.dp_graph.specs.ExecIf as calls;
 ghost use Rattle.dp_graph.specs.Jumps as spec;
 
 use crate::arrow::{Arrow, ArrowKind, Destination, insert};
-use crate::exec_if::{Call, Calls, exec_if_calls};
+use crate::exec_if::{CalledApplication, CalledApplications, exec_if_calls};
 use crate::exit::QueueExit;
 use dp_audit::{
     Jump, JumpParts, PlanFinder, Targets, exten_of, jump_of as plain_jump_of, parts_of,
@@ -22,7 +22,7 @@ use std::alloc::Global;
 
 /// An entry from which arrows come, with the name of its context.
 #[derive(Clone, Copy)]
-struct Source<'a> {
+struct ArrowSource<'a> {
     context: &'a Text,
     id: EntryId,
     held: &'a Entry,
@@ -94,7 +94,7 @@ fn missing(alloc: Global, target: &[u8]) -> Result<Option<Destination>, NoMemory
 /// The extension of the entry that was found, unless the jump comes from it.
 fn other_extension(
     alloc: Global,
-    from: Source<'_>,
+    from: ArrowSource<'_>,
     id: EntryId,
     found: &Entry,
 ) -> Result<Option<Destination>, NoMemory>
@@ -113,7 +113,7 @@ fn other_extension(
 /// Where a literal target leads, given the entry that answers, if one does.
 fn by_entry(
     finder: &PlanFinder<'_>,
-    from: Source<'_>,
+    from: ArrowSource<'_>,
     target: &[u8],
     found: Option<EntryId>,
 ) -> Result<Option<Destination>, NoMemory>
@@ -141,13 +141,13 @@ fn in_context(entry: &Entry, context: &[u8]) -> Option<Destination>
 /// Where a literal target leads, given the extension that it means, if one is known.
 fn by_exten(
     finder: &mut PlanFinder<'_>,
-    from: Source<'_>,
+    from: ArrowSource<'_>,
     target: &[u8],
     parts: JumpParts<'_>,
     exten: Option<&[u8]>,
 ) -> Result<Option<Destination>, NoMemory>
     ensures leads { IfOk result (λ to. to ≡ spec.by_exten finder.old from.entry.context.now from.entry.id from.entry.held.now target.now
-        (targets.seen parts.entry) (option_map (λ text. text.now) exten.entry)) }
+        (targets.parts_of_jump parts.entry) (option_map (λ text. text.now) exten.entry)) }
     ensures same { finder.new ≡ finder.old }
 {
     let Some(exten) = exten else {
@@ -160,12 +160,12 @@ fn by_exten(
 /// Where a literal target leads, given its parts.
 fn by_parts(
     finder: &mut PlanFinder<'_>,
-    from: Source<'_>,
+    from: ArrowSource<'_>,
     target: &[u8],
     parts: Option<JumpParts<'_>>,
 ) -> Result<Option<Destination>, NoMemory>
     ensures leads { IfOk result (λ to. to ≡ spec.by_parts finder.old from.entry.context.now from.entry.id from.entry.held.now target.now
-        (option_map targets.seen parts.entry)) }
+        (option_map targets.parts_of_jump parts.entry)) }
     ensures same { finder.new ≡ finder.old }
 {
     let Some(parts) = parts else {
@@ -178,7 +178,7 @@ fn by_parts(
 /// Where a target of an entry leads, unless it leads to the entry's own extension.
 fn destination_of(
     finder: &mut PlanFinder<'_>,
-    from: Source<'_>,
+    from: ArrowSource<'_>,
     jump: Jump,
     target: &[u8],
 ) -> Result<Option<Destination>, NoMemory>
@@ -212,7 +212,7 @@ fn insert_to(
 fn insert_target(
     arrows: &mut IndexSet<Arrow>,
     finder: &mut PlanFinder<'_>,
-    from: Source<'_>,
+    from: ArrowSource<'_>,
     jump: Jump,
     target: Option<&[u8]>,
 ) -> Result<(), NoMemory>
@@ -233,7 +233,7 @@ fn insert_target(
 fn insert_targets(
     arrows: &mut IndexSet<Arrow>,
     finder: &mut PlanFinder<'_>,
-    from: Source<'_>,
+    from: ArrowSource<'_>,
     jump: Jump,
     found: Targets<'_>,
 ) -> Result<(), NoMemory>
@@ -250,8 +250,8 @@ fn insert_targets(
 fn insert_jumps(
     arrows: &mut IndexSet<Arrow>,
     finder: &mut PlanFinder<'_>,
-    from: Source<'_>,
-    call: Call<'_>,
+    from: ArrowSource<'_>,
+    call: CalledApplication<'_>,
 ) -> Result<(), NoMemory>
     ensures arrows { OnOk result (arrows.new.keys ≡ fold with_arrow arrows.old.keys
         (spec.jump_arrows finder.old from.entry.context.now from.entry.id from.entry.held.now call.entry.arguments.now
@@ -320,7 +320,7 @@ fn insert_exits(
     alloc: Global,
     plan: &Dialplan,
     exits: &[QueueExit],
-    call: Call<'_>,
+    call: CalledApplication<'_>,
 ) -> Result<(), NoMemory>
     ensures { OnOk result (arrows.new.keys ≡ fold with_arrow arrows.old.keys
         (spec.exit_arrows plan.now exits.now (calls.call_now call.entry))) }
@@ -338,8 +338,8 @@ fn insert_of_call(
     arrows: &mut IndexSet<Arrow>,
     finder: &mut PlanFinder<'_>,
     exits: &[QueueExit],
-    from: Source<'_>,
-    call: Call<'_>,
+    from: ArrowSource<'_>,
+    call: CalledApplication<'_>,
 ) -> Result<(), NoMemory>
     ensures arrows { OnOk result (arrows.new.keys ≡ fold with_arrow arrows.old.keys
         (spec.call_arrows finder.old exits.now from.entry.context.now from.entry.id from.entry.held.now (calls.call_now call.entry))) }
@@ -354,8 +354,8 @@ fn insert_call(
     arrows: &mut IndexSet<Arrow>,
     finder: &mut PlanFinder<'_>,
     exits: &[QueueExit],
-    from: Source<'_>,
-    call: Option<Call<'_>>,
+    from: ArrowSource<'_>,
+    call: Option<CalledApplication<'_>>,
 ) -> Result<(), NoMemory>
     ensures arrows { OnOk result (arrows.new.keys ≡ fold with_arrow arrows.old.keys
         (flat_map (spec.call_arrows finder.old exits.now from.entry.context.now from.entry.id from.entry.held.now)
@@ -369,7 +369,7 @@ fn insert_call(
 }
 
 /// The applications that an entry may run: those that an `ExecIf` names, and else its own. An `ExecIf` inside another one is not followed.
-fn calls_of(entry: &Entry) -> Calls<'_>
+fn calls_of(entry: &Entry) -> CalledApplications<'_>
     ensures { calls.calls_now result ≡ spec.calls_of entry.now }
 {
     let arguments = entry.arguments.text().bytes();
@@ -377,8 +377,8 @@ fn calls_of(entry: &Entry) -> Calls<'_>
     if same_word(name, b"ExecIf") {
         return exec_if_calls(arguments);
     }
-    Calls {
-        first: Some(Call { name, arguments }),
+    CalledApplications {
+        first: Some(CalledApplication { name, arguments }),
         second: None,
     }
 }
@@ -389,7 +389,7 @@ fn insert_entry(
     arrows: &mut IndexSet<Arrow>,
     finder: &mut PlanFinder<'_>,
     exits: &[QueueExit],
-    from: Source<'_>,
+    from: ArrowSource<'_>,
 ) -> Result<(), NoMemory>
     ensures arrows { OnOk result (arrows.new.keys ≡ fold with_arrow arrows.old.keys
         (spec.entry_arrows finder.old exits.now from.entry.context.now from.entry.id from.entry.held.now)) }
@@ -417,7 +417,7 @@ fn insert_at(
         return Ok(());
     };
     let context = context.name();
-    insert_entry(arrows, finder, exits, Source { context, id, held })
+    insert_entry(arrows, finder, exits, ArrowSource { context, id, held })
 }
 
 /// The arrows of an extension, given its entries.

@@ -6,7 +6,7 @@ use Rattle.std.specs.Fmt.{digits, digits_onto, digit_glyph}
 use Rattle.std.specs.List.{flat_map}
 use Rattle.std.specs.Str.{is_utf8}
 use Rattle.dp_json.specs.Lines.{is_line, line_count}
-use Rattle.dp_json.specs.Objects.{Field, Value, text, number, value_text, name_text, field_text, more_text, fields_text, opening, object_text}
+use Rattle.dp_json.specs.Objects.{Field, FieldValue, text, number, value_text, name_text, field_text, more_text, fields_text, opening, object_text}
 use Rattle.dp_json.specs.Strings.{is_marked, is_plain, code_text, byte_text, bytes_text, string_text}
 
 -- the text has no line feed
@@ -74,7 +74,7 @@ clear_decimal : (n : ℕ) → Clear (decimal n)
 unfolding digits
 clear_decimal n = clear_onto 64 n [] tt
 
-clear_value : (value : Value) → Clear (value_text value)
+clear_value : (value : FieldValue) → Clear (value_text value)
 clear_value (text bytes) = clear_string bytes
 clear_value (number count) = clear_decimal count
 

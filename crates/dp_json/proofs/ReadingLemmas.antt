@@ -14,7 +14,7 @@ use Rattle.json.specs.Text.{after_high, code_unit, content, is_high_surrogate, i
 use Rattle.json.specs.Token.{Token}
 use Rattle.json.specs.Tree.{depth, json_tokens, members_depth, members_tokens}
 use Rattle.json.specs.Word.{ends_word, is_operator, is_space}
-use Rattle.dp_json.specs.Objects.{Field, Value, text, number, value_text, name_text, field_text, more_text, fields_text, opening, object_text}
+use Rattle.dp_json.specs.Objects.{Field, FieldValue, text, number, value_text, name_text, field_text, more_text, fields_text, opening, object_text}
 use Rattle.dp_json.specs.Reading.{IsField, IsText, IsValue, members_read, text_read, value_read}
 use Rattle.dp_json.specs.Strings.{byte_text, bytes_text, code_text, is_marked, is_plain, string_text}
 
@@ -182,11 +182,11 @@ lex-string s r h =
 -- ---- fields
 
 -- the token of a value
-abbrev value_token : Value → Token
+abbrev value_token : FieldValue → Token
 value_token (text bytes) = Token.string (text_read bytes)
 value_token (number count) = Token.number (decimal count)
 
-lex-value : (v : Value) (r : List ℕ) → IsValue v → ends_word r ≡ true → lex between (value_text v ++ r) ≡ token (value_token v) ∷ lex between r
+lex-value : (v : FieldValue) (r : List ℕ) → IsValue v → ends_word r ≡ true → lex between (value_text v ++ r) ≡ token (value_token v) ∷ lex between r
 lex-value (text bytes) r h ended = lex-string bytes r h
 lex-value (number count) r h ended = lex-number (decimal count) r (IsNumber-decimal count h) ended
 
@@ -239,12 +239,12 @@ no_colon : (fields : List Field) → begins_colon (rest_lexemes fields) ≡ fals
 no_colon [] = refl
 no_colon (field ∷ fields) = refl
 
-value_placed : (v : Value) (fields : List Field) → punctuate fresh (token (value_token v) ∷ rest_lexemes fields) ≡ value_token v ∷ punctuate after_value (rest_lexemes fields)
+value_placed : (v : FieldValue) (fields : List Field) → punctuate fresh (token (value_token v) ∷ rest_lexemes fields) ≡ value_token v ∷ punctuate after_value (rest_lexemes fields)
 unfolding punctuate
 value_placed (text bytes) fields = rw (no_colon fields) refl
 value_placed (number count) fields = refl
 
-value_tokens : (v : Value) (ts : List Token) → value_token v ∷ ts ≡ json_tokens (value_read v) ++ ts
+value_tokens : (v : FieldValue) (ts : List Token) → value_token v ∷ ts ≡ json_tokens (value_read v) ++ ts
 value_tokens (text bytes) ts = refl
 value_tokens (number count) ts = refl
 
@@ -271,7 +271,7 @@ tokens-object (field ∷ fields) h =
 
 -- ---- objects
 
-value_flat : (v : Value) → depth (value_read v) ≡ 0
+value_flat : (v : FieldValue) → depth (value_read v) ≡ 0
 value_flat (text bytes) = refl
 value_flat (number count) = refl
 

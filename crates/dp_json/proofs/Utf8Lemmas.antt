@@ -7,7 +7,7 @@ use Rattle.std.specs.List.{AllByRecursion}
 use Rattle.std.specs.Str.{is_utf8}
 use Rattle.json.proofs.Printed.Utf8.{IsUtf8-are_ascii, are_ascii}
 use lib.Utf8.{encode, encodes, scalar, scalars}
-use Rattle.dp_json.specs.Objects.{Field, Value, text, number, value_text, field_text, more_text, fields_text, opening, object_text}
+use Rattle.dp_json.specs.Objects.{Field, FieldValue, text, number, value_text, field_text, more_text, fields_text, opening, object_text}
 use Rattle.dp_json.specs.Reading.{IsField, IsText, IsValue}
 use Rattle.dp_json.specs.Strings.{byte_text, bytes_text, code_text, is_marked, is_plain, string_text}
 
@@ -79,7 +79,7 @@ string_is s h =
     parts (codes "\"") (bytes_text utf8 s) (codes "\"") (IsUtf8-are_ascii (codes "\"") refl)
     (either_bytes utf8 s h (λ e. IsUtf8-from_is_utf8 s e)) (IsUtf8-are_ascii (codes "\"") refl)
 
-value_is : (v : Value) → IsValue v → IsUtf8 (value_text v)
+value_is : (v : FieldValue) → IsValue v → IsUtf8 (value_text v)
 value_is (text bytes) h = string_is bytes h
 value_is (number count) h = IsUtf8-from_ascii (decimal count) (IsAscii-decimal count h)
 

@@ -1,6 +1,6 @@
 pub mod Entries
 pub mod Findings
-pub mod Joined
+pub mod Joining
 pub mod Lines
 pub mod Matches
 pub mod Notes

@@ -4,14 +4,14 @@ use Rattle.std.specs.List.{flat_map}
 use Rattle.dp_json.specs.Strings.{string_text}
 
 -- what a field holds
-pub data Value : Type 0 where
-  text : List ℕ → Value
-  number : ℕ → Value
+pub data FieldValue : Type 0 where
+  text : List ℕ → FieldValue
+  number : ℕ → FieldValue
 
 -- a field of an object
 pub record Field : Type 0 where
   pub name : List ℕ
-  pub value : Value
+  pub value : FieldValue
 
 -- the field of a name with a text
 abbrev pub text_field : List ℕ → List ℕ → Field
@@ -26,7 +26,7 @@ abbrev pub type_field : List ℕ → Field
 type_field word = text_field (codes "type") word
 
 -- a value as it is written
-abbrev pub value_text : Value → List ℕ
+abbrev pub value_text : FieldValue → List ℕ
 value_text (text bytes) = string_text bytes
 value_text (number count) = decimal count
 

@@ -7,7 +7,7 @@ use Rattle.dp_answer.specs.declared.reach_answer.ReachFinding.TheVariants.{Conte
 use Rattle.dp_answer.specs.declared.reach_answer.ReachedContext.{ReachedContext}
 use Rattle.dp_audit.specs.Findings.{context_name}
 use Rattle.dp_json.specs.Entries.{context_field, entry_fields}
-use Rattle.dp_json.specs.Joined.{joined}
+use Rattle.dp_json.specs.Joining.{joined_texts}
 use Rattle.dp_json.specs.Objects.{Field, lines_text, number_field, text_field, type_field}
 use Rattle.dp_plan.specs.Contexts.{PlanContext}
 use Rattle.dp_plan.specs.Plan.{PlanOf}
@@ -23,7 +23,7 @@ facts_fields (Some facts) = text_field (codes "facts") facts ∷ []
 -- where calls come in: the names of the contexts, if some are given
 abbrev pub starts_text : Option (List ℕ) → List (List ℕ) → List ℕ
 starts_text None starts = codes "every context"
-starts_text (Some given) starts = joined 32 starts
+starts_text (Some given) starts = joined_texts 32 starts
 
 -- the bytes of extensions and of callers' numbers
 unfoldable pub bytes_fields : AskOf → List Field

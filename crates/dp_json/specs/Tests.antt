@@ -2,7 +2,7 @@
 use Rattle.std.specs.Prelude.{ℕ, List, [], ◌∷◌, ◌++◌, Option, Some, None, codes}
 use Rattle.dp_audit.specs.Findings.{context_name}
 use Rattle.dp_json.specs.Entries.{application_field, place_fields}
-use Rattle.dp_json.specs.Joined.{joined}
+use Rattle.dp_json.specs.Joining.{joined_texts}
 use Rattle.dp_json.specs.Objects.{Field, number_field, text_field, type_field}
 use Rattle.dp_json.specs.declared.tests.TestFailure.{TestFailure}
 use Rattle.dp_json.specs.declared.tests.TestPoint.{TestPoint}
@@ -21,7 +21,7 @@ test_word (Some failure) = codes "Failed"
 
 -- the lines of a trace as one text, with line feeds between them
 abbrev pub trace_text : List (List ℕ) → List ℕ
-trace_text lines = joined 10 lines
+trace_text lines = joined_texts 10 lines
 
 -- where a test failed, what was expected, and what came of it
 unfoldable pub got_fields : TestFailure → List Field

@@ -13,7 +13,7 @@
 
 mod entry;
 mod findings;
-mod joined;
+mod joining;
 pub mod laws;
 mod matching;
 mod notes;

@@ -94,7 +94,7 @@ fn push_told(alloc: Global, out: &mut Vec<u8>, text: &[u8], notice: Notice) -> R
 
 /// A line of a file, with the path of the file.
 #[derive(Clone, Copy)]
-struct NamedLine<'a> {
+struct LineWithPath<'a> {
     file: &'a [u8],
     line: &'a SourceLine,
 }
@@ -104,7 +104,7 @@ struct NamedLine<'a> {
 fn push_notice(
     alloc: Global,
     out: &mut Vec<u8>,
-    named: NamedLine<'_>,
+    named: LineWithPath<'_>,
     notice: Notice,
 ) -> Result<(), NoMemory>
     ensures { OnOk result (out.new.items ≡ out.old.items ++ spec.notice_line named.entry.file.now named.entry.line.now notice) }
@@ -120,7 +120,7 @@ fn push_line(
     alloc: Global,
     out: &mut Vec<u8>,
     shown: Shown,
-    named: NamedLine<'_>,
+    named: LineWithPath<'_>,
     notices: &[Notice],
 ) -> Result<(), NoMemory>
     ensures { OnOk result (out.new.items
@@ -153,7 +153,7 @@ fn push_noted(
         file_name(files, 0),
         file_name(files, noted.line.file),
     )?;
-    let named = NamedLine {
+    let named = LineWithPath {
         file: path.bytes(),
         line: &noted.line,
     };

@@ -6,7 +6,7 @@ ghost use Rattle.dp_json.specs.Objects.{fields_text, lines_text, more_text, obje
 ghost use Rattle.dp_json.specs.Reaches as spec;
 
 use crate::entry::{context_name, push_entry};
-use crate::joined::joined_names;
+use crate::joining::joined_names;
 use crate::object::{begin_object, end_object, push_number, push_text};
 use dp_answer::{Ask, ReachAnswer, ReachFinding, ReachedContext};
 use dp_plan::{Context, Dialplan, EntryId, NoMemory};

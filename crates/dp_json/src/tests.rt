@@ -4,7 +4,7 @@ ghost use Rattle.dp_json.specs.Objects.{fields_text, more_text, object_text};
 ghost use Rattle.dp_json.specs.Tests as spec;
 
 use crate::entry::{context_name, push_application, push_place};
-use crate::joined::joined_texts;
+use crate::joining::joined_texts;
 use crate::object::{begin_object, end_object, push_number, push_text};
 use dp_plan::{Dialplan, Entry, EntryId, NoMemory, Text};
 use std::alloc::Global;

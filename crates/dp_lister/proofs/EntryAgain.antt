@@ -15,7 +15,7 @@ use Rattle.dp_pattern.specs.Spelling.{spelling}
 use Rattle.dp_pattern.proofs.SpelledBytes.{spells_cleanly}
 use Rattle.dp_pattern.proofs.SpellingLemmas.{spelled_again}
 use Rattle.dp_plan.specs.EntryLine.{without_last, name_of, written_of, label_within, written_priority, application_of, entry_by, exten_entry}
-use Rattle.dp_plan.specs.History.{History}
+use Rattle.dp_plan.specs.History.{PlanHistory}
 use Rattle.dp_plan.specs.Priority.{IsPriority}
 use Rattle.dp_plan.specs.declared.entry.Entry.{Entry}
 use Rattle.dp_plan.proofs.ItemWords.{number as Number}
@@ -176,12 +176,12 @@ name_of-again line name fine =
 
 -- ---- the entry
 
-entry_by-again : (history : History) (line : ℕ) (context : List ℕ) (entry : Entry) → IsEntry entry → entry_by history line context entry.name (priority_text entry.priority entry.label) (called_text entry.application entry.arguments) ≡ Ok entry
+entry_by-again : (history : PlanHistory) (line : ℕ) (context : List ℕ) (entry : Entry) → IsEntry entry → entry_by history line context entry.name (priority_text entry.priority entry.label) (called_text entry.application entry.arguments) ≡ Ok entry
 entry_by-again history line context entry fine =
     simp (written_priority-again entry.priority entry.label fine.priority fine.label, application_of-again entry.application entry.arguments fine.application, fine.accepted) refl
 
 -- the value of an entry's line is read as the entry
-pub exten_entry-again : (history : History) (line : ℕ) (context : List ℕ) (entry : Entry) → IsEntry entry → exten_entry history line context (entry_text entry) ≡ Ok entry
+pub exten_entry-again : (history : PlanHistory) (line : ℕ) (context : List ℕ) (entry : Entry) → IsEntry entry → exten_entry history line context (entry_text entry) ≡ Ok entry
 unfolding exten_entry
 exten_entry-again history line context entry fine =
     let p : List ℕ = priority_text entry.priority entry.label in

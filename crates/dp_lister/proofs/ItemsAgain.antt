@@ -8,13 +8,13 @@ use Rattle.dp_conf.specs.Answers.{◌>>=◌, with_front}
 use Rattle.dp_conf.specs.Lines.{LineOf, Header, Pair}
 use Rattle.dp_conf.proofs.TextLemmas.{any-none}
 use Rattle.dp_plan.specs.Contexts.{PlanContext}
-use Rattle.dp_plan.specs.History.{History, latest, section_in, history_of}
+use Rattle.dp_plan.specs.History.{PlanHistory, latest, section_in, history_of}
 use Rattle.dp_plan.specs.Items.{section_named, global_item, entry_item, context_item, just, pair_item, line_item, items_after}
 use Rattle.dp_plan.specs.Plan.{PlanOf}
 use Rattle.dp_plan.specs.declared.entry.Entry.{Entry}
 use Rattle.dp_plan.specs.declared.fault.LoadFault.{LoadFault}
 use Rattle.dp_plan.specs.declared.plan.GlobalVariable.{GlobalVariable}
-use Rattle.dp_plan.proofs.ItemWords.{item_word as Item, begins as Begins, sets as Sets, adds as Adds, includes as Includes, unknown as Unknown, section_word as Section, general as General, globals as Globals, in_context as Context, by_section, by_item}
+use Rattle.dp_plan.proofs.ItemWords.{item_word as Item, begins as Begins, sets as Sets, adds as Adds, includes as Includes, unknown_key as Unknown, section_word as Section, general as General, globals as Globals, in_context as Context, by_section, by_item}
 use Rattle.dp_plan.proofs.PartsKnown.{IsContextName, IsGlobal, IsEntry, IsIncluded}
 use Rattle.dp_lister.proofs.Canonical.{IsContext, IsCanonical, entry_text, header_of, lines_of_globals, lines_of_context, lines_of_contexts, numbered_lines, canonical_lines}
 use Rattle.dp_lister.proofs.EntryAgain.{exten_entry-again}
@@ -72,16 +72,16 @@ global_item-again : (line : ℕ) (global : GlobalVariable) → IsGlobal global �
 global_item-again line global fine =
     rw (fine.name.is, fine.accepted) refl
 
-exten_item-again : (history : History) (context : List ℕ) (line : ℕ) (entry : Entry) → IsEntry entry → context_item history context line (codes "exten") (entry_text entry) ≡ Ok (Adds line context entry)
+exten_item-again : (history : PlanHistory) (context : List ℕ) (line : ℕ) (entry : Entry) → IsEntry entry → context_item history context line (codes "exten") (entry_text entry) ≡ Ok (Adds line context entry)
 unfolding context_item
 exten_item-again history context line entry fine = ap (entry_item context line) (exten_entry-again history line context entry fine)
 
-include_item-again : (history : History) (context : List ℕ) (line : ℕ) (name : List ℕ) → IsIncluded name → context_item history context line (codes "include") name ≡ Ok (Includes line context name)
+include_item-again : (history : PlanHistory) (context : List ℕ) (line : ℕ) (name : List ℕ) → IsIncluded name → context_item history context line (codes "include") name ≡ Ok (Includes line context name)
 unfolding context_item
 include_item-again history context line name fine =
     rw (any-none (λ b. b == 44) name fine.no_comma) refl
 
-line_item-again : (history : History) (section : Section) (line : ℕ) (x : Item) → history.section ≡ section → Stands section x → line_item history (say line x) ≡ Ok (with_line line x ∷ [])
+line_item-again : (history : PlanHistory) (section : Section) (line : ℕ) (x : Item) → history.section ≡ section → Stands section x → line_item history (say line x) ≡ Ok (with_line line x ∷ [])
 line_item-again history section line x here =
     by_item (λ y. Stands section y → line_item history (say line y) ≡ Ok (with_line line y ∷ []))
     (by_section (λ s. IsFineSection s → line_item history (say line (Begins s)) ≡ Ok (Begins s ∷ []))

@@ -162,8 +162,8 @@ same_text-symm : (a b : List ℕ) → same_text a b ≡ false → same_text b a 
 same_text-symm a b e = nat_list_eq_equiv.symm b a ∙ e
 
 -- a name that is not among the names and one more
-unnamed : (names : List (List ℕ)) (name other : List ℕ) → is_named (names ++ name ∷ []) other ≡ false → (is_named names other ≡ false) × (same_text other name ≡ false)
-unnamed names name other e =
+not_named_twice : (names : List (List ℕ)) (name other : List ℕ) → is_named (names ++ name ∷ []) other ≡ false → (is_named names other ≡ false) × (same_text other name ≡ false)
+not_named_twice names name other e =
     let both = either-false (is_named names other) (same_text other name || false) (sym (list_any-append (same_text other) names (name ∷ [])) ∙ e) in
     (both.0, (either-false (same_text other name) false both.1).0)
 
@@ -257,7 +257,7 @@ Absent key named before = (name : List ℕ) → is_named named name ≡ false �
 
 absent-more : {X : Type 0} (key : X → List ℕ) (named : List (List ℕ)) (before : List X) (name : List ℕ) (xs : List X) → AllByRecursion (λ x. key x ≡ name) xs → Absent key named before → Absent key (named ++ name ∷ []) (before ++ xs)
 absent-more key named before name xs own absent other e =
-    let apart = unnamed named name other e in
+    let apart = not_named_twice named name other e in
     filter-append (λ x. same_text other (key x)) before xs ∙ (λ i. absent other apart.0 i ++ of-other key other name xs own apart.1 i)
 
 -- the entries of all contexts are kept if those of each are
@@ -274,7 +274,7 @@ fresh-additions (context ∷ contexts) named before absent names fine =
 fresh-apart : (before : List (List ℕ)) (name : List ℕ) (contexts : List PlanContext) → ((other : List ℕ) → is_named before other ≡ false → same_text name other ≡ false) → IsFresh is_named before (map name_of contexts) → AllByRecursion (λ (c : PlanContext). same_text name c.name ≡ false) contexts
 fresh-apart before name [] among fresh = tt
 fresh-apart before name (context ∷ contexts) among fresh =
-    (among context.name fresh.0, fresh-apart (before ++ context.name ∷ []) name contexts (λ other e. among other (unnamed before context.name other e).0) fresh.1)
+    (among context.name fresh.0, fresh-apart (before ++ context.name ∷ []) name contexts (λ other e. among other (not_named_twice before context.name other e).0) fresh.1)
 
 of-others : {X : Type 0} (key : X → List ℕ) (part : PlanContext → List X) → ((c : PlanContext) → AllByRecursion (λ x. key x ≡ c.name) (part c)) → (name : List ℕ) (contexts : List PlanContext) → AllByRecursion (λ (c : PlanContext). same_text name c.name ≡ false) contexts → filter (λ x. same_text name (key x)) (flat_map part contexts) ≡ []
 of-others key part own name [] apart = refl
@@ -293,7 +293,7 @@ of-context key part own before context contexts none apart =
 contexts-again : (named : List (List ℕ)) (added : List Addition) (included : List Inclusion) (contexts : List PlanContext) → Absent (λ (a : Addition). a.context) named added → Absent (λ (i : Inclusion). i.context) named included → IsFresh is_named named (map name_of contexts) → map (context_of (added ++ flat_map additions_of contexts) (included ++ flat_map inclusions_of contexts)) (map name_of contexts) ≡ contexts
 contexts-again named added included [] absent_a absent_i names = refl
 contexts-again named added included (context ∷ contexts) absent_a absent_i names =
-    let apart = fresh-apart (named ++ context.name ∷ []) context.name contexts (λ other e. same_text-symm other context.name (unnamed named context.name other e).1) names.1 in
+    let apart = fresh-apart (named ++ context.name ∷ []) context.name contexts (λ other e. same_text-symm other context.name (not_named_twice named context.name other e).1) names.1 in
     let own_a = of-context (λ (a : Addition). a.context) additions_of (λ c. key-additions c.name c.entries) added context contexts (absent_a context.name names.0) apart in
     let own_i = of-context (λ (i : Inclusion). i.context) inclusions_of (λ c. key-inclusions c.name c.includes) included context contexts (absent_i context.name names.0) apart in
     let after = contexts-again (named ++ context.name ∷ []) (added ++ additions_of context) (included ++ inclusions_of context) contexts

@@ -9,7 +9,7 @@ use Rattle.std.proofs.lemmas.Option.{slice_get-get_or, same_Some}
 use Rattle.dp_plan.specs.Lookup.{includes_at, number_of}
 use Rattle.dp_plan.specs.Plan.{PlanOf}
 use Rattle.dp_lookup.specs.SearchOrder.{context_count, has, is_open, link_of, links_at, visit}
-use Rattle.dp_lookup.specs.steps.Filling.{IsMarked, links_left, pending, unseen, one, link_count, work, IsFilling}
+use Rattle.dp_lookup.specs.steps.Filling.{IsMarked, links_left, pending, unseen_weight, one, link_count, work, IsFilling}
 use Rattle.dp_lookup.specs.declared.visit.ContextVisit.{ContextVisit}
 use Rattle.dp_lookup.proofs.SeenLemmas.{has-push_itself, has-push_other, unseen-push}
 use Rattle.dp_lookup.proofs.VisitLemmas.{visit-equation, closed}
@@ -58,8 +58,8 @@ unmark_step order i marks within before k marked = elim (cases_eq k (get_or orde
 ]
 
 -- if all marks are those of an empty rest of the order, none is set
-pub unmarked : (order : List ℕ) (i : ℕ) (marks : List Bool) → length order ≤ i → ((k : ℕ) → slice_get marks k ≡ Some true → has (drop i order) k ≡ true) → IsMarked [] marks
-unmarked order i marks ended before k within = by_mark (get_or marks k false) (slice_get-get_or marks k false within)
+pub no_marks_are_set : (order : List ℕ) (i : ℕ) (marks : List Bool) → length order ≤ i → ((k : ℕ) → slice_get marks k ≡ Some true → has (drop i order) k ≡ true) → IsMarked [] marks
+no_marks_are_set order i marks ended before k within = by_mark (get_or marks k false) (slice_get-get_or marks k false within)
   where
     by_mark : (b : Bool) → slice_get marks k ≡ Some b → slice_get marks k ≡ Some false
     by_mark true e = absurd (true≢false (sym (before k e) ∙ ap (λ left. has left k) (drop_all i order ended)))
@@ -164,7 +164,7 @@ filling-enter plan order marks frames number filling within in_marks new = recor
 }
 
 -- nothing has been seen at first
-pub unseen-nil : (bound : ℕ) → unseen one bound [] ≡ bound
+pub unseen-nil : (bound : ℕ) → unseen_weight one bound [] ≡ bound
 unseen-nil zero = refl
 unseen-nil (suc bound) = let rest = unseen-nil bound in omega (arith, rest)
 

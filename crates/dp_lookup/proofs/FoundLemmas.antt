@@ -17,7 +17,7 @@ use Rattle.dp_pattern.specs.Order.{name_cmp}
 use Rattle.dp_pattern.proofs.GoesOnLemmas.{going_on}
 use Rattle.dp_pattern.proofs.MeaningLemmas.{name_means}
 use Rattle.dp_pattern.proofs.OrderLemmas.{name_cmp_total}
-use Rattle.dp_pattern.proofs.WalkLemmas.{matched}
+use Rattle.dp_pattern.proofs.WalkLemmas.{walk_decides_match}
 use Rattle.dp_plan.specs.Contexts.{PlanContext, AreNamed}
 use Rattle.dp_plan.specs.Lookup.{entry_at}
 use Rattle.dp_plan.specs.Plan.{PlanOf, shares_label}
@@ -351,7 +351,7 @@ both_decide false t P Q p q = (λ e. absurd (true≢false (sym e)), λ both. p.1
 
 has_priority-decides : (text : List ℕ) (priority : ℕ) (entry : Entry) → Decides (has_priority text priority entry) (HasPriority text priority entry)
 has_priority-decides text priority entry =
-    let both = both_decide (matches_name entry.name text) (entry.priority == priority) (Matches entry.name text) (entry.priority ≡ priority) (matched entry.name text) (eqb-true entry.priority priority, eq-eqb entry.priority priority) in
+    let both = both_decide (matches_name entry.name text) (entry.priority == priority) (Matches entry.name text) (entry.priority ≡ priority) (walk_decides_match entry.name text) (eqb-true entry.priority priority, eq-eqb entry.priority priority) in
     (λ e. let parts = both.0 e in record { matching = parts.0; same = parts.1 }, λ has. both.1 (has.matching, has.same))
 
 shares_label-decides : (own : Option (List ℕ)) (label : List ℕ) → Decides (shares_label own (Some label)) (own ≡ Some label)
@@ -362,7 +362,7 @@ shares_label-decides (Some own) label =
 
 has_label-decides : (text label : List ℕ) (entry : Entry) → Decides (has_label text label entry) (HasLabel text label entry)
 has_label-decides text label entry =
-    let both = both_decide (matches_name entry.name text) (shares_label entry.label (Some label)) (Matches entry.name text) (entry.label ≡ Some label) (matched entry.name text) (shares_label-decides entry.label label) in
+    let both = both_decide (matches_name entry.name text) (shares_label entry.label (Some label)) (Matches entry.name text) (entry.label ≡ Some label) (walk_decides_match entry.name text) (shares_label-decides entry.label label) in
     (λ e. let parts = both.0 e in record { matching = parts.0; same = parts.1 }, λ has. both.1 (has.matching, has.same))
 
 begins_later-decides : (text : List ℕ) (entry : Entry) → IsName entry.name → Decides (begins_later text entry) (BeginsLater text entry)

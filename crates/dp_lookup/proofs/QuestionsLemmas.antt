@@ -8,7 +8,7 @@ use Rattle.dp_pattern.specs.Matches.{Matches}
 use Rattle.dp_pattern.specs.Name.{IsName}
 use Rattle.dp_pattern.proofs.GoesOnLemmas.{going_on}
 use Rattle.dp_pattern.proofs.MeaningLemmas.{name_means}
-use Rattle.dp_pattern.proofs.WalkLemmas.{matched}
+use Rattle.dp_pattern.proofs.WalkLemmas.{walk_decides_match}
 use Rattle.dp_plan.specs.Plan.{shares_label}
 use Rattle.dp_plan.specs.declared.entry.Entry.{Entry}
 use Rattle.dp_lookup.specs.FoundEntry.{matches_name, goes_on_from}
@@ -23,14 +23,14 @@ and_so false t e = refl
 -- a test that decides whether the text matches an entry with the priority
 pub asks-priority : (question : LookUp) (number : ℕ) (text : List ℕ) (entry : Entry) (r : Bool) → question ≡ Priority number → entry.priority ≡ number → IsTrue r ↔ Matches entry.name text → r ≡ asks question text entry
 asks-priority question number text entry r is same decides =
-    same_from_decides r (matches_name entry.name text) decides (matched entry.name text)
+    same_from_decides r (matches_name entry.name text) decides (walk_decides_match entry.name text)
     ∙ (and_so (matches_name entry.name text) (entry.priority == number) (eq-eqb entry.priority number same)
     ∙ ap (λ q. asks q text entry) (sym is))
 
 -- the same for an entry with the label
 pub asks-label : (question : LookUp) (label : Bor (List ℕ)) (text : List ℕ) (entry : Entry) (r : Bool) → question ≡ Label label → entry.label ≡ Some label.now → IsTrue r ↔ Matches entry.name text → r ≡ asks question text entry
 asks-label question label text entry r is same decides =
-    same_from_decides r (matches_name entry.name text) decides (matched entry.name text)
+    same_from_decides r (matches_name entry.name text) decides (walk_decides_match entry.name text)
     ∙ (and_so (matches_name entry.name text) (shares_label entry.label (Some label.now))
     (ap (λ own. shares_label own (Some label.now)) same ∙ (bytes_decides label.now label.now).1 refl)
     ∙ ap (λ q. asks q text entry) (sym is))

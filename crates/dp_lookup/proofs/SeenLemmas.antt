@@ -3,7 +3,7 @@ use Rattle.std.proofs.Common.{◌≡◌, ◌≢◌, ℕ, zero, suc, ◌+◌, ◌
 use Rattle.std.proofs.lemmas.Bool.{eqb-true, eq-eqb, ltb-true, not-true, cases_lt}
 use Rattle.dp_plan.specs.Plan.{PlanOf}
 use Rattle.dp_lookup.specs.SearchOrder.{context_count, has, is_open}
-use Rattle.dp_lookup.specs.steps.Filling.{unseen, one}
+use Rattle.dp_lookup.specs.steps.Filling.{unseen_weight, one}
 
 and_parts : (a b : Bool) → (a && b) ≡ true → (a ≡ true) × (b ≡ true)
 and_parts true b e = (refl, e)
@@ -44,7 +44,7 @@ open_parts plan seen c e =
     (ltb-true c (context_count plan) parts.0, not-true (has seen c) parts.1)
 
 -- a context beyond the bound does not count
-pub unseen-push_above : (weight : ℕ → ℕ) (bound : ℕ) (seen : List ℕ) (c : ℕ) → bound ≤ c → unseen weight bound (seen ++ c ∷ []) ≡ unseen weight bound seen
+pub unseen-push_above : (weight : ℕ → ℕ) (bound : ℕ) (seen : List ℕ) (c : ℕ) → bound ≤ c → unseen_weight weight bound (seen ++ c ∷ []) ≡ unseen_weight weight bound seen
 unseen-push_above weight zero seen c above = refl
 unseen-push_above weight (suc bound) seen c above =
     let other : c ≢ bound = omega arith in
@@ -52,13 +52,13 @@ unseen-push_above weight (suc bound) seen c above =
     let below = unseen-push_above weight bound seen c (omega arith) in
     λ i. below i + here i
 
-push_below : (weight : ℕ → ℕ) (bound : ℕ) (seen : List ℕ) (c : ℕ) → c < bound → unseen weight bound (seen ++ c ∷ []) + weight c ≡ unseen weight bound seen → unseen weight (suc bound) (seen ++ c ∷ []) + weight c ≡ unseen weight (suc bound) seen
+push_below : (weight : ℕ → ℕ) (bound : ℕ) (seen : List ℕ) (c : ℕ) → c < bound → unseen_weight weight bound (seen ++ c ∷ []) + weight c ≡ unseen_weight weight bound seen → unseen_weight weight (suc bound) (seen ++ c ∷ []) + weight c ≡ unseen_weight weight (suc bound) seen
 push_below weight bound seen c below rest =
     let other : c ≢ bound = omega arith in
     let here = ap (λ b. cond b 0 (weight bound)) (has-push_other seen c bound other) in
     omega (arith, here, rest)
 
-push_at : (weight : ℕ → ℕ) (bound : ℕ) (seen : List ℕ) (c : ℕ) → c ≡ bound → has seen c ≡ false → unseen weight (suc bound) (seen ++ c ∷ []) + weight c ≡ unseen weight (suc bound) seen
+push_at : (weight : ℕ → ℕ) (bound : ℕ) (seen : List ℕ) (c : ℕ) → c ≡ bound → has seen c ≡ false → unseen_weight weight (suc bound) (seen ++ c ∷ []) + weight c ≡ unseen_weight weight (suc bound) seen
 push_at weight bound seen c same new =
     let rest = unseen-push_above weight bound seen c (omega arith) in
     let now : has (seen ++ c ∷ []) bound ≡ true = ap (has (seen ++ c ∷ [])) (sym same) ∙ has-push_itself seen c in
@@ -68,7 +68,7 @@ push_at weight bound seen c same new =
     omega (arith, rest, none, here, ap weight same)
 
 -- one more seen is one less remaining
-pub unseen-push : (weight : ℕ → ℕ) (bound : ℕ) (seen : List ℕ) (c : ℕ) → c < bound → has seen c ≡ false → unseen weight bound (seen ++ c ∷ []) + weight c ≡ unseen weight bound seen
+pub unseen-push : (weight : ℕ → ℕ) (bound : ℕ) (seen : List ℕ) (c : ℕ) → c < bound → has seen c ≡ false → unseen_weight weight bound (seen ++ c ∷ []) + weight c ≡ unseen_weight weight bound seen
 unseen-push weight zero seen c within new = absurd (omega arith)
 unseen-push weight (suc bound) seen c within new =
     let below = λ (lt : c < bound). unseen-push weight bound seen c lt new in
@@ -78,7 +78,7 @@ unseen-push weight (suc bound) seen c within new =
     ]
 
 -- seeing more leaves no more than before
-pub unseen-push_le : (weight : ℕ → ℕ) (bound : ℕ) (seen : List ℕ) (c : ℕ) → unseen weight bound (seen ++ c ∷ []) ≤ unseen weight bound seen
+pub unseen-push_le : (weight : ℕ → ℕ) (bound : ℕ) (seen : List ℕ) (c : ℕ) → unseen_weight weight bound (seen ++ c ∷ []) ≤ unseen_weight weight bound seen
 unseen-push_le weight zero seen c = omega arith
 unseen-push_le weight (suc bound) seen c =
     let rest = unseen-push_le weight bound seen c in
@@ -92,7 +92,7 @@ unseen-push_le weight (suc bound) seen c =
     weight-or false false w = omega arith
 
 -- there are at most as many as the bound
-pub unseen_all : (bound : ℕ) (seen : List ℕ) → unseen one bound seen ≤ bound
+pub unseen_all : (bound : ℕ) (seen : List ℕ) → unseen_weight one bound seen ≤ bound
 unseen_all zero seen = omega arith
 unseen_all (suc bound) seen =
     let rest = unseen_all bound seen in

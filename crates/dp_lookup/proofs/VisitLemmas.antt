@@ -3,13 +3,13 @@ use Rattle.std.proofs.Common.{◌≡◌, ℕ, zero, suc, ◌+◌, ◌≤◌, Boo
 use Rattle.std.specs.Prelude.{fold}
 use Rattle.dp_plan.specs.Plan.{PlanOf}
 use Rattle.dp_lookup.specs.SearchOrder.{context_count, is_open, links_at, Visit, visited_by, visit_in, visit, IsVisit, IsTheVisit}
-use Rattle.dp_lookup.specs.steps.Filling.{unseen, one}
+use Rattle.dp_lookup.specs.steps.Filling.{unseen_weight, one}
 use Rattle.dp_lookup.proofs.SeenLemmas.{open_parts, unseen-push, unseen-push_le, unseen_all}
 
 module _ (plan : PlanOf) where
   -- the number of contexts still to be visited
   abbrev unvisited_count : List ℕ → ℕ
-  unvisited_count seen = unseen one (context_count plan) seen
+  unvisited_count seen = unseen_weight one (context_count plan) seen
 
   -- an open context is one of the remaining ones
   unvisited_count-open : (seen : List ℕ) (c : ℕ) → is_open plan seen c ≡ true → unvisited_count (seen ++ c ∷ []) + 1 ≡ unvisited_count seen

@@ -78,13 +78,13 @@ const MANY: u32 = 20_000;
 
 /// A writer whose write with the number `fails_at`, counted from 0, returns an error.
 #[derive(Drop)]
-pub(crate) struct Sink {
+pub(crate) struct DiffSink {
     pub(crate) held: Vec<u8>,
     pub(crate) writes: usize,
     pub(crate) fails_at: Option<usize>,
 }
 
-impl Write for Sink {
+impl Write for DiffSink {
     fn write(&mut self, bytes: &[u8]) -> io::Result<usize> {
         let turn = self.writes;
         self.writes = turn.saturating_add(1);
@@ -102,7 +102,7 @@ impl Write for Sink {
 
 /// What was written, and what was returned.
 #[derive(Drop)]
-struct Outcome {
+struct DiffOutcome {
     held: Vec<u8>,
     writes: usize,
     has_failed: bool,
@@ -115,20 +115,20 @@ fn outcome_of(
     before: &Dialplan,
     after: &Dialplan,
     fails_at: Option<usize>,
-) -> Outcome {
-    let mut writer = Told::new(Sink {
+) -> DiffOutcome {
+    let mut writer = Told::new(DiffSink {
         held: Vec::new(alloc),
         writes: 0,
         fails_at,
     });
     let result = write_differences(alloc, before, after, &mut writer);
     let has_failed = writer.has_failed();
-    let Sink {
+    let DiffSink {
         held,
         writes,
         fails_at: _,
     } = writer.into_inner();
-    Outcome {
+    DiffOutcome {
         held,
         writes,
         has_failed,

@@ -66,9 +66,9 @@ s,1,Answer()\ns,2,Goto( a , s , 1 )→a,s,1
 ";
 
 /// Names after which a call goes on.
-struct GoesOn;
+struct GoingOnNames;
 
-impl OnwardNames for GoesOn {
+impl OnwardNames for GoingOnNames {
     ghost use Rattle.std.specs.Prelude.{◌||◌, codes};
     ghost use Rattle.dp_conf.specs.Words.{same_text};
 
@@ -149,7 +149,7 @@ struct Loops;
 impl Question for Loops {
     fn answer(alloc: Global, asked: &str) -> Result<String, Fail> {
         let plan = plan_of(alloc, asked)?;
-        let list = find_loops::<GoesOn>(alloc, &plan)?;
+        let list = find_loops::<GoingOnNames>(alloc, &plan)?;
         let mut out = String::new(alloc);
         for found in &list {
             let is_first = out.is_empty();

@@ -110,14 +110,14 @@ const PICTURES: &str = r##"
 
 /// A writer that takes at most `most` bytes at once, and whose write with the number `fails_at`, counted from 0, returns an error.
 #[derive(Drop)]
-struct Sink {
+struct GraphSink {
     held: Vec<u8>,
     most: usize,
     writes: usize,
     fails_at: usize,
 }
 
-impl Write for Sink {
+impl Write for GraphSink {
     fn write(&mut self, bytes: &[u8]) -> io::Result<usize> {
         let turn = self.writes;
         self.writes = turn.saturating_add(1);
@@ -136,7 +136,7 @@ impl Write for Sink {
 
 /// What was written, and what was returned.
 #[derive(Drop)]
-struct Outcome {
+struct GraphOutcome {
     held: Vec<u8>,
     has_failed: bool,
     result: Result<(), GraphFault>,
@@ -177,9 +177,9 @@ fn outcome_of(
     shading: Shading<'_>,
     most: usize,
     fails_at: usize,
-) -> Result<Outcome, Fail> {
+) -> Result<GraphOutcome, Fail> {
     let exits = exits_of(alloc)?;
-    let mut writer = Told::new(Sink {
+    let mut writer = Told::new(GraphSink {
         held: Vec::new(alloc),
         most,
         writes: 0,
@@ -187,13 +187,13 @@ fn outcome_of(
     });
     let result = write_graph(alloc, plan, shading, &exits, &mut writer);
     let has_failed = writer.has_failed();
-    let Sink {
+    let GraphSink {
         held,
         most: _,
         writes: _,
         fails_at: _,
     } = writer.into_inner();
-    Ok(Outcome {
+    Ok(GraphOutcome {
         held,
         has_failed,
         result,

@@ -63,9 +63,9 @@ fn fills_of(alloc: Global, lines: &str) -> Result<String, NoMemory> {
 }
 
 /// The fills of a picture, given the entries that tests ran.
-struct Fills;
+struct PictureFills;
 
-impl Question for Fills {
+impl Question for PictureFills {
     fn answer(alloc: Global, asked: &str) -> Result<String, Fail> {
         let Some((list, lines)) = asked.split_once(" | ") else {
             return Err("there is no dialplan".into());
@@ -82,5 +82,5 @@ impl Question for Fills {
 
 #[test]
 fn fills_by_tests(rt: HostRuntime) -> Result<(), Fail> {
-    check::<Fills>(rt.alloc(), FILLS)
+    check::<PictureFills>(rt.alloc(), FILLS)
 }

@@ -1,5 +1,5 @@
 //! Findings and matches of small dialplans as JSON, worked out by hand from the rules.
-use dp_audit::{FallThrough, Loop, Names, Text, audit};
+use dp_audit::{AppNames, FallThrough, Loop, Text, audit};
 use dp_case_tables::{Question, bytes_of, check, check_answer};
 use dp_json::{
     Candidate, Dialplan, EntryId, Finding, NoMemory, Note, NoteKind, Priority, Verdict,
@@ -51,7 +51,7 @@ const NOTES: &str =
 /// All names.
 struct AllNames;
 
-impl Names for AllNames {
+impl AppNames for AllNames {
     ghost use Rattle.std.specs.Prelude.{true};
 
     ghost known = { λ name. true };

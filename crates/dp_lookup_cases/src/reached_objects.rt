@@ -62,7 +62,12 @@ fn given_word(word: Option<&str>) -> Option<&[u8]> {
 }
 
 /// The first entries of the context with a number, and the lines on how a call gets there.
-fn reached(alloc: Global, context: usize, count: usize, way: &str) -> Result<ReachedContext, Fail> {
+fn reached_context(
+    alloc: Global,
+    context: usize,
+    count: usize,
+    way: &str,
+) -> Result<ReachedContext, Fail> {
     let mut entries = Vec::new(alloc);
     for entry in 0..count {
         entries.push(EntryId { context, entry })?;
@@ -81,16 +86,16 @@ fn finding_of(alloc: Global, target: Option<&[u8]>) -> Result<ReachFinding, Fail
         return Ok(ReachFinding::Target(target == b"c".as_slice()));
     }
     let mut contexts = Vec::new(alloc);
-    contexts.push(reached(alloc, 0, 2, "a,{0-9}*  a call comes in")?)?;
-    contexts.push(reached(alloc, 1, 0, "")?)?;
-    contexts.push(reached(alloc, 2, 1, "a,{0-9}*  a call comes in|a,1,1 A(x) -> c,s")?)?;
+    contexts.push(reached_context(alloc, 0, 2, "a,{0-9}*  a call comes in")?)?;
+    contexts.push(reached_context(alloc, 1, 0, "")?)?;
+    contexts.push(reached_context(alloc, 2, 1, "a,{0-9}*  a call comes in|a,1,1 A(x) -> c,s")?)?;
     Ok(ReachFinding::Contexts(contexts))
 }
 
 /// An answer to a question.
-struct Reaches;
+struct ReachedAnswer;
 
-impl Question for Reaches {
+impl Question for ReachedAnswer {
     fn answer(alloc: Global, asked: &str) -> Result<String, Fail> {
         let plan = plan_of(alloc)?;
         let mut words = asked.split('|');
@@ -158,7 +163,7 @@ fn push_tests(alloc: Global, out: &mut Vec<u8>) -> Result<(), Fail> {
 
 #[test]
 fn answers_on_calls_as_objects(rt: HostRuntime) -> Result<(), Fail> {
-    check::<Reaches>(rt.alloc(), REACHES)
+    check::<ReachedAnswer>(rt.alloc(), REACHES)
 }
 
 #[test]

@@ -1,8 +1,8 @@
 //! Which contexts a call reaches in only one of two dialplans, worked out by hand from the rules.
-use crate::differences::{Sink, load, plan_of, push_result};
+use crate::differences::{DiffSink, load, plan_of, push_result};
 use dp_case_tables::{Question, check, check_that, push_bytes};
 use dp_conf::Told;
-use dp_diff::{Dialplan, DiffFault, EntryId, NoMemory, Reach, write_reach_changes};
+use dp_diff::{Dialplan, DiffFault, EntryId, NoMemory, PlanReach, write_reach_changes};
 use std::alloc::Global;
 use std::test::Fail;
 
@@ -66,24 +66,24 @@ fn entries_of(alloc: Global, list: &str) -> Result<Vec<EntryId>, Fail> {
 
 /// A dialplan, and the entries of it that a call may run.
 #[derive(Drop)]
-struct Side {
+struct ReachSide {
     plan: Dialplan,
     entries: Vec<EntryId>,
 }
 
 /// The dialplan and the entries of a text.
-fn side_of(alloc: Global, text: &str) -> Result<Side, Fail> {
+fn side_of(alloc: Global, text: &str) -> Result<ReachSide, Fail> {
     let Some((list, lines)) = text.split_once(" ; ") else {
         return Err("there is no dialplan".into());
     };
     let plan = plan_of(alloc, lines)?;
     let entries = entries_of(alloc, list)?;
-    Ok(Side { plan, entries })
+    Ok(ReachSide { plan, entries })
 }
 
 /// What is reached on one side.
-fn reach_of(side: &Side) -> Reach<'_> {
-    Reach {
+fn reach_of(side: &ReachSide) -> PlanReach<'_> {
+    PlanReach {
         plan: &side.plan,
         entries: &side.entries,
     }
@@ -91,27 +91,32 @@ fn reach_of(side: &Side) -> Reach<'_> {
 
 /// What was written, and what was returned.
 #[derive(Drop)]
-struct Outcome {
+struct ReachOutcome {
     held: Vec<u8>,
     has_failed: bool,
     result: Result<u64, DiffFault>,
 }
 
 /// Writes what is reached in only one of two dialplans to a writer that may fail.
-fn outcome_of(alloc: Global, before: &Side, after: &Side, fails_at: Option<usize>) -> Outcome {
-    let mut writer = Told::new(Sink {
+fn outcome_of(
+    alloc: Global,
+    before: &ReachSide,
+    after: &ReachSide,
+    fails_at: Option<usize>,
+) -> ReachOutcome {
+    let mut writer = Told::new(DiffSink {
         held: Vec::new(alloc),
         writes: 0,
         fails_at,
     });
     let result = write_reach_changes(alloc, reach_of(before), reach_of(after), &mut writer);
     let has_failed = writer.has_failed();
-    let Sink {
+    let DiffSink {
         held,
         writes: _,
         fails_at: _,
     } = writer.into_inner();
-    Outcome {
+    ReachOutcome {
         held,
         has_failed,
         result,
@@ -119,9 +124,9 @@ fn outcome_of(alloc: Global, before: &Side, after: &Side, fails_at: Option<usize
 }
 
 /// What a call reaches in only one of two dialplans.
-struct Reaches;
+struct ReachDifferences;
 
-impl Question for Reaches {
+impl Question for ReachDifferences {
     fn answer(alloc: Global, asked: &str) -> Result<String, Fail> {
         let Some((before, after)) = asked.split_once(" | ") else {
             return Err("there is only one dialplan".into());
@@ -145,7 +150,7 @@ fn push_many(text: &mut String) -> Result<(), NoMemory> {
 }
 
 /// Many contexts, of which each is reached if `every` divides its number.
-fn many(alloc: Global, every: usize) -> Result<Side, Fail> {
+fn many(alloc: Global, every: usize) -> Result<ReachSide, Fail> {
     let mut text = String::new(alloc);
     push_many(&mut text)?;
     let plan = load(alloc, &text)?;
@@ -155,7 +160,7 @@ fn many(alloc: Global, every: usize) -> Result<Side, Fail> {
             entries.push(EntryId { context, entry: 0 })?;
         }
     }
-    Ok(Side { plan, entries })
+    Ok(ReachSide { plan, entries })
 }
 
 /// Every second of many contexts is reached, and after the change every fourth.
@@ -187,7 +192,7 @@ fn check_failure(alloc: Global) -> Result<(), Fail> {
 
 #[test]
 fn contexts_that_one_of_two_dialplans_reaches(rt: HostRuntime) -> Result<(), Fail> {
-    check::<Reaches>(rt.alloc(), CHANGES)
+    check::<ReachDifferences>(rt.alloc(), CHANGES)
 }
 
 #[test]

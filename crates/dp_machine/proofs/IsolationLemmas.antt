@@ -279,8 +279,8 @@ isolated-from meanings number v w (event ∷ events) same unseen = isolated-more
     (λ before e after whole is. unseen (event ∷ before) e after (ap (λ es. event ∷ es) whole) is))
 
 -- from any world
-pub isolated : (meanings : Meanings) (w : World) (events : List Event) (number : ℕ) → IsUnseen meanings number w events → IsIsolated meanings number w w events
-isolated meanings w events number unseen = isolated-from meanings number w w events
+pub isolated-from-start : (meanings : Meanings) (w : World) (events : List Event) (number : ℕ) → IsUnseen meanings number w events → IsIsolated meanings number w w events
+isolated-from-start meanings w events number unseen = isolated-from meanings number w w events
     (record { plan = refl; shared = refl; count = refl; others = λ other apart. refl }) unseen
 
 -- in a list of no events every channel is unseen

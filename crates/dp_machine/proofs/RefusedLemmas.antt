@@ -50,8 +50,8 @@ module _ (plan : PlanOf) (shared : SharedState) (number : ℕ) (c : Channel) whe
   unfound_by true = λ h. not_refused h
   unfound_by false = λ h. not_refused h
 
-  unfound_kept : OwnKept shared c (spec.unfound plan shared c)
-  unfolding spec.unfound
+  unfound_kept : OwnKept shared c (spec.step_without_entry plan shared c)
+  unfolding spec.step_without_entry
   unfound_kept = unfound_by (is_invalid plan c.place)
 
   step_at_kept : (meanings : Meanings) (o : Option Located) → OwnKept shared c (spec.step_at meanings plan shared number c o)
@@ -139,7 +139,7 @@ module _ (plan : PlanOf) (shared : SharedState) (number : ℕ) (c : Channel) whe
   result_kept status (Dialling goes_on has_timer) = λ h. not_refused h
   result_kept status Ended = λ h. (refl, refl)
 
-  assigned_kept : (target : SettingTarget) (value : List ℕ) → OwnKept shared c (spec.assigned target value shared c)
+  assigned_kept : (target : SettingTarget) (value : List ℕ) → OwnKept shared c (spec.assign_value target value shared c)
   assigned_kept (Variable name) value = λ h. not_refused h
   assigned_kept (Global name) value = λ h. not_refused h
   assigned_kept (Local name) value = λ h. not_refused h
@@ -147,7 +147,7 @@ module _ (plan : PlanOf) (shared : SharedState) (number : ℕ) (c : Channel) whe
   assigned_kept Nothing value = λ h. not_refused h
 
   assign_by : (target : SettingTarget) (value : List ℕ) (b : Bool) → OwnKept shared c
-      (if◌then◌else◌ {A = Own} b (spec.refuse refused_ended shared c) (spec.assigned target value shared c))
+      (if◌then◌else◌ {A = Own} b (spec.refuse refused_ended shared c) (spec.assign_value target value shared c))
   assign_by target value true = λ h. (refl, refl)
   assign_by target value false = assigned_kept target value
 
@@ -216,7 +216,7 @@ asked_kept meanings w number asked = row_kept w number (spec.own_row meanings as
 
 -- a refused offer
 offer_by : (w : World) (queues : QueuesOf) (found : Result Rung OfferFault) → ((fault : OfferFault) → found ≡ Err fault → queues ≡ w.shared.queues)
-    → IsKept w (spec.agent_event w (spec.unmet (spec.with_queues w.shared queues) (spec.offer_reply found)))
+    → IsKept w (spec.agent_event w (spec.serve_no_channel (spec.with_queues w.shared queues) (spec.offer_reply found)))
 offer_by w queues (Err fault) same = λ h. ap (λ q. record w { shared = spec.with_queues w.shared q }) (same fault refl)
 offer_by w queues (Ok offered) same = λ h. not_refused h
 
@@ -237,7 +237,7 @@ answer_kept w agent = answer_by w (agent_number w.shared.queues.agents agent) (s
 
 -- a decline by an agent that does not ring
 decline_by : (w : World) (a : ℕ) (s : AgentState)
-    → IsKept w (spec.agent_event w (spec.unmet (spec.with_queues w.shared (decline_row_at w.shared.queues a s).0) (if (decline_row_at w.shared.queues a s).1 then Done else Refused NotRinging)))
+    → IsKept w (spec.agent_event w (spec.serve_no_channel (spec.with_queues w.shared (decline_row_at w.shared.queues a s).0) (if (decline_row_at w.shared.queues a s).1 then Done else Refused NotRinging)))
 decline_by w a Idle = λ h. refl
 decline_by w a (agent_rings queue channel) = λ h. not_refused h
 decline_by w a (agent_talks queue channel) = λ h. refl

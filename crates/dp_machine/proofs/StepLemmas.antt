@@ -1,7 +1,7 @@
 -- What a step over a lawful table preserves of a channel.
 use Rattle.std.proofs.Common.{◌≡◌, ◌≤◌, if◌then◌else◌, codes, ℕ, Bool, true, false, List, length, Option, Some, None, Ok, refl, sym, ap, subst, ◌∙◌}
 use Rattle.dp_plan.specs.Plan.{PlanOf}
-use Rattle.dp_vars.specs.Stores.{Frame, innermost}
+use Rattle.dp_vars.specs.Stores.{StoreFrame, innermost}
 use Rattle.dp_plan.specs.declared.entry.Entry.{Entry}
 use Rattle.dp_plan.specs.declared.entry.EntryId.{EntryId}
 use Rattle.dp_app.specs.Lawful.{ParksNowhere, IsLawful, IsLawfulRow, MayGo, MayPark, MayRun}
@@ -15,7 +15,7 @@ use Rattle.dp_app.specs.declared.phase.Phase.TheVariants.{Ready, Digits, Pause, 
 use Rattle.dp_app.specs.declared.place.Place.{Place}
 use Rattle.dp_app.specs.declared.touch.Touch.{Touch}
 use Rattle.dp_machine.specs.Channels.{back_by, at_place_or_back, hung_up, invalid, is_invalid, at_target, after_move, ready_in, runs_hang_up, after_application, without_frames}
-use Rattle.dp_machine.specs.Events.{Applied, Own, application_outcome, cell_of, is_refused_at_once, after_run, step_at, unfound}
+use Rattle.dp_machine.specs.Events.{Applied, Own, application_outcome, cell_of, is_refused_at_once, after_run, step_at, step_without_entry}
 use Rattle.dp_machine.specs.steps.Follows.{Follows}
 use Rattle.dp_machine.specs.Found.{Located, entry_found}
 use Rattle.dp_machine.specs.GoodWorld.{IsSoundIn, MayAct, queue_in, talk_in}
@@ -50,7 +50,7 @@ landed_sound plan c None = hung_up_sound plan c
 landed_sound plan c (Some place) = tt
 
 -- and one that goes back from a frame
-back_sound : (plan : PlanOf) (c : Channel) (frame : Option (Frame Place)) → IsSoundIn (back_by plan c frame).phase (back_by plan c frame)
+back_sound : (plan : PlanOf) (c : Channel) (frame : Option (StoreFrame Place)) → IsSoundIn (back_by plan c frame).phase (back_by plan c frame)
 back_sound plan c None = hung_up_sound plan c
 back_sound plan c (Some frame) = tt
 
@@ -106,8 +106,8 @@ unfound_taken_by : (invalid : Bool) (after_application other : Own) → is_refus
 unfound_taken_by true after_application other a b = a
 unfound_taken_by false after_application other a b = b
 
-pub unfound_taken : (plan : PlanOf) (shared : SharedState) (c : Channel) → is_refused_at_once (unfound plan shared c).reply ≡ false
-unfolding unfound
+pub unfound_taken : (plan : PlanOf) (shared : SharedState) (c : Channel) → is_refused_at_once (step_without_entry plan shared c).reply ≡ false
+unfolding step_without_entry
 unfound_taken plan shared c =
     unfound_taken_by (is_invalid plan c.place) (record { channel = invalid c; shared = shared; reply = Invalid })
     (record { channel = hung_up plan c; shared = shared; reply = NoEntry }) refl refl

@@ -14,7 +14,7 @@ use Rattle.dp_app.specs.declared.phase.Phase.TheVariants.{Ready, Digits, Pause, 
 use Rattle.dp_app.specs.declared.place.Place.{Place}
 use Rattle.dp_app.specs.declared.touch.Touch.{Touch}
 use Rattle.dp_machine.specs.Channels.{hung_up, invalid, is_invalid, at_target, after_move}
-use Rattle.dp_machine.specs.Events.{Own, application_outcome, cell_of, after_run, step_at, step_in, step_row, unfound}
+use Rattle.dp_machine.specs.Events.{Own, application_outcome, cell_of, after_run, step_at, step_in, step_row, step_without_entry}
 use Rattle.dp_machine.specs.Found.{Located, entry_found}
 use Rattle.dp_machine.specs.GoodWorld.{IsSoundIn, IsSoundOwn, queue_in, talk_in}
 use Rattle.dp_machine.specs.Seen.{arguments_seen}
@@ -61,8 +61,8 @@ after_move-sound plan c count Hang may goes within = hung_up-sound plan c
 
 module _ (plan : PlanOf) (shared : SharedState) (number : ℕ) (c : Channel) (ties : Ties number shared.queues shared.queues c.phase) where
   -- a step that finds no entry
-  unfound-acts : Rests c.phase → Acts number shared.queues (unfound plan shared c)
-  unfolding unfound
+  unfound-acts : Rests c.phase → Acts number shared.queues (step_without_entry plan shared c)
+  unfolding step_without_entry
   unfound-acts rests = by (is_invalid plan c.place)
     where
       by : (b : Bool) → Acts number shared.queues

@@ -11,7 +11,7 @@ use Rattle.dp_app.specs.declared.phase.Phase.{Phase}
 use Rattle.dp_app.specs.declared.phase.Phase.TheVariants.{Ready, Digits, Pause, Queued, Talking, Dialling, Ended as phase_ended}
 use Rattle.dp_app.specs.declared.place.Place.{Place}
 use Rattle.dp_machine.specs.Channels.{after_cancel, after_digit, after_dialling, ends_call, going_on, hung_up, left_queue, ready_at, ready_in, timed_out, after_no_answer, after_wait, with_dial_status}
-use Rattle.dp_machine.specs.Events.{Own, dial_in, dial_result_in, assign_row, assigned, dial_result_row, digit_row, hang_up_in, hang_up_row, is_digit, is_over, poll_in, poll_queue, poll_row, redirect_in, redirect_row, refuse, take_event, timeout_in, timeout_row, way_out_of, without_caller}
+use Rattle.dp_machine.specs.Events.{Own, dial_in, dial_result_in, assign_row, assign_value, dial_result_row, digit_row, hang_up_in, hang_up_row, is_digit, is_over, poll_in, poll_queue, poll_row, redirect_in, redirect_row, refuse, take_event, timeout_in, timeout_row, way_out_of, without_caller}
 use Rattle.dp_machine.specs.Codes.{status_name}
 use Rattle.dp_machine.specs.Found.{could_go_on, is_found}
 use Rattle.dp_machine.specs.GoodWorld.{IsSoundIn, queue_in, talk_in}
@@ -201,7 +201,7 @@ module _ (plan : PlanOf) (shared : SharedState) (number : ℕ) (c : Channel) (go
   hang_up_row-acts = hang_up-acts c.phase refl
 
   -- a value that is set from outside
-  assigned-acts : (target : SettingTarget) (value : List ℕ) → is_over c.phase ≡ false → Acts number shared.queues (assigned target value shared c)
+  assigned-acts : (target : SettingTarget) (value : List ℕ) → is_over c.phase ≡ false → Acts number shared.queues (assign_value target value shared c)
   assigned-acts (Variable name) value alive = record { ties = ties; sound = sound-kept c.phase c (set c.store name value) c.caller alive sound }
   assigned-acts (Global name) value alive = record { ties = ties; sound = sound }
   assigned-acts (Local name) value alive = record { ties = ties; sound = sound-kept c.phase c (set_local c.store name value) c.caller alive sound }
@@ -214,7 +214,7 @@ module _ (plan : PlanOf) (shared : SharedState) (number : ℕ) (c : Channel) (go
   assign_row-acts functions name value = by (is_over c.phase) refl
     where
       by : (b : Bool) → is_over c.phase ≡ b
-          → Acts number shared.queues (if b then refuse Ended shared c else assigned (functions.target name) value shared c)
+          → Acts number shared.queues (if b then refuse Ended shared c else assign_value (functions.target name) value shared c)
       by true over = still (Refused Ended)
       by false alive = assigned-acts (functions.target name) value alive
 

@@ -6,7 +6,7 @@ use Rattle.dp_queue.specs.Joining.{waits_in, with_caller}
 use Rattle.dp_queue.specs.Queues.{QueueOf, QueuesOf}
 use Rattle.dp_queue.proofs.WaitingLemmas.{lines, waits_in-joined, waits_in-same}
 use Rattle.dp_plan.specs.Plan.{PlanOf}
-use Rattle.dp_vars.specs.Stores.{Frame, innermost}
+use Rattle.dp_vars.specs.Stores.{StoreFrame, innermost}
 use Rattle.dp_app.specs.Lawful.{KeepsQueues, MayGo, MayPark, waiting_after, waiting_lists, waiting_parked}
 use Rattle.dp_app.specs.declared.moves.Move.{Move}
 use Rattle.dp_app.specs.declared.moves.Move.TheVariants.{Next, Jump, Enter, Park, Hang}
@@ -50,7 +50,7 @@ at_target-rests plan c None = hung_up-rests plan c
 at_target-rests plan c (Some place) = (refl, refl)
 
 -- nor does one that goes back from a frame
-back-rests : (plan : PlanOf) (c : Channel) (o : Option (Frame Place)) → Rests (back_by plan c o).phase
+back-rests : (plan : PlanOf) (c : Channel) (o : Option (StoreFrame Place)) → Rests (back_by plan c o).phase
 back-rests plan c None = hung_up-rests plan c
 back-rests plan c (Some frame) = (refl, refl)
 

@@ -1,7 +1,7 @@
 -- How one channel changes: where it goes, and how it ends.
 use Rattle.std.specs.Prelude.{ℕ, ◌+◌, Bool, true, false, not, ◌&&◌, List, [], ◌∷◌, Option, Some, None, codes, if◌then◌else◌}
 use Rattle.dp_plan.specs.Plan.{PlanOf}
-use Rattle.dp_vars.specs.Stores.{Frame, innermost, set, without_frame}
+use Rattle.dp_vars.specs.Stores.{StoreFrame, innermost, set, without_frame}
 use Rattle.dp_app.specs.declared.moves.Move.{Move}
 use Rattle.dp_app.specs.declared.moves.Move.TheVariants.{Next, Jump, Enter, Park, Hang}
 use Rattle.dp_app.specs.declared.phase.Phase.{Phase}
@@ -50,7 +50,7 @@ at_target plan c None = hung_up plan c
 at_target plan c (Some place) = ready_at c place
 
 -- the channel back at the place to which its innermost frame returns, without that frame; without a frame it is hung up
-abbrev pub back_by : PlanOf → Channel → Option (Frame Place) → Channel
+abbrev pub back_by : PlanOf → Channel → Option (StoreFrame Place) → Channel
 back_by plan c None = hung_up plan c
 back_by plan c (Some frame) = ready_at (record c { store = without_frame c.store }) frame.back
 
@@ -151,16 +151,16 @@ after_dialling plan c status goes_on =
     else going_on (with_dial_status c (status_name status))
 
 -- how an event of an agent changes a channel
-pub data Change : Type 0 where
+pub data ChannelChange : Type 0 where
   -- it stays as it is
-  Stays : Change
+  Stays : ChannelChange
   -- it talks with the agent with a number, in the queue with a number
-  Talks : ℕ → ℕ → Change
+  Talks : ℕ → ℕ → ChannelChange
   -- its talk ends
-  TalkEnds : Change
+  TalkEnds : ChannelChange
 
 -- the channel after such a change
-abbrev pub after_change : PlanOf → Change → Channel → Channel
+abbrev pub after_change : PlanOf → ChannelChange → Channel → Channel
 after_change plan Stays c = c
 after_change plan (Talks queue agent) c = record c { phase = Talking queue agent (goes_on_after c.phase) }
 after_change plan TalkEnds c = after_talk plan c (goes_on_after c.phase)

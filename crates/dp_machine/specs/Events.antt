@@ -19,7 +19,7 @@ use Rattle.dp_app.specs.Cells.{CellOf}
 use Rattle.dp_app.specs.declared.moves.Move.{Move}
 use Rattle.dp_app.specs.declared.phase.Phase.{Phase}
 use Rattle.dp_app.specs.declared.phase.Phase.TheVariants.{Ready, Digits, Pause, Queued, Talking, Dialling, Ended as phase_ended}
-use Rattle.dp_machine.specs.Channels.{Change, Stays, Talks, TalkEnds, after_cancel, after_change, after_digit, after_dialling, going_on, hung_up, invalid, is_invalid, left_queue, ready_at, timed_out, after_no_answer, after_application, with_value}
+use Rattle.dp_machine.specs.Channels.{ChannelChange, Stays, Talks, TalkEnds, after_cancel, after_change, after_digit, after_dialling, going_on, hung_up, invalid, is_invalid, left_queue, ready_at, timed_out, after_no_answer, after_application, with_value}
 use Rattle.dp_machine.specs.Found.{Located, could_go_on, entry_found, is_found}
 use Rattle.dp_machine.specs.Reloading.{after_reload}
 use Rattle.dp_machine.specs.Seen.{arguments_seen}
@@ -53,7 +53,7 @@ pub record Entered : Type 0 where
 pub record Served : Type 0 where
   pub shared : SharedState
   pub who : ℕ
-  pub change : Change
+  pub change : ChannelChange
   pub reply : Reply
 
 -- how an application changes its channel and what all channels share, and where it sends the channel
@@ -111,14 +111,14 @@ abbrev pub after_run : PlanOf → EntryId → Applied → Own
 after_run plan id after = record { channel = after_application plan after.channel after.going; shared = after.shared; reply = Ran id }
 
 -- a step that finds no entry: it goes to the extension `i` if the extension does not exist, else it hangs up
-unfoldable pub unfound : PlanOf → SharedState → Channel → Own
-unfound plan shared c =
+unfoldable pub step_without_entry : PlanOf → SharedState → Channel → Own
+step_without_entry plan shared c =
     if is_invalid plan c.place then record { channel = invalid c; shared = shared; reply = Invalid }
     else record { channel = hung_up plan c; shared = shared; reply = NoEntry }
 
 -- a step, given the entry at the channel's place: it runs the entry's application with expanded arguments
 abbrev pub step_at : Meanings → PlanOf → SharedState → ℕ → Channel → Option Located → Own
-step_at meanings plan shared number c None = unfound plan shared c
+step_at meanings plan shared number c None = step_without_entry plan shared c
 step_at meanings plan shared number c (Some found) =
     after_run plan found.id (application_outcome c (after_dispatch (meanings.rows found.entry.application) (arguments_seen meanings.functions shared number c found.entry.arguments) (cell_of shared number c)))
 
@@ -259,17 +259,17 @@ unfoldable pub dial_result_row : DialStatus → PlanOf → SharedState → ℕ �
 dial_result_row status plan shared number c = dial_result_in c.phase status plan shared number c
 
 -- a value that is set from outside, given what its name sets
-abbrev pub assigned : SettingTarget → List ℕ → SharedState → Channel → Own
-assigned (Variable name) value shared c = take_event shared (with_value c name value)
-assigned (Global name) value shared c = take_event (with_shared_global shared name value) c
-assigned (Local name) value shared c = take_event shared (record c { store = set_local c.store name value })
-assigned Caller value shared c = take_event shared (record c { caller = value })
-assigned Nothing value shared c = take_event shared c
+abbrev pub assign_value : SettingTarget → List ℕ → SharedState → Channel → Own
+assign_value (Variable name) value shared c = take_event shared (with_value c name value)
+assign_value (Global name) value shared c = take_event (with_shared_global shared name value) c
+assign_value (Local name) value shared c = take_event shared (record c { store = set_local c.store name value })
+assign_value Caller value shared c = take_event shared (record c { caller = value })
+assign_value Nothing value shared c = take_event shared c
 
 -- the event `Assign` with a channel: a channel that is over keeps its values
 unfoldable pub assign_row : FunctionTable → List ℕ → List ℕ → PlanOf → SharedState → ℕ → Channel → Own
 assign_row functions name value plan shared number c =
-    if is_over c.phase then refuse Ended shared c else assigned (functions.target name) value shared c
+    if is_over c.phase then refuse Ended shared c else assign_value (functions.target name) value shared c
 
 -- the event `Redirect`, given the channel's phase: a channel that waits for an agent or a far side, or talks, is refused
 abbrev pub redirect_in : Phase → Place → PlanOf → SharedState → ℕ → Channel → Own
@@ -314,8 +314,8 @@ start_call channels context exten caller =
     else (record { channels = channels; reply = Refused NumbersSpent })
 
 -- an event of an agent that changes no channel, or that is refused
-abbrev pub unmet : SharedState → Reply → Served
-unmet shared reply = record { shared = shared; who = 0; change = Stays; reply = reply }
+abbrev pub serve_no_channel : SharedState → Reply → Served
+serve_no_channel shared reply = record { shared = shared; who = 0; change = Stays; reply = reply }
 
 -- the refusal of an offer
 abbrev pub offer_refusal : OfferFault → Refusal
@@ -331,11 +331,11 @@ offer_reply (Err fault) = Refused (offer_refusal fault)
 -- the event `Offer`
 unfoldable pub serve_offer : SharedState → List ℕ → Served
 serve_offer shared queue =
-    unmet (with_queues shared (offer_row shared.queues queue).0) (offer_reply (offer_row shared.queues queue).1)
+    serve_no_channel (with_queues shared (offer_row shared.queues queue).0) (offer_reply (offer_row shared.queues queue).1)
 
 -- an agent and a channel begin to talk
 abbrev pub begin_talk : SharedState → Option Call → Served
-begin_talk shared None = unmet shared (Refused NotRinging)
+begin_talk shared None = serve_no_channel shared (Refused NotRinging)
 begin_talk shared (Some call) = record { shared = shared; who = call.channel; change = Talks call.queue call.agent; reply = Done }
 
 -- the event `Answer`
@@ -345,11 +345,11 @@ serve_answer shared agent = begin_talk (with_queues shared (answer_row shared.qu
 -- the event `Decline`
 unfoldable pub serve_decline : SharedState → List ℕ → Served
 serve_decline shared agent =
-    unmet (with_queues shared (decline_row shared.queues agent).0) (if (decline_row shared.queues agent).1 then Done else Refused NotRinging)
+    serve_no_channel (with_queues shared (decline_row shared.queues agent).0) (if (decline_row shared.queues agent).1 then Done else Refused NotRinging)
 
 -- an agent and a channel end their talk
 abbrev pub end_talk : SharedState → Option Call → Served
-end_talk shared None = unmet shared (Refused NotTalking)
+end_talk shared None = serve_no_channel shared (Refused NotTalking)
 end_talk shared (Some call) = record { shared = shared; who = call.channel; change = TalkEnds; reply = Done }
 
 -- the event `AgentDone`

@@ -10,10 +10,10 @@ ghost use Rattle.dp_machine.specs.declared.reply.Reply.TheVariants.{Done};
 ghost use Rattle.dp_machine.specs.declared.shared_state.SharedState.{SharedState};
 
 use crate::channel::Channel;
+use crate::channel_numbers::index_of;
 use crate::directory::Directory;
 use crate::ending::hang_up;
 use crate::exchange::Exchange;
-use crate::numbered::index_of;
 use crate::refusal::Refusal;
 use crate::reply::Reply;
 use crate::step::go_on;

@@ -6,9 +6,9 @@ ghost use Rattle.dp_machine.specs.World as worlds;
 ghost use Rattle.dp_machine.specs.declared.channel.Channel.{Channel as AnyChannel};
 
 use crate::channel::Channel;
+use crate::channel_view::expand_arguments;
 use crate::directory::Directory;
 use crate::exchange::Exchange;
-use crate::seen::expand_arguments;
 use dp_app::Phase;
 use dp_plan::{EntryId, NoMemory};
 use dp_vars::Functions;

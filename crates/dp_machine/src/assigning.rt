@@ -12,7 +12,7 @@ use crate::refusal::Refusal;
 use crate::reply::Reply;
 use crate::waiting::is_over;
 use dp_plan::{NoMemory, Text};
-use dp_vars::{Functions, Target};
+use dp_vars::{Functions, SetTarget};
 use std::alloc::Global;
 
 /// Sets the target of a name. If memory runs out nothing changes.
@@ -20,20 +20,20 @@ fn set_target(
     alloc: Global,
     exchange: &mut Exchange,
     channel: &mut Channel,
-    target: Target<'_>,
+    target: SetTarget<'_>,
     value: &[u8],
 ) -> Result<Reply, NoMemory>
-    ensures { Follows (spec.assigned (target_seen target.entry) value.now exchange.old.shared channel.old)
+    ensures { Follows (spec.assign_value (target_seen target.entry) value.now exchange.old.shared channel.old)
         exchange.old exchange.new channel.old channel.new result }
 {
     match target {
-        Target::Variable(name) => channel.store.set(alloc, name, value)?,
-        Target::Global(name) => exchange.shared.globals.put(alloc, name, value)?,
-        Target::Local(name) => {
+        SetTarget::Variable(name) => channel.store.set(alloc, name, value)?,
+        SetTarget::Global(name) => exchange.shared.globals.put(alloc, name, value)?,
+        SetTarget::Local(name) => {
             let _has_frame = channel.store.set_local(alloc, name, value)?;
         }
-        Target::Caller => channel.caller = Text::new(Vec::from_slice(alloc, value)?),
-        Target::Nothing => {}
+        SetTarget::Caller => channel.caller = Text::new(Vec::from_slice(alloc, value)?),
+        SetTarget::Nothing => {}
     }
     Ok(Reply::Done)
 }

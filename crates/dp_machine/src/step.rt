@@ -13,12 +13,12 @@ ghost use Rattle.dp_machine.specs.Seen.{arguments_seen};
 ghost use Rattle.dp_machine.specs.steps.Templates.{IsOf};
 
 use crate::channel::Channel;
+use crate::channel_view::expand_arguments;
 use crate::directory::Directory;
 use crate::ending::{go_to_exten, hang_up};
 use crate::exchange::Exchange;
 use crate::refusal::Refusal;
 use crate::reply::Reply;
-use crate::seen::expand_arguments;
 use crate::shared_state::SharedState;
 use crate::target::{enter, land};
 use crate::templates::{Arguments, PreparedEntry};
@@ -144,13 +144,13 @@ fn go_to_invalid(alloc: Global, channel: &mut Channel) -> Result<(), NoMemory>
 }
 
 /// A step that finds no entry: it goes to the extension `i` if the extension does not exist at all, else it hangs up.
-#[tactic(auto, using(crate::proofs::StepLemmas::hung_up_sound, crate::proofs::StepLemmas::unfound_taken), unfolding(crate::specs::Events::unfound))]
+#[tactic(auto, using(crate::proofs::StepLemmas::hung_up_sound, crate::proofs::StepLemmas::unfound_taken), unfolding(crate::specs::Events::step_without_entry))]
 fn step_unfound(
     alloc: Global,
     exchange: &mut Exchange,
     channel: &mut Channel,
 ) -> Result<Reply, NoMemory>
-    ensures follows { Follows (spec.unfound exchange.old.plan exchange.old.shared channel.old)
+    ensures follows { Follows (spec.step_without_entry exchange.old.plan exchange.old.shared channel.old)
         exchange.old exchange.new channel.old channel.new result }
     ensures sound { OnOk result (IsSoundIn channel.new.phase channel.new) }
 {

@@ -11,8 +11,8 @@ ghost use Rattle.dp_machine.specs.steps.Templates.{IsOf};
 
 use crate::ahead::entry_ahead_of;
 use crate::channel::Channel;
+use crate::channel_view::{expand_arguments, scope_of};
 use crate::exchange::Exchange;
-use crate::seen::{expand_arguments, scope_of};
 use crate::shared_state::SharedState;
 use crate::templates::{Arguments, PreparedEntry};
 use dp_app::{KnownTable, Place};
@@ -79,7 +79,7 @@ fn unknown_asked<T: KnownTable>(
 {
     let arguments = expand_arguments::<T::Functions>(alloc, shared, number, channel, prepared)?;
     let scope = scope_of(shared, number, channel);
-    let asked = T::asked(
+    let asked = T::unknown_need(
         alloc,
         &scope,
         prepared.entry.application.bytes(),

@@ -1,7 +1,9 @@
 //! Applications in a dialplan of two contexts, worked out by hand from the rules.
 use dp_case_tables::{Question, bytes_of, check, check_same};
 use dp_machine::NoMemory;
-use dp_machine_fixture::{Ask, Exchange, answer_on, call, notes_of, push_called, push_stepped};
+use dp_machine_fixture::{
+    AskMachine, StandardMachine, answer_on, call, notes_of, push_called, push_stepped,
+};
 use std::alloc::Global;
 use std::test::Fail;
 
@@ -122,8 +124,8 @@ fn plan_with(alloc: Global, application: &[u8]) -> Result<Vec<u8>, NoMemory> {
 /// The answers of a call to `100` in `main` to two steps.
 struct TwoSteps;
 
-impl Ask for TwoSteps {
-    fn answer(alloc: Global, machine: &mut Exchange, _asked: &str) -> Result<String, Fail> {
+impl AskMachine for TwoSteps {
+    fn answer(alloc: Global, machine: &mut StandardMachine, _asked: &str) -> Result<String, Fail> {
         let mut out = String::new(alloc);
         let call = call(alloc, b"main", b"100", b"")?;
         push_called(&mut out, alloc, machine, call)?;
@@ -144,9 +146,9 @@ fn check_no_notes(alloc: Global, text: &[u8]) -> Result<(), Fail> {
 }
 
 /// The answers of a call to an application to two steps, in a dialplan without notes.
-struct Applied;
+struct AppliedSteps;
 
-impl Question for Applied {
+impl Question for AppliedSteps {
     fn answer(alloc: Global, asked: &str) -> Result<String, Fail> {
         let application = bytes_of(alloc, asked)?;
         let text = plan_with(alloc, &application)?;
@@ -158,5 +160,5 @@ impl Question for Applied {
 /// `Goto` goes to its target and hangs up without one, names are in any case, and an unknown application hangs up.
 #[test]
 fn goto_jumps_and_unknown_applications_hang_up(rt: HostRuntime) -> Result<(), Fail> {
-    check::<Applied>(rt.alloc(), ROWS)
+    check::<AppliedSteps>(rt.alloc(), ROWS)
 }

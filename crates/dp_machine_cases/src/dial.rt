@@ -1,7 +1,7 @@
 //! The effect of `Dial` with its arguments, worked out by hand from the rules.
 use dp_case_tables::{Question, bytes_of, check};
 use dp_machine::{Event, NoMemory, Phase};
-use dp_machine_fixture::{Ask, Exchange, answer_on, call, push_state, push_value};
+use dp_machine_fixture::{AskMachine, StandardMachine, answer_on, call, push_state, push_value};
 use std::alloc::Global;
 use std::test::Fail;
 
@@ -69,7 +69,7 @@ fn plan_of(alloc: Global, arguments: &[u8]) -> Result<Vec<u8>, NoMemory> {
 }
 
 /// How a channel waits for its call to devices, or its state if it does not.
-fn push_wait(out: &mut String, machine: &Exchange, channel: u32) -> Result<(), NoMemory> {
+fn push_wait(out: &mut String, machine: &StandardMachine, channel: u32) -> Result<(), NoMemory> {
     match machine.phase(channel) {
         Some(Phase::Dialling { goes_on, has_timer }) => {
             out.push_str("dialling")?;
@@ -84,7 +84,7 @@ fn push_wait(out: &mut String, machine: &Exchange, channel: u32) -> Result<(), N
 fn push_dialled(
     out: &mut String,
     alloc: Global,
-    machine: &mut Exchange,
+    machine: &mut StandardMachine,
     channel: u32,
 ) -> Result<(), NoMemory> {
     machine.apply(alloc, Event::Step { channel })?;
@@ -94,7 +94,7 @@ fn push_dialled(
 }
 
 /// A call that comes in and takes its first step.
-fn begin(alloc: Global, machine: &mut Exchange, channel: u32) -> Result<(), NoMemory> {
+fn begin(alloc: Global, machine: &mut StandardMachine, channel: u32) -> Result<(), NoMemory> {
     machine.apply(alloc, call(alloc, b"main", b"100", b"")?)?;
     machine.apply(alloc, Event::Step { channel })?;
     Ok(())
@@ -103,8 +103,8 @@ fn begin(alloc: Global, machine: &mut Exchange, channel: u32) -> Result<(), NoMe
 /// The states of two calls, of which the second is hung up first.
 struct TwoCalls;
 
-impl Ask for TwoCalls {
-    fn answer(alloc: Global, machine: &mut Exchange, _asked: &str) -> Result<String, Fail> {
+impl AskMachine for TwoCalls {
+    fn answer(alloc: Global, machine: &mut StandardMachine, _asked: &str) -> Result<String, Fail> {
         let mut out = String::new(alloc);
         begin(alloc, machine, 1)?;
         begin(alloc, machine, 2)?;

@@ -2,7 +2,7 @@
 use dp_case_tables::{check_same, check_that};
 use dp_commands::{ScriptLine, Turn, read_script};
 use dp_machine::{EntryId, Event, NoMemory, Phase, Place, Queues, Refusal, Reply};
-use dp_machine_fixture::{Checked, Exchange, check_on, push_state, state_of};
+use dp_machine_fixture::{Checked, StandardMachine, check_on, push_state, state_of};
 use std::alloc::Global;
 use std::test::Fail;
 
@@ -39,7 +39,7 @@ fn ran_entry(context: usize, entry: usize) -> Reply {
 }
 
 /// A new machine has its dialplan.
-fn check_plan(machine: &Exchange) -> Result<(), Fail> {
+fn check_plan(machine: &StandardMachine) -> Result<(), Fail> {
     check_that(machine.plan().globals().len() == 1, "one global variable")?;
     match machine.plan().contexts() {
         [_, second] => check_that(second.name().bytes() == b"out".as_slice(), "the name"),
@@ -60,7 +60,12 @@ fn is_cloned(place: &Place) -> Result<bool, NoMemory> {
 }
 
 /// Asserts what a channel is, at priority 1 of an extension.
-fn check_place(machine: &Exchange, channel: u32, phase: &Phase, exten: &[u8]) -> Result<(), Fail> {
+fn check_place(
+    machine: &StandardMachine,
+    channel: u32,
+    phase: &Phase,
+    exten: &[u8],
+) -> Result<(), Fail> {
     check_that(machine.phase(channel) == Some(phase), "the phase")?;
     let place = machine.place(channel).ok_or("no place")?;
     let holds = is_first(place, exten) && is_cloned(place)?;
@@ -68,10 +73,10 @@ fn check_place(machine: &Exchange, channel: u32, phase: &Phase, exten: &[u8]) ->
 }
 
 /// A new machine has its dialplan, and a channel that has ended keeps its place.
-struct Read;
+struct ReadMachine;
 
-impl Checked for Read {
-    fn check(alloc: Global, machine: &mut Exchange) -> Result<(), Fail> {
+impl Checked for ReadMachine {
+    fn check(alloc: Global, machine: &mut StandardMachine) -> Result<(), Fail> {
         check_plan(machine)?;
         let script = b"start main s\nstart main x\nstep 2";
         run_of(alloc, machine, script, &mut Vec::new(alloc))?;
@@ -81,7 +86,7 @@ impl Checked for Read {
 }
 
 /// Asserts the states of three channels, each on a line.
-fn check_states(alloc: Global, machine: &Exchange, want: &str) -> Result<(), Fail> {
+fn check_states(alloc: Global, machine: &StandardMachine, want: &str) -> Result<(), Fail> {
     let mut got = String::new(alloc);
     for channel in 1..4 {
         push_state(&mut got, machine, channel)?;
@@ -109,7 +114,7 @@ fn check_replies(replies: &[Reply]) -> Result<(), Fail> {
 
 fn run_of(
     alloc: Global,
-    machine: &mut Exchange,
+    machine: &mut StandardMachine,
     script: &[u8],
     replies: &mut Vec<Reply>,
 ) -> Result<(), Fail> {
@@ -118,7 +123,11 @@ fn run_of(
     Ok(())
 }
 
-fn check_runs(alloc: Global, machine: &mut Exchange, replies: &mut Vec<Reply>) -> Result<(), Fail> {
+fn check_runs(
+    alloc: Global,
+    machine: &mut StandardMachine,
+    replies: &mut Vec<Reply>,
+) -> Result<(), Fail> {
     machine.run(alloc, &[], replies)?;
     check_that(
         replies.len() == 1 && machine.phase(1).is_none(),
@@ -136,21 +145,21 @@ fn check_runs(alloc: Global, machine: &mut Exchange, replies: &mut Vec<Reply>) -
 }
 
 /// The replies come after the existing ones, and the machine is the one after the last event.
-struct Runs;
+struct AppendedReplies;
 
-impl Checked for Runs {
-    fn check(alloc: Global, machine: &mut Exchange) -> Result<(), Fail> {
+impl Checked for AppendedReplies {
+    fn check(alloc: Global, machine: &mut StandardMachine) -> Result<(), Fail> {
         let mut replies = vec![in alloc; Reply::NoEntry]?;
         check_runs(alloc, machine, &mut replies)
     }
 }
 
-fn give(alloc: Global, machine: &mut Exchange, event: &Event) -> Result<Reply, NoMemory> {
+fn give(alloc: Global, machine: &mut StandardMachine, event: &Event) -> Result<Reply, NoMemory> {
     let copy = event.copy()?;
     machine.apply(alloc, copy)
 }
 
-fn check_unchanged(alloc: Global, machine: &Exchange, before: &str) -> Result<(), Fail> {
+fn check_unchanged(alloc: Global, machine: &StandardMachine, before: &str) -> Result<(), Fail> {
     let after = state_of(alloc, machine, 1)?;
     check_same("a refused event", &after, before)
 }
@@ -158,7 +167,7 @@ fn check_unchanged(alloc: Global, machine: &Exchange, before: &str) -> Result<()
 /// Gives an event, and again if memory runs out; then the channel is as before.
 fn give_again(
     alloc: Global,
-    machine: &mut Exchange,
+    machine: &mut StandardMachine,
     event: &Event,
     before: &str,
 ) -> Result<(), Fail> {
@@ -173,7 +182,7 @@ fn give_again(
 fn push_given_again(
     out: &mut String,
     alloc: Global,
-    machine: &mut Exchange,
+    machine: &mut StandardMachine,
     event: &Event,
 ) -> Result<(), Fail> {
     let before = state_of(alloc, machine, 1)?;
@@ -184,10 +193,10 @@ fn push_given_again(
 }
 
 /// If memory runs out, the machine is as before, so the event, given again, has its own reply.
-struct GivenAgain;
+struct EventGivenAgain;
 
-impl Checked for GivenAgain {
-    fn check(alloc: Global, machine: &mut Exchange) -> Result<(), Fail> {
+impl Checked for EventGivenAgain {
+    fn check(alloc: Global, machine: &mut StandardMachine) -> Result<(), Fail> {
         let events = events_of(alloc, b"start main s\nstep 1\nstep 1\nstep 1")?;
         let mut got = String::new(alloc);
         for event in &events {
@@ -201,7 +210,7 @@ impl Checked for GivenAgain {
 /// Gives the events to the machine, and if memory runs out again those without a reply.
 fn run_on(
     alloc: Global,
-    machine: &mut Exchange,
+    machine: &mut StandardMachine,
     events: &[Event],
     replies: &mut Vec<Reply>,
 ) -> Result<(), Fail> {
@@ -214,7 +223,7 @@ fn run_on(
 
 fn check_a_run_goes_on(
     alloc: Global,
-    machine: &mut Exchange,
+    machine: &mut StandardMachine,
     replies: &mut Vec<Reply>,
 ) -> Result<(), Fail> {
     let events = events_of(alloc, b"start main s\nstep 1\nstep 2\nstep 1\nstep 1")?;
@@ -230,10 +239,10 @@ fn check_a_run_goes_on(
 }
 
 /// If memory runs out, the replies say how far a run came, so it goes on from there.
-struct GoesOn;
+struct RunGoesOn;
 
-impl Checked for GoesOn {
-    fn check(alloc: Global, machine: &mut Exchange) -> Result<(), Fail> {
+impl Checked for RunGoesOn {
+    fn check(alloc: Global, machine: &mut StandardMachine) -> Result<(), Fail> {
         let mut replies = Vec::new(alloc);
         check_a_run_goes_on(alloc, machine, &mut replies)
     }
@@ -243,12 +252,12 @@ impl Checked for GoesOn {
 const COUNTED: &[u8] =
     b"[globals]\nN=1\n[main]\nexten => s,1,Set(GLOBAL(N)=${N}1)\nexten => s,2,NoOp()\n";
 
-fn check_global(machine: &Exchange, want: &[u8]) -> Result<(), Fail> {
+fn check_global(machine: &StandardMachine, want: &[u8]) -> Result<(), Fail> {
     check_that(machine.global(b"N") == want, "the global")
 }
 
 /// Puts the machine back, and again if memory runs out; then it is as before.
-fn restart(alloc: Global, machine: &mut Exchange) -> Result<(), Fail> {
+fn restart(alloc: Global, machine: &mut StandardMachine) -> Result<(), Fail> {
     let before = state_of(alloc, machine, 1)?;
     if machine.restart(alloc, Queues::none(alloc)).is_err() {
         check_unchanged(alloc, machine, &before)?;
@@ -263,7 +272,7 @@ fn restart(alloc: Global, machine: &mut Exchange) -> Result<(), Fail> {
 struct PutBack;
 
 impl Checked for PutBack {
-    fn check(alloc: Global, machine: &mut Exchange) -> Result<(), Fail> {
+    fn check(alloc: Global, machine: &mut StandardMachine) -> Result<(), Fail> {
         for _turn in 0..2 {
             run_of(
                 alloc,
@@ -324,8 +333,8 @@ fn events_are_copied_whole(alloc: Global) -> Result<(), Fail> {
 }
 
 fn check_machines(alloc: Global) -> Result<(), Fail> {
-    check_on::<Read>(alloc, PLAN)?;
-    check_on::<Runs>(alloc, PLAN)?;
+    check_on::<ReadMachine>(alloc, PLAN)?;
+    check_on::<AppendedReplies>(alloc, PLAN)?;
     events_are_copied_whole(alloc)
 }
 
@@ -336,8 +345,8 @@ fn machines_run_and_events_are_copied(rt: HostRuntime) -> Result<(), Fail> {
 }
 
 fn check_again(alloc: Global) -> Result<(), Fail> {
-    check_on::<GivenAgain>(alloc, PLAN)?;
-    check_on::<GoesOn>(alloc, PLAN)?;
+    check_on::<EventGivenAgain>(alloc, PLAN)?;
+    check_on::<RunGoesOn>(alloc, PLAN)?;
     check_on::<PutBack>(alloc, COUNTED)
 }
 

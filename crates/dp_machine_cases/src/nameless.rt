@@ -5,7 +5,7 @@ ghost use Rattle.dp_queue.specs.Rest.{IsAtRest};
 
 use dp_case_tables::{Question, bytes_of, check, check_that};
 use dp_machine::{Dialplan, Event, NoMemory, Queues};
-use dp_machine_fixture::{Exchange, call, push_value};
+use dp_machine_fixture::{StandardMachine, call, push_value};
 use dp_queue::{Added, Member, Queue};
 use std::alloc::Global;
 use std::test::Fail;
@@ -44,17 +44,21 @@ fn queues_with_nameless(alloc: Global) -> Result<Queues, Fail>
 }
 
 /// A machine over these queues, with the application at priority 1 of `s` in `main`.
-fn machine_with(alloc: Global, application: &[u8]) -> Result<Exchange, Fail> {
+fn machine_with(alloc: Global, application: &[u8]) -> Result<StandardMachine, Fail> {
     let mut text = Vec::from_slice(alloc, b"[main]\nexten => s,1,")?;
     text.extend_from_slice(application)?;
     let (plan, _) = Dialplan::load(alloc, &text)?;
     let queues = queues_with_nameless(alloc)?;
-    let machine = Exchange::new(alloc, plan, queues)?;
+    let machine = StandardMachine::new(alloc, plan, queues)?;
     Ok(machine)
 }
 
 /// The report of the applications: one of them has run, so one of the variables has a value.
-fn push_reports(out: &mut String, alloc: Global, machine: &Exchange) -> Result<(), NoMemory> {
+fn push_reports(
+    out: &mut String,
+    alloc: Global,
+    machine: &StandardMachine,
+) -> Result<(), NoMemory> {
     for name in ["AQMSTATUS", "RQMSTATUS", "PQMSTATUS", "UPQMSTATUS"] {
         push_value(out, alloc, machine, 1, name)?;
     }
@@ -77,7 +81,11 @@ fn push_members(out: &mut String, queues: &Queues, queue: &Queue) -> Result<(), 
 }
 
 /// The report of a call to the application, and the members of the queue after it.
-fn push_run(out: &mut String, alloc: Global, machine: &mut Exchange) -> Result<(), NoMemory> {
+fn push_run(
+    out: &mut String,
+    alloc: Global,
+    machine: &mut StandardMachine,
+) -> Result<(), NoMemory> {
     let call = call(alloc, b"main", b"s", b"")?;
     let _started = machine.apply(alloc, call)?;
     let _ran = machine.apply(alloc, Event::Step { channel: 1 })?;
@@ -90,9 +98,9 @@ fn push_run(out: &mut String, alloc: Global, machine: &mut Exchange) -> Result<(
 }
 
 /// The members of a queue, one of which has the empty name, after an application.
-struct Members;
+struct NamelessMembers;
 
-impl Question for Members {
+impl Question for NamelessMembers {
     fn answer(alloc: Global, asked: &str) -> Result<String, Fail> {
         let application = bytes_of(alloc, asked)?;
         let mut machine = machine_with(alloc, &application)?;
@@ -105,5 +113,5 @@ impl Question for Members {
 /// No application that pauses members names a member with the empty name.
 #[test]
 fn applications_never_name_a_nameless_member(rt: HostRuntime) -> Result<(), Fail> {
-    check::<Members>(rt.alloc(), ROWS)
+    check::<NamelessMembers>(rt.alloc(), ROWS)
 }

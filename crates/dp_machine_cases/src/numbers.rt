@@ -1,7 +1,7 @@
 //! The numbers of channels, of which there are as many as there may be calls.
 use dp_case_tables::check_that;
 use dp_machine::{EntryId, Event, MOST_CHANNELS, Refusal, Reply};
-use dp_machine_fixture::{Checked, Exchange, call, check_on};
+use dp_machine_fixture::{Checked, StandardMachine, call, check_on};
 use std::alloc::Global;
 use std::test::Fail;
 
@@ -14,7 +14,7 @@ fn check_reply(channel: u32, got: Reply, want: Reply) -> Result<(), Fail> {
 }
 
 /// Asserts the reply to a call.
-fn check_call(alloc: Global, machine: &mut Exchange, want: Reply) -> Result<(), Fail> {
+fn check_call(alloc: Global, machine: &mut StandardMachine, want: Reply) -> Result<(), Fail> {
     let call = call(alloc, b"main", b"s", b"")?;
     let reply = machine.apply(alloc, call)?;
     check_reply(0, reply, want)
@@ -23,7 +23,7 @@ fn check_call(alloc: Global, machine: &mut Exchange, want: Reply) -> Result<(), 
 /// Asserts the reply to a step.
 fn check_step(
     alloc: Global,
-    machine: &mut Exchange,
+    machine: &mut StandardMachine,
     channel: u32,
     want: Reply,
 ) -> Result<(), Fail> {
@@ -47,7 +47,7 @@ const STEPS: [(u32, Reply); 4] = [
 struct Spent;
 
 impl Checked for Spent {
-    fn check(alloc: Global, machine: &mut Exchange) -> Result<(), Fail> {
+    fn check(alloc: Global, machine: &mut StandardMachine) -> Result<(), Fail> {
         check_that(MOST_CHANNELS == 65_535, "the greatest number")?;
         for number in 1..65_536 {
             check_call(alloc, machine, Reply::Started(number))?;

@@ -2,7 +2,7 @@
 use dp_case_tables::{Question, bytes_of, check_all};
 use dp_commands::{ScriptLine, Turn, read_script};
 use dp_machine::NoMemory;
-use dp_machine_fixture::{Ask, Exchange, answer_on, push_given, push_value};
+use dp_machine_fixture::{AskMachine, StandardMachine, answer_on, push_given, push_value};
 use std::alloc::Global;
 use std::str;
 use std::test::Fail;
@@ -111,7 +111,7 @@ const RELOADING: &str = r"
 fn push_shown(
     out: &mut String,
     alloc: Global,
-    machine: &Exchange,
+    machine: &StandardMachine,
     channel: u32,
     name: &str,
 ) -> Result<(), NoMemory> {
@@ -123,7 +123,7 @@ fn push_shown(
 fn push_turn(
     out: &mut String,
     alloc: Global,
-    machine: &mut Exchange,
+    machine: &mut StandardMachine,
     turn: &Turn,
 ) -> Result<(), Fail> {
     if !out.is_empty() {
@@ -142,7 +142,7 @@ fn push_turn(
 fn push_line(
     out: &mut String,
     alloc: Global,
-    machine: &mut Exchange,
+    machine: &mut StandardMachine,
     line: &ScriptLine,
 ) -> Result<(), Fail> {
     for _turn in 0..line.count {
@@ -152,7 +152,11 @@ fn push_line(
 }
 
 /// The answers of a machine to the lines of a script, separated by ` ; `.
-fn answers_of(alloc: Global, machine: &mut Exchange, lines: &[ScriptLine]) -> Result<String, Fail> {
+fn answers_of(
+    alloc: Global,
+    machine: &mut StandardMachine,
+    lines: &[ScriptLine],
+) -> Result<String, Fail> {
     let mut out = String::new(alloc);
     for line in lines {
         push_line(&mut out, alloc, machine, line)?;
@@ -163,7 +167,7 @@ fn answers_of(alloc: Global, machine: &mut Exchange, lines: &[ScriptLine]) -> Re
 /// The answers of a machine to a script whose lines `reload` give this dialplan.
 fn answers_to(
     alloc: Global,
-    machine: &mut Exchange,
+    machine: &mut StandardMachine,
     second: &[u8],
     script: &[u8],
 ) -> Result<String, Fail> {
@@ -174,8 +178,8 @@ fn answers_to(
 /// The answers to a script that is preceded by the dialplan for its lines `reload`.
 struct InScript;
 
-impl Ask for InScript {
-    fn answer(alloc: Global, machine: &mut Exchange, asked: &str) -> Result<String, Fail> {
+impl AskMachine for InScript {
+    fn answer(alloc: Global, machine: &mut StandardMachine, asked: &str) -> Result<String, Fail> {
         let (second, script) = asked.split_once('¦').ok_or("no script")?;
         let second = bytes_of(alloc, second)?;
         let script = bytes_of(alloc, script)?;

@@ -2,7 +2,8 @@
 use dp_case_tables::{bytes_of, check_heading, check_same};
 use dp_machine::NoMemory;
 use dp_machine_fixture::{
-    Ask, Exchange, answer_on, call, notes_of, push_called, push_state, push_stepped, push_value,
+    AskMachine, StandardMachine, answer_on, call, notes_of, push_called, push_state, push_stepped,
+    push_value,
 };
 use std::alloc::Global;
 use std::test::Fail;
@@ -186,7 +187,7 @@ fn number_of(word: &str) -> u32 {
 fn push_call(
     out: &mut String,
     alloc: Global,
-    machine: &mut Exchange,
+    machine: &mut StandardMachine,
     context: &str,
     exten: &str,
 ) -> Result<(), NoMemory> {
@@ -198,7 +199,7 @@ fn push_call(
 fn push_event(
     out: &mut String,
     alloc: Global,
-    machine: &mut Exchange,
+    machine: &mut StandardMachine,
     asked: &str,
 ) -> Result<(), NoMemory> {
     match asked.split_once(':') {
@@ -211,7 +212,7 @@ fn push_event(
 fn push_line(
     out: &mut String,
     alloc: Global,
-    machine: &mut Exchange,
+    machine: &mut StandardMachine,
     asked: &str,
 ) -> Result<(), NoMemory> {
     if let Some(channel) = asked.strip_prefix("state ") {
@@ -227,7 +228,12 @@ fn push_line(
 }
 
 /// Compares the answer of the machine to a line with the expected one.
-fn check_line(alloc: Global, machine: &mut Exchange, asked: &str, want: &str) -> Result<(), Fail> {
+fn check_line(
+    alloc: Global,
+    machine: &mut StandardMachine,
+    asked: &str,
+    want: &str,
+) -> Result<(), Fail> {
     let mut got = String::new(alloc);
     push_line(&mut got, alloc, machine, asked)?;
     check_same(asked, &got, want)
@@ -236,8 +242,8 @@ fn check_line(alloc: Global, machine: &mut Exchange, asked: &str, want: &str) ->
 /// Checks each line of a story, up to the first with another answer.
 struct InStory;
 
-impl Ask for InStory {
-    fn answer(alloc: Global, machine: &mut Exchange, asked: &str) -> Result<String, Fail> {
+impl AskMachine for InStory {
+    fn answer(alloc: Global, machine: &mut StandardMachine, asked: &str) -> Result<String, Fail> {
         for line in asked.lines() {
             match line.split_once('→') {
                 Some((asked, want)) => check_line(alloc, machine, asked, want)?,

@@ -1,7 +1,7 @@
 //! Dialplans with variables, worked out by hand from the rules.
 use dp_case_tables::{Question, check, push_bytes};
 use dp_machine::{Event, NoMemory};
-use dp_machine_fixture::{Ask, Exchange, answer_on, call, push_value, state_of};
+use dp_machine_fixture::{AskMachine, StandardMachine, answer_on, call, push_value, state_of};
 use std::alloc::Global;
 use std::test::Fail;
 
@@ -18,7 +18,7 @@ fn plan_of(alloc: Global, globals: &str, arguments: &str) -> Result<String, NoMe
 }
 
 /// The answer of a machine with such a dialplan.
-fn answer_with<A: Ask>(
+fn answer_with<A: AskMachine>(
     alloc: Global,
     globals: &str,
     arguments: &str,
@@ -29,28 +29,28 @@ fn answer_with<A: Ask>(
 }
 
 /// A call of `5551234` to `main`, `100`.
-fn call_in(alloc: Global, machine: &mut Exchange) -> Result<(), NoMemory> {
+fn call_in(alloc: Global, machine: &mut StandardMachine) -> Result<(), NoMemory> {
     machine.apply(alloc, call(alloc, b"main", b"100", b"5551234")?)?;
     Ok(())
 }
 
 /// Such a call, then a step of it.
-fn call_and_step(alloc: Global, machine: &mut Exchange) -> Result<(), NoMemory> {
+fn call_and_step(alloc: Global, machine: &mut StandardMachine) -> Result<(), NoMemory> {
     call_in(alloc, machine)?;
     machine.apply(alloc, Event::Step { channel: 1 })?;
     Ok(())
 }
 
 /// The text before the last ` ; `, and the text after it.
-fn cut(asked: &str) -> (&str, &str) {
+fn cut_last(asked: &str) -> (&str, &str) {
     asked.rsplit_once(" ; ").unwrap_or(("", asked))
 }
 
 /// The value of a name in a channel after a call: `CHANNEL NAME`.
 struct ValueOf;
 
-impl Ask for ValueOf {
-    fn answer(alloc: Global, machine: &mut Exchange, asked: &str) -> Result<String, Fail> {
+impl AskMachine for ValueOf {
+    fn answer(alloc: Global, machine: &mut StandardMachine, asked: &str) -> Result<String, Fail> {
         let (channel, name) = asked.split_once(' ').ok_or("no name")?;
         let channel: u32 = channel.parse().ok().ok_or("no number")?;
         call_in(alloc, machine)?;
@@ -65,7 +65,7 @@ struct Valued;
 
 impl Question for Valued {
     fn answer(alloc: Global, asked: &str) -> Result<String, Fail> {
-        let (globals, wanted) = cut(asked);
+        let (globals, wanted) = cut_last(asked);
         answer_with::<ValueOf>(alloc, globals, "", wanted)
     }
 }
@@ -119,8 +119,8 @@ N=1 ; 4294967295 CHANNEL→
 /// The extension of a call after its first step, without the `<` and `>` around it.
 struct GoneTo;
 
-impl Ask for GoneTo {
-    fn answer(alloc: Global, machine: &mut Exchange, _asked: &str) -> Result<String, Fail> {
+impl AskMachine for GoneTo {
+    fn answer(alloc: Global, machine: &mut StandardMachine, _asked: &str) -> Result<String, Fail> {
         call_and_step(alloc, machine)?;
         let place = machine.place(1).ok_or("no channel")?;
         let bytes = place.exten.bytes();
@@ -139,11 +139,11 @@ fn goto_target(alloc: Global, globals: &str, text: &str) -> Result<String, Fail>
 }
 
 /// The expansion of arguments, after globals: `NAME=VALUE ; .. ; ARGUMENTS`.
-struct Arguments;
+struct ExpandedArguments;
 
-impl Question for Arguments {
+impl Question for ExpandedArguments {
     fn answer(alloc: Global, asked: &str) -> Result<String, Fail> {
-        let (globals, text) = cut(asked);
+        let (globals, text) = cut_last(asked);
         goto_target(alloc, globals, text)
     }
 }
@@ -217,8 +217,8 @@ N=3 ; $[${N} + ${LEN(${N})}]→4
 /// The state of a call after its first step.
 struct StateAfter;
 
-impl Ask for StateAfter {
-    fn answer(alloc: Global, machine: &mut Exchange, _asked: &str) -> Result<String, Fail> {
+impl AskMachine for StateAfter {
+    fn answer(alloc: Global, machine: &mut StandardMachine, _asked: &str) -> Result<String, Fail> {
         call_and_step(alloc, machine)?;
         Ok(state_of(alloc, machine, 1)?)
     }
@@ -229,7 +229,7 @@ struct Went;
 
 impl Question for Went {
     fn answer(alloc: Global, asked: &str) -> Result<String, Fail> {
-        let (globals, arguments) = cut(asked);
+        let (globals, arguments) = cut_last(asked);
         answer_with::<StateAfter>(alloc, globals, arguments, "")
     }
 }
@@ -268,9 +268,9 @@ fn repeat_piece(alloc: Global, openings: usize, ends: usize) -> Result<String, N
 }
 
 /// The sizes of this number of openings and ends as arguments, and as a global: `OPENINGS ENDS`.
-struct Nested;
+struct NestedSizes;
 
-impl Question for Nested {
+impl Question for NestedSizes {
     fn answer(alloc: Global, asked: &str) -> Result<String, Fail> {
         let (openings, ends) = asked.split_once(' ').ok_or("no question")?;
         let openings: usize = openings.parse().ok().ok_or("no number")?;
@@ -306,9 +306,9 @@ const NESTING: &str = r"
 
 fn check_variables(alloc: Global) -> Result<(), Fail> {
     check::<Valued>(alloc, VALUES)?;
-    check::<Arguments>(alloc, ARGUMENTS)?;
+    check::<ExpandedArguments>(alloc, ARGUMENTS)?;
     check::<Went>(alloc, TARGETS)?;
-    check::<Nested>(alloc, NESTING)
+    check::<NestedSizes>(alloc, NESTING)
 }
 
 /// The values of names, the expansion of arguments, the place of a `Goto` with them, and the limit of nesting.

@@ -16,29 +16,29 @@ use std::alloc::Global;
 use std::test::Fail;
 
 /// A machine with the applications of the program.
-pub type Exchange = Machine<StandardApps>;
+pub type StandardMachine = Machine<StandardApps>;
 
 /// A question to a machine.
-pub trait Ask {
+pub trait AskMachine {
     /// The answer of a machine to a question, as text.
-    fn answer(alloc: Global, machine: &mut Exchange, asked: &str) -> Result<String, Fail>;
+    fn answer(alloc: Global, machine: &mut StandardMachine, asked: &str) -> Result<String, Fail>;
 }
 
 /// A check of a machine.
 pub trait Checked {
     /// Whether the machine does what it should.
-    fn check(alloc: Global, machine: &mut Exchange) -> Result<(), Fail>;
+    fn check(alloc: Global, machine: &mut StandardMachine) -> Result<(), Fail>;
 }
 
 /// A machine with the dialplan of a text, without queues.
-fn machine_of(alloc: Global, text: &[u8]) -> Result<Exchange, Fail> {
+fn machine_of(alloc: Global, text: &[u8]) -> Result<StandardMachine, Fail> {
     let (plan, _) = Dialplan::load(alloc, text)?;
-    let machine = Exchange::new(alloc, plan, Queues::none(alloc))?;
+    let machine = StandardMachine::new(alloc, plan, Queues::none(alloc))?;
     Ok(machine)
 }
 
 /// The answer of a new machine with the dialplan of a text.
-pub fn answer_on<A: Ask>(alloc: Global, text: &[u8], asked: &str) -> Result<String, Fail> {
+pub fn answer_on<A: AskMachine>(alloc: Global, text: &[u8], asked: &str) -> Result<String, Fail> {
     let mut machine = machine_of(alloc, text)?;
     A::answer(alloc, &mut machine, asked)
 }
@@ -124,7 +124,11 @@ fn word_of(phase: &Phase) -> &'static str {
 }
 
 /// A channel as the word of its phase with its place, `ready CONTEXT,EXTEN,PRIORITY`, or `none`.
-pub fn push_state(out: &mut String, machine: &Exchange, channel: u32) -> Result<(), NoMemory> {
+pub fn push_state(
+    out: &mut String,
+    machine: &StandardMachine,
+    channel: u32,
+) -> Result<(), NoMemory> {
     match (machine.phase(channel), machine.place(channel)) {
         (None, None) => out.push_str("none"),
         (Some(phase), Some(place)) => write!(
@@ -140,7 +144,11 @@ pub fn push_state(out: &mut String, machine: &Exchange, channel: u32) -> Result<
 }
 
 /// The state of a channel.
-pub fn state_of(alloc: Global, machine: &Exchange, channel: u32) -> Result<String, NoMemory> {
+pub fn state_of(
+    alloc: Global,
+    machine: &StandardMachine,
+    channel: u32,
+) -> Result<String, NoMemory> {
     let mut out = String::new(alloc);
     push_state(&mut out, machine, channel)?;
     Ok(out)
@@ -150,7 +158,7 @@ pub fn state_of(alloc: Global, machine: &Exchange, channel: u32) -> Result<Strin
 fn push_answer(
     out: &mut String,
     alloc: Global,
-    machine: &Exchange,
+    machine: &StandardMachine,
     reply: Reply,
     channel: u32,
 ) -> Result<(), NoMemory> {
@@ -171,7 +179,7 @@ fn channel_started(reply: Reply) -> u32 {
 pub fn push_called(
     out: &mut String,
     alloc: Global,
-    machine: &mut Exchange,
+    machine: &mut StandardMachine,
     call: Event,
 ) -> Result<(), NoMemory> {
     let reply = machine.apply(alloc, call)?;
@@ -182,7 +190,7 @@ pub fn push_called(
 pub fn push_stepped(
     out: &mut String,
     alloc: Global,
-    machine: &mut Exchange,
+    machine: &mut StandardMachine,
     channel: u32,
 ) -> Result<(), NoMemory> {
     let reply = machine.apply(alloc, Event::Step { channel })?;
@@ -202,7 +210,7 @@ fn about(reply: Reply, named: u32) -> Option<u32> {
 pub fn push_given(
     out: &mut String,
     alloc: Global,
-    machine: &mut Exchange,
+    machine: &mut StandardMachine,
     event: &Event,
 ) -> Result<(), NoMemory> {
     let reply = machine.apply_kept(alloc, event)?;
@@ -216,7 +224,7 @@ pub fn push_given(
 pub fn push_value(
     out: &mut String,
     alloc: Global,
-    machine: &Exchange,
+    machine: &StandardMachine,
     channel: u32,
     name: &str,
 ) -> Result<(), NoMemory> {

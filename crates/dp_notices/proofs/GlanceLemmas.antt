@@ -69,15 +69,15 @@ item_within within b bs false true opens = refl
 item_within within b bs false false opens = pair_within within (cut_once 61 (b ∷ bs))
 
 -- a content without a `$` that is not a header has no name with a group
-ungrouped : (within : Bool) (content : List ℕ) → begins_with 91 content ≡ false → list_any (λ b. eqb b 36) content ≡ false
+no_group_in_name : (within : Bool) (content : List ℕ) → begins_with 91 content ≡ false → list_any (λ b. eqb b 36) content ≡ false
     → has_grouped within (items_of (item_of true 0 content)) ≡ false
-ungrouped within [] begins none = refl
-ungrouped within (b ∷ bs) begins none = item_ungrouped within b bs (eqb b 91) (eqb b 35) begins (none-any (λ x. eqb x 36) (b ∷ bs) none)
+no_group_in_name within [] begins none = refl
+no_group_in_name within (b ∷ bs) begins none = item_ungrouped within b bs (eqb b 91) (eqb b 35) begins (none-any (λ x. eqb x 36) (b ∷ bs) none)
 
 -- and the lines after one that is not a header belong to a context if the line does
-unheaded : (within : Bool) (content : List ℕ) → begins_with 91 content ≡ false → within_after within (items_of (item_of true 0 content)) ≡ within
-unheaded within [] begins = refl
-unheaded within (b ∷ bs) begins = item_within within b bs (eqb b 91) (eqb b 35) begins
+no_header_changes_nothing : (within : Bool) (content : List ℕ) → begins_with 91 content ≡ false → within_after within (items_of (item_of true 0 content)) ≡ within
+no_header_changes_nothing within [] begins = refl
+no_header_changes_nothing within (b ∷ bs) begins = item_within within b bs (eqb b 91) (eqb b 35) begins
 
 -- a content that is passed is not a header, and has no `$`
 both_false : (a b : Bool) → (not a && not b) ≡ true → (a ≡ false) × (b ≡ false)
@@ -90,10 +90,10 @@ pub passed_ungrouped : (within passed : Bool) (content : List ℕ) → passed �
     → false ≡ has_grouped within (items_of (item_of true 0 content))
 passed_ungrouped within passed content is true_now =
     let both = both_false (begins_with 91 content) (list_any (λ b. eqb b 36) content) (sym is ∙ true_now) in
-    sym (ungrouped within content both.0 both.1)
+    sym (no_group_in_name within content both.0 both.1)
 
 -- and the lines after it belong to a context if it does
 pub passed_within : (within passed : Bool) (content : List ℕ) → passed ≡ (not (begins_with 91 content) && not (list_any (λ b. eqb b 36) content)) → passed ≡ true
     → within ≡ within_after within (items_of (item_of true 0 content))
 passed_within within passed content is true_now =
-    sym (unheaded within content (both_false (begins_with 91 content) (list_any (λ b. eqb b 36) content) (sym is ∙ true_now)).0)
+    sym (no_header_changes_nothing within content (both_false (begins_with 91 content) (list_any (λ b. eqb b 36) content) (sym is ∙ true_now)).0)

@@ -14,9 +14,9 @@ use Rattle.dp_plan.specs.declared.fault.LoadFault.{LoadFault}
 use Rattle.dp_plan.specs.declared.note.Note.{Note}
 
 -- a text that loads is not refused
-refused : (text : List ℕ) (loading : LoadingOf) (fault : LoadFault) → Some loading ≡ loading_in (plan_and_notes text)
+loads_or_refused : (text : List ℕ) (loading : LoadingOf) (fault : LoadFault) → Some loading ≡ loading_in (plan_and_notes text)
     → plan_and_notes text ≡ Err fault → {P : Type 0} → P
-refused text loading fault loads refuses = absurd (none-some loading (sym (loads ∙ ap loading_in refuses)))
+loads_or_refused text loading fault loads refuses = absurd (none-some loading (sym (loads ∙ ap loading_in refuses)))
 
 -- so it has no notices of faults
 no_faults : (text : List ℕ) (loading : LoadingOf)
@@ -25,8 +25,8 @@ no_faults : (text : List ℕ) (loading : LoadingOf)
     → Some loading ≡ loading_in (plan_and_notes text)
     → (found : Result (List LoadFault) LoadFault) → faults_of text ≡ found → notices_of found ≡ []
 no_faults text loading first whole loads (Ok []) is = refl
-no_faults text loading first whole loads (Ok (fault ∷ faults)) is = refused text loading fault loads (first text fault faults is)
-no_faults text loading first whole loads (Err fault) is = refused text loading fault loads (whole text fault is)
+no_faults text loading first whole loads (Ok (fault ∷ faults)) is = loads_or_refused text loading fault loads (first text fault faults is)
+no_faults text loading first whole loads (Err fault) is = loads_or_refused text loading fault loads (whole text fault is)
 
 -- if the text of lines loads, they are loaded as they are
 pub faultless : (lines : List MadeLine) (loading : LoadingOf)

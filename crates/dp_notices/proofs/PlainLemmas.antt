@@ -14,8 +14,8 @@ use Rattle.dp_notices.specs.Loading.{faults_in_text}
 use Rattle.dp_notices.specs.MacroEnds.{ends_at, ends_by, ends_in, ends_of, ends_of_context, faultless, is_macro, made_ends, with_ends, with_header}
 use Rattle.dp_notices.specs.Preparation.{has_macro, has_macros, has_times, loads_macro}
 use Rattle.dp_notices.specs.TimedIncludes.{is_timed, line_at, with_times, with_times_of}
-use Rattle.dp_notices.specs.declared.group_names.Naming.{Naming}
-use Rattle.dp_notices.specs.declared.group_names.Naming.TheVariants.{Stands}
+use Rattle.dp_notices.specs.declared.group_names.GroupNaming.{GroupNaming}
+use Rattle.dp_notices.specs.declared.group_names.GroupNaming.TheVariants.{Stands}
 use Rattle.dp_notices.specs.declared.loading.NumberedNotice.{NumberedNotice}
 use Rattle.dp_notices.specs.declared.macro_ends.AddedLine.{AddedLine}
 use Rattle.dp_plan.specs.Contexts.{PlanContext}
@@ -42,7 +42,7 @@ rest_of false b none = none
 -- ---- names with groups
 
 -- a pair stands if it is not a line `same` and its name has no group
-stands_without : (naming : Naming) (same is : Bool) → is ≡ false → (if same then naming_of_same None else (if is then naming else Stands)) ≡ Stands
+stands_without : (naming : GroupNaming) (same is : Bool) → is ≡ false → (if same then naming_of_same None else (if is then naming else Stands)) ≡ Stands
 stands_without naming true is none = refl
 stands_without naming false true none = impossible none
 stands_without naming false false none = refl
@@ -60,13 +60,13 @@ kept_by : (is : Bool) → (if is then notice_in Stands else None) ≡ None
 kept_by true = refl
 kept_by false = refl
 
-kept : (items : List LineOf) → extension_after None Stands items ≡ None
-kept [] = refl
-kept (Header line name ∷ items) = refl
-kept (Pair line key value ∷ items) = kept_by (same_word key (codes "exten"))
+no_extension_after : (items : List LineOf) → extension_after None Stands items ≡ None
+no_extension_after [] = refl
+no_extension_after (Header line name ∷ items) = refl
+no_extension_after (Pair line key value ∷ items) = kept_by (same_word key (codes "exten"))
 
-kept_after : (naming : Naming) (items : List LineOf) → naming ≡ Stands → extension_after None naming items ≡ None
-kept_after naming items is = ap (λ (n : Naming). extension_after None n items) is ∙ kept items
+kept_after : (naming : GroupNaming) (items : List LineOf) → naming ≡ Stands → extension_after None naming items ≡ None
+kept_after naming items is = ap (λ (n : GroupNaming). extension_after None n items) is ∙ no_extension_after items
 
 -- if no name has a group, the lines stay as they are
 lines_stand : (globals : Option Named) (within : Bool) (lines : List MadeLine) → any_grouped within lines ≡ false → lines_after globals within None lines ≡ lines
@@ -110,15 +110,15 @@ untimed_after moment fault faults lines rest true none = impossible none
 untimed_after moment fault faults lines rest false none = rest none
 
 -- if no fault is about one, nothing changes
-untimed : (moment : Moment) (faults : List NumberedNotice) (lines : List MadeLine) → NoneTimed faults → with_times_of moment faults lines ≡ lines
-untimed moment [] lines none = refl
-untimed moment (fault ∷ faults) lines none = untimed_after moment fault faults lines (untimed moment faults lines) (is_timed fault.notice) none
+no_times_change_nothing : (moment : Moment) (faults : List NumberedNotice) (lines : List MadeLine) → NoneTimed faults → with_times_of moment faults lines ≡ lines
+no_times_change_nothing moment [] lines none = refl
+no_times_change_nothing moment (fault ∷ faults) lines none = untimed_after moment fault faults lines (no_times_change_nothing moment faults lines) (is_timed fault.notice) none
 
 -- if no include has times, the lines stay as they are at any moment
 pub times_stand : (clock : Option Moment) (lines : List MadeLine) → has_times lines ≡ false → with_times clock lines ≡ lines
 unfolding with_times
 times_stand None lines none = refl
-times_stand (Some moment) lines none = untimed moment (faults_in_text (text_of lines)) lines none
+times_stand (Some moment) lines none = no_times_change_nothing moment (faults_in_text (text_of lines)) lines none
 
 -- without a moment, all lines stay as they are
 pub no_clock : (lines : List MadeLine) → with_times None lines ≡ lines

@@ -12,13 +12,13 @@ use Rattle.dp_conf.specs.Words.{same_word}
 use Rattle.dp_conf.specs.declared.fault.LineKind.{LineKind}
 use Rattle.dp_files.specs.ContextHistory.{has_group, has_slash}
 use Rattle.dp_files.specs.DialplanText.{text_of}
-use Rattle.dp_files.specs.declared.remark.Note.TheVariants.{CallerId}
+use Rattle.dp_files.specs.declared.remark.LineNote.TheVariants.{CallerId}
 use Rattle.dp_files.specs.declared.source_line.MadeLine.{MadeLine}
 use Rattle.dp_machine.specs.Seen.{global_value, no_queues, sight_of_globals}
 use Rattle.dp_notices.specs.Loading.{without_text}
 use Rattle.dp_notices.specs.MacroEnds.{faultless}
-use Rattle.dp_notices.specs.declared.group_names.Naming.{Naming}
-use Rattle.dp_notices.specs.declared.group_names.Naming.TheVariants.{Stands, Renamed, LeftOut as left_out}
+use Rattle.dp_notices.specs.declared.group_names.GroupNaming.{GroupNaming}
+use Rattle.dp_notices.specs.declared.group_names.GroupNaming.TheVariants.{Stands, Renamed, LeftOut as left_out}
 use Rattle.dp_notices.specs.declared.line_notices.NoticeAt.{NoticeAt}
 use Rattle.dp_notices.specs.declared.notice.Notice.{Notice}
 use Rattle.dp_notices.specs.declared.notice.Notice.TheVariants.{Read, Fault as fault_notice}
@@ -120,50 +120,50 @@ name_notice key name =
     else None
 
 -- what a pair becomes, given the line with its expanded name, and the notice of a line that is left out
-abbrev pub naming_unless : Option Notice → List ℕ → Naming
+abbrev pub naming_unless : Option Notice → List ℕ → GroupNaming
 naming_unless None text = Renamed text
 naming_unless (Some notice) text = left_out notice
 
 -- what a pair becomes, given its key, its expanded name and what follows the name
-abbrev pub naming_with : List ℕ → List ℕ → List ℕ → Naming
+abbrev pub naming_with : List ℕ → List ℕ → List ℕ → GroupNaming
 naming_with key name after = naming_unless (name_notice key name) (named_text key name after)
 
 -- the same, if the name is known
-abbrev pub naming_by : List ℕ → Option (List ℕ) → List ℕ → Naming
+abbrev pub naming_by : List ℕ → Option (List ℕ) → List ℕ → GroupNaming
 naming_by key None after = left_out unknown_name
 naming_by key (Some name) after = naming_with key name after
 
 -- what a pair of a context becomes, given its value cut at the first comma
-abbrev pub naming_of_cut : Option Named → List ℕ → List ℕ → Option (List ℕ × List ℕ) → Naming
+abbrev pub naming_of_cut : Option Named → List ℕ → List ℕ → Option (List ℕ × List ℕ) → GroupNaming
 naming_of_cut globals key value cut = naming_by key (known_name globals (name_in value cut)) (after_name cut)
 
 -- what a line `same` becomes, given the notice with which its extension is left out, if it is
-abbrev pub naming_of_same : Option Notice → Naming
+abbrev pub naming_of_same : Option Notice → GroupNaming
 naming_of_same None = Stands
 naming_of_same (Some notice) = left_out notice
 
 -- what a pair of a context becomes, given that notice for the last extension before it; only a name with a group is changed
-abbrev pub naming_of_pair : Option Named → Option Notice → List ℕ → List ℕ → Naming
+abbrev pub naming_of_pair : Option Named → Option Notice → List ℕ → List ℕ → GroupNaming
 naming_of_pair globals extension key value =
     if same_word key (codes "same") then naming_of_same extension
     else if is_grouped key value then naming_of_cut globals key value (cut_once (byte ",") value)
     else Stands
 
 -- what the line of an item becomes, given whether it belongs to a context, and the notice for the last extension before it
-abbrev pub naming_of : Option Named → Bool → Option Notice → List LineOf → Naming
+abbrev pub naming_of : Option Named → Bool → Option Notice → List LineOf → GroupNaming
 naming_of globals within extension [] = Stands
 naming_of globals within extension (Header line name ∷ items) = Stands
 naming_of globals within extension (Pair line key value ∷ items) =
     if within then naming_of_pair globals extension key value else Stands
 
 -- the notice of a line that is left out
-abbrev pub notice_in : Naming → Option Notice
+abbrev pub notice_in : GroupNaming → Option Notice
 notice_in Stands = None
 notice_in (Renamed text) = None
 notice_in (left_out notice) = Some notice
 
 -- the notice for the last extension before the lines after an item, given the one before it and what its line becomes
-abbrev pub extension_after : Option Notice → Naming → List LineOf → Option Notice
+abbrev pub extension_after : Option Notice → GroupNaming → List LineOf → Option Notice
 extension_after extension naming [] = extension
 extension_after extension naming (Header line name ∷ items) = None
 extension_after extension naming (Pair line key value ∷ items) =
@@ -172,13 +172,13 @@ extension_after extension naming (Pair line key value ∷ items) =
 -- ---- the lines of a text
 
 -- a line after this
-abbrev pub line_by : Naming → MadeLine → MadeLine
+abbrev pub line_by : GroupNaming → MadeLine → MadeLine
 line_by Stands line = line
 line_by (Renamed text) line = record { source = line.source; text = text }
 line_by (left_out notice) line = without_text line
 
 -- the notice on it
-abbrev pub notice_by : Naming → ℕ → List NoticeAt
+abbrev pub notice_by : GroupNaming → ℕ → List NoticeAt
 notice_by Stands source = []
 notice_by (Renamed text) source = []
 notice_by (left_out notice) source = record { source = source; notice = notice } ∷ []

@@ -33,12 +33,12 @@ abbrev pub without_notices : SourceLine → NotedLine
 without_notices line = record { line = line; notices = [] }
 
 -- a line with one more notice
-abbrev pub noted : Notice → NotedLine → NotedLine
-noted notice line = record { line = line.line; notices = with_notice notice line.notices }
+abbrev pub line_with_notice : Notice → NotedLine → NotedLine
+line_with_notice notice line = record { line = line.line; notices = with_notice notice line.notices }
 
 -- a notice goes to its line
 abbrev pub after_notice : List NotedLine → NoticeAt → List NotedLine
-after_notice lines notice = changed_at (noted notice.notice) notice.source lines
+after_notice lines notice = changed_at (line_with_notice notice.notice) notice.source lines
 
 -- notices go to their lines, one after another
 abbrev pub after_notices : List NotedLine → List NoticeAt → List NotedLine

@@ -30,8 +30,8 @@ use Rattle.dp_plan.specs.declared.fault.Word.TheVariants.{IncludeTimes}
 use Rattle.dp_plan.specs.declared.note.Note.{Note}
 
 -- a notice on the line of the text with a number
-abbrev pub numbered : ℕ → Notice → NumberedNotice
-numbered line notice = record { line = line; notice = notice }
+abbrev pub notice_on_line : ℕ → Notice → NumberedNotice
+notice_on_line line notice = record { line = line; notice = notice }
 
 -- the fault of a line that is left out; for an include with times, it is that no moment is given
 abbrev pub left_out_fault : Word → NoticeFault
@@ -51,7 +51,7 @@ line_fault (load_plan kind) = loader_fault kind
 
 -- the notice of a fault, if the fault is at a line
 abbrev pub fault_notice : LoadFault → Option NumberedNotice
-fault_notice (load_line line kind) = Some (numbered line (fault_kind (line_fault kind)))
+fault_notice (load_line line kind) = Some (notice_on_line line (fault_kind (line_fault kind)))
 fault_notice NoMemory = None
 
 -- the same as a list
@@ -78,7 +78,7 @@ notice_at_source lines notice = at_source notice.notice (slice_get lines (notice
 
 -- the same for a note of the loader
 abbrev pub note_at_source : List MadeLine → Note → List NoticeAt
-note_at_source lines note = notice_at_source lines (numbered note.line (Loaded note.kind))
+note_at_source lines note = notice_at_source lines (notice_on_line note.line (Loaded note.kind))
 
 -- a line without its text
 abbrev pub without_text : MadeLine → MadeLine

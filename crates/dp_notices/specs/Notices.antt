@@ -4,8 +4,8 @@ use Rattle.dp_conf.specs.Codes.{line_code, line_name}
 use Rattle.dp_conf.specs.declared.fault.LineKind.{LineKind}
 use Rattle.dp_files.specs.declared.remark.Fault.{Fault}
 use Rattle.dp_files.specs.declared.remark.Fault.TheVariants.{IncludeDepth, NotFound, TooLong, Line, OldForm as old_form, NoClock}
-use Rattle.dp_files.specs.declared.remark.Note.{Note}
-use Rattle.dp_files.specs.declared.remark.Note.TheVariants.{OpenComment, Exec, AfterHint, DoubleLabel, Hint as hint_note, IgnorePat as ignorepat_note, Switch as switch_note, AutoFallThrough, CallerId as caller_note}
+use Rattle.dp_files.specs.declared.remark.LineNote.{LineNote}
+use Rattle.dp_files.specs.declared.remark.LineNote.TheVariants.{OpenComment, Exec, AfterHint, DoubleLabel, Hint as hint_note, IgnorePat as ignorepat_note, Switch as switch_note, AutoFallThrough, CallerId as caller_note}
 use Rattle.dp_files.specs.declared.remark.RemarkKind.{RemarkKind}
 use Rattle.dp_files.specs.declared.remark.RemarkKind.TheVariants.{Note as note_kind, Fault as fault_kind}
 use Rattle.dp_pattern.specs.Codes.{name_code, fault_name}
@@ -23,7 +23,7 @@ use Rattle.dp_notices.specs.declared.notice.QueueNote.TheVariants.{Random, InUse
 use Rattle.dp_queue.specs.Codes.{queue_code, queue_name}
 
 -- the name of a note of the file reader
-abbrev pub reading_note_name : Note → List ℕ
+abbrev pub reading_note_name : LineNote → List ℕ
 reading_note_name OpenComment = codes "OpenComment"
 reading_note_name Exec = codes "Exec"
 reading_note_name AfterHint = codes "AfterHint"
@@ -40,16 +40,16 @@ pub record Wording : Type 0 where
   pub name : List ℕ
 
 -- the wording of a fault with a number
-abbrev pub numbered : ℕ → List ℕ → Wording
-numbered number name = record { number = Some number; name = name }
+abbrev pub wording_with_number : ℕ → List ℕ → Wording
+wording_with_number number name = record { number = Some number; name = name }
 
 -- the wording of a note, or of a fault without a number
-abbrev pub named : List ℕ → Wording
-named name = record { number = None; name = name }
+abbrev pub wording_by_name : List ℕ → Wording
+wording_by_name name = record { number = None; name = name }
 
 -- the wording of a line that is not valid in a configuration file
 abbrev pub line_wording : LineKind → Wording
-line_wording kind = numbered (line_code kind) (line_name kind)
+line_wording kind = wording_with_number (line_code kind) (line_name kind)
 
 -- the name of the fault `LeftOut`, with the kind of what this program leaves out
 abbrev pub left_out_name : Word → List ℕ
@@ -69,12 +69,12 @@ loader_name kind = plan_name kind
 
 -- the wording of a fault of the file reader
 abbrev pub reading_wording : Fault → Wording
-reading_wording IncludeDepth = named (codes "IncludeDepth")
-reading_wording NotFound = numbered 7 (codes "ReadFailed")
-reading_wording TooLong = numbered 8 (codes "TooLong")
+reading_wording IncludeDepth = wording_by_name (codes "IncludeDepth")
+reading_wording NotFound = wording_with_number 7 (codes "ReadFailed")
+reading_wording TooLong = wording_with_number 8 (codes "TooLong")
 reading_wording (Line kind) = line_wording kind
-reading_wording old_form = named (codes "OldForm")
-reading_wording NoClock = named (codes "NoClock")
+reading_wording old_form = wording_by_name (codes "OldForm")
+reading_wording NoClock = wording_by_name (codes "NoClock")
 
 -- the name of a note on a line of a file of queues
 abbrev pub queue_note_name : QueueNote → List ℕ
@@ -84,15 +84,15 @@ queue_note_name InUse = codes "InUse"
 -- the wording of a fault
 abbrev pub fault_wording : NoticeFault → Wording
 fault_wording (Reading fault) = reading_wording fault
-fault_wording (Name fault) = numbered (name_code fault) (fault_name fault)
-fault_wording (Plan kind) = numbered (plan_code kind) (loader_name kind)
-fault_wording (queue_fault kind) = numbered (queue_code kind) (queue_name kind)
+fault_wording (Name fault) = wording_with_number (name_code fault) (fault_name fault)
+fault_wording (Plan kind) = wording_with_number (plan_code kind) (loader_name kind)
+fault_wording (queue_fault kind) = wording_with_number (queue_code kind) (queue_name kind)
 
 -- the wording of a notice; a note has no number
 abbrev pub wording : Notice → Wording
-wording (Read note) = named (reading_note_name note)
-wording (Loaded kind) = named (note_name kind)
-wording (queue_note note) = named (queue_note_name note)
+wording (Read note) = wording_by_name (reading_note_name note)
+wording (Loaded kind) = wording_by_name (note_name kind)
+wording (queue_note note) = wording_by_name (queue_note_name note)
 wording (fault_notice fault) = fault_wording fault
 
 -- whether a notice is a fault

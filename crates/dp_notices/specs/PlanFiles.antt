@@ -4,13 +4,13 @@ use Rattle.dp_conf.specs.Answers.{◌>>=◌}
 use Rattle.dp_files.specs.Dialplan.{DialplanOf, dialplan_of}
 use Rattle.dp_files.specs.Sources.{Files}
 use Rattle.dp_files.specs.declared.reading.ReadingFault.{ReadingFault}
-use Rattle.dp_files.specs.declared.remark.Remark.{Remark}
+use Rattle.dp_files.specs.declared.remark.LineRemark.{LineRemark}
 use Rattle.dp_files.specs.declared.source_line.MadeLine.{MadeLine}
 use Rattle.dp_files.specs.declared.source_line.SourceFile.{SourceFile}
 use Rattle.dp_notices.specs.LineNotices.{noted_lines}
 use Rattle.dp_notices.specs.Loading.{LoadedOf}
 use Rattle.dp_notices.specs.Notices.{of_reading}
-use Rattle.dp_notices.specs.Preparation.{prepared}
+use Rattle.dp_notices.specs.Preparation.{prepared_plan}
 use Rattle.dp_notices.specs.declared.line_notices.NotedLine.{NotedLine}
 use Rattle.dp_notices.specs.declared.line_notices.NoticeAt.{NoticeAt}
 use Rattle.dp_notices.specs.declared.loading.PlanCounts.{PlanCounts}
@@ -25,7 +25,7 @@ pub record PlanFilesOf : Type 0 where
   pub counts : PlanCounts
 
 -- the notice of a remark of the file reader
-abbrev pub reading_notice : Remark → NoticeAt
+abbrev pub reading_notice : LineRemark → NoticeAt
 reading_notice remark = record { source = remark.source; notice = of_reading remark.kind }
 
 -- the dialplan of files that were read, given what their lines load as
@@ -39,7 +39,7 @@ plan_with read loaded = record {
 
 -- the dialplan of files that were read, at a moment if one is given
 abbrev pub plan_by : Option Moment → DialplanOf → PlanFilesOf
-plan_by clock read = plan_with read (prepared clock read.made)
+plan_by clock read = plan_with read (prepared_plan clock read.made)
 
 -- the dialplan of the file with this name
 abbrev pub plan_of : Option Moment → Files → List ℕ → Result PlanFilesOf ReadingFault

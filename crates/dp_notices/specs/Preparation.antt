@@ -25,8 +25,8 @@ abbrev pub with_notices : List NoticeAt → LoadedOf → LoadedOf
 with_notices notices loaded = record { lines = loaded.lines; notices = notices ++ loaded.notices; counts = loaded.counts }
 
 -- what lines load as after this preparation, with the notices on names before those of the loader
-abbrev pub prepared : Option Moment → List MadeLine → LoadedOf
-prepared clock lines = with_notices (name_notices lines) (loaded_lines (prepared_lines clock lines))
+abbrev pub prepared_plan : Option Moment → List MadeLine → LoadedOf
+prepared_plan clock lines = with_notices (name_notices lines) (loaded_lines (prepared_lines clock lines))
 
 -- whether some line is an include with times
 abbrev pub has_times : List MadeLine → Bool

@@ -8,8 +8,8 @@ use Rattle.dp_files.specs.Directives.{directive_of, included_name}
 use Rattle.dp_files.specs.FolderFiles.{path_of}
 use Rattle.dp_files.specs.declared.remark.Fault.{Fault}
 use Rattle.dp_files.specs.declared.remark.Fault.TheVariants.{IncludeDepth, NotFound, TooLong, Line, OldForm, NoClock}
-use Rattle.dp_files.specs.declared.remark.Note.{Note}
-use Rattle.dp_files.specs.declared.remark.Note.TheVariants.{OpenComment, Exec, AfterHint, DoubleLabel, Hint, IgnorePat, Switch, AutoFallThrough, CallerId}
+use Rattle.dp_files.specs.declared.remark.LineNote.{LineNote}
+use Rattle.dp_files.specs.declared.remark.LineNote.TheVariants.{OpenComment, Exec, AfterHint, DoubleLabel, Hint, IgnorePat, Switch, AutoFallThrough, CallerId}
 use Rattle.dp_files.specs.declared.source_line.SourceFile.{SourceFile}
 use Rattle.dp_files.specs.declared.source_line.SourceLine.{SourceLine}
 use Rattle.dp_notices.specs.Notices.{is_fault, wording}
@@ -98,7 +98,7 @@ with_assumed assumed name = record {
 }
 
 -- whether a note is on a line that is left out although calls may depend on it, and that may have an effect by what is assumed
-abbrev pub is_unfollowed_note : Assumptions → Note → Bool
+abbrev pub is_unfollowed_note : Assumptions → LineNote → Bool
 is_unfollowed_note assumed OpenComment = false
 is_unfollowed_note assumed Exec = not assumed.exec
 is_unfollowed_note assumed AfterHint = false

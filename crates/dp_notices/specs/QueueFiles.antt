@@ -11,7 +11,7 @@ use Rattle.dp_files.specs.declared.remark.Fault.TheVariants.{Line}
 use Rattle.dp_files.specs.declared.source_line.MadeLine.{MadeLine}
 use Rattle.dp_files.specs.declared.source_line.SourceFile.{SourceFile}
 use Rattle.dp_notices.specs.LineNotices.{faults_in, noted_lines}
-use Rattle.dp_notices.specs.Loading.{notice_at_source, numbered, without_faulty}
+use Rattle.dp_notices.specs.Loading.{notice_at_source, notice_on_line, without_faulty}
 use Rattle.dp_notices.specs.PlanFiles.{reading_notice}
 use Rattle.dp_notices.specs.Printing.{lines_text}
 use Rattle.dp_notices.specs.QueueLines.{queue_lines, queue_notes}
@@ -39,7 +39,7 @@ queue_line_fault (Queue kind) = queue_fault kind
 
 -- the notice of a fault, if the fault is at a line
 abbrev pub queue_fault_notice : QueueFault → Option NumberedNotice
-queue_fault_notice (load_line line kind) = Some (numbered line (fault_kind (queue_line_fault kind)))
+queue_fault_notice (load_line line kind) = Some (notice_on_line line (fault_kind (queue_line_fault kind)))
 queue_fault_notice NoMemory = None
 
 -- the same as a list

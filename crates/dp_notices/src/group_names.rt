@@ -13,7 +13,7 @@ use crate::line_notices::NoticeAt;
 use crate::loading::copy_faultless;
 use crate::notice::{Notice, NoticeFault};
 use dp_conf::{ConfFault, Line, NoMemory, Text, cut_once, escape, read_line, same_word, trim};
-use dp_files::{LineText, MadeLine, Note, has_group, text_of};
+use dp_files::{LineNote, LineText, MadeLine, has_group, text_of};
 use dp_machine::expand_by_globals;
 use dp_plan::{Dialplan, GlobalVariable, LoadFault, PlanKind, Word};
 use dp_vars::{Expanded, Globals};
@@ -22,7 +22,7 @@ use std::alloc::Global;
 
 /// What a line becomes.
 #[derive(Drop)]
-pub(crate) enum Naming {
+pub(crate) enum GroupNaming {
     /// The line has no name with a group.
     Stands,
     /// The line with the expanded name.
@@ -273,7 +273,7 @@ fn name_notice(key: &[u8], name: &[u8]) -> Option<Notice>
         return Some(unknown_name());
     }
     if same_word(key, b"exten") && name.contains(&b'/') {
-        return Some(Notice::Read(Note::CallerId));
+        return Some(Notice::Read(LineNote::CallerId));
     }
     None
 }
@@ -291,15 +291,15 @@ fn naming_with(
     key: &[u8],
     name: &[u8],
     after: Option<&[u8]>,
-) -> Result<Naming, NoMemory>
+) -> Result<GroupNaming, NoMemory>
     ensures { IfOk result (λ naming. naming
         ≡ spec.naming_with key.now name.now (spec.comma_before (option_map (λ after. after.now) after.entry))) }
 {
     match name_notice(key, name) {
-        Some(notice) => Ok(Naming::LeftOut(notice)),
+        Some(notice) => Ok(GroupNaming::LeftOut(notice)),
         None => {
             let text = named_text(alloc, key, name, after)?;
-            Ok(Naming::Renamed(text))
+            Ok(GroupNaming::Renamed(text))
         }
     }
 }
@@ -310,23 +310,23 @@ fn naming_of_cut(
     globals: &Option<Globals>,
     key: &[u8],
     cut: NameCut<'_>,
-) -> Result<Naming, NoMemory>
+) -> Result<GroupNaming, NoMemory>
     ensures { IfOk result (λ naming. naming ≡ spec.naming_by key.now (spec.known_name globals.now cut.entry.name.now)
         (spec.comma_before (option_map (λ after. after.now) cut.entry.after))) }
 {
     match known_name(alloc, globals, cut.name)? {
-        None => Ok(Naming::LeftOut(unknown_name())),
+        None => Ok(GroupNaming::LeftOut(unknown_name())),
         Some(name) => naming_with(alloc, key, &name, cut.after),
     }
 }
 
 /// What a line `same` becomes, given the notice with which its extension is left out, if it is.
-fn naming_of_same(extension: Option<Notice>) -> Naming
+fn naming_of_same(extension: Option<Notice>) -> GroupNaming
     ensures { result ≡ spec.naming_of_same extension }
 {
     match extension {
-        None => Naming::Stands,
-        Some(notice) => Naming::LeftOut(notice),
+        None => GroupNaming::Stands,
+        Some(notice) => GroupNaming::LeftOut(notice),
     }
 }
 
@@ -337,7 +337,7 @@ fn naming_of_pair(
     extension: Option<Notice>,
     key: &[u8],
     value: &[u8],
-) -> Result<Naming, NoMemory>
+) -> Result<GroupNaming, NoMemory>
     ensures { IfOk result (λ naming. naming ≡ spec.naming_of_pair globals.now extension key.now value.now) }
 {
     if same_word(key, b"same") {
@@ -346,7 +346,7 @@ fn naming_of_pair(
     if is_grouped(key, value) {
         return naming_of_cut(alloc, globals, key, cut_name(value));
     }
-    Ok(Naming::Stands)
+    Ok(GroupNaming::Stands)
 }
 
 /// What the line of an item becomes, given whether it belongs to a context, and the notice for the last extension before it.
@@ -356,32 +356,32 @@ fn naming_of(
     within: bool,
     extension: Option<Notice>,
     item: Option<Line<'_>>,
-) -> Result<Naming, NoMemory>
+) -> Result<GroupNaming, NoMemory>
     ensures { IfOk result (λ naming. naming ≡ spec.naming_of globals.now within extension (lines_now item.entry)) }
 {
     match item {
         Some(Line::Pair { key, value, .. }) if within => {
             naming_of_pair(alloc, globals, extension, key, value)
         }
-        _ => Ok(Naming::Stands),
+        _ => Ok(GroupNaming::Stands),
     }
 }
 
 /// The notice of a line that is left out.
-fn notice_in(naming: &Naming) -> Option<Notice>
+fn notice_in(naming: &GroupNaming) -> Option<Notice>
     ensures { result ≡ spec.notice_in naming.now }
 {
     match naming {
-        Naming::Stands => None,
-        Naming::Renamed(_) => None,
-        Naming::LeftOut(notice) => Some(*notice),
+        GroupNaming::Stands => None,
+        GroupNaming::Renamed(_) => None,
+        GroupNaming::LeftOut(notice) => Some(*notice),
     }
 }
 
 /// The notice for the last extension before the lines after an item, given the one before it and what its line becomes.
 fn extension_after(
     extension: Option<Notice>,
-    naming: &Naming,
+    naming: &GroupNaming,
     item: Option<Line<'_>>,
 ) -> Option<Notice>
     ensures { result ≡ spec.extension_after extension naming.now (lines_now item.entry) }
@@ -397,7 +397,7 @@ fn extension_after(
 /// What a line becomes, whether the lines after it belong to a context, and the notice for the last extension before them.
 #[derive(Drop)]
 struct LineNaming {
-    naming: Naming,
+    naming: GroupNaming,
     within: bool,
     extension: Option<Notice>,
 }
@@ -427,13 +427,13 @@ fn naming_of_line(
 }
 
 /// The notice on a line that becomes this.
-fn notice_by(naming: &Naming, source: usize) -> Option<NoticeAt>
+fn notice_by(naming: &GroupNaming, source: usize) -> Option<NoticeAt>
     ensures { option_to_list result ≡ spec.notice_by naming.now source }
 {
     match naming {
-        Naming::Stands => None,
-        Naming::Renamed(_) => None,
-        Naming::LeftOut(notice) => Some(NoticeAt {
+        GroupNaming::Stands => None,
+        GroupNaming::Renamed(_) => None,
+        GroupNaming::LeftOut(notice) => Some(NoticeAt {
             source,
             notice: *notice,
         }),
@@ -441,16 +441,16 @@ fn notice_by(naming: &Naming, source: usize) -> Option<NoticeAt>
 }
 
 /// A line after it becomes this.
-fn line_by(alloc: Global, naming: Naming, line: MadeLine) -> Result<MadeLine, NoMemory>
+fn line_by(alloc: Global, naming: GroupNaming, line: MadeLine) -> Result<MadeLine, NoMemory>
     ensures { IfOk result (λ named. named ≡ spec.line_by naming line) }
 {
     match naming {
-        Naming::Stands => Ok(line),
-        Naming::Renamed(text) => Ok(MadeLine {
+        GroupNaming::Stands => Ok(line),
+        GroupNaming::Renamed(text) => Ok(MadeLine {
             source: line.source,
             text,
         }),
-        Naming::LeftOut(_) => {
+        GroupNaming::LeftOut(_) => {
             let text = Text::copy_of(alloc, b"")?;
             Ok(MadeLine {
                 source: line.source,
@@ -477,7 +477,7 @@ fn push_notice(notices: &mut Vec<NoticeAt>, notice: Option<NoticeAt>) -> Result<
 fn push_line(
     alloc: Global,
     named: &mut NamedLines,
-    naming: Naming,
+    naming: GroupNaming,
     line: MadeLine,
 ) -> Result<(), NoMemory>
     ensures lines { OnOk result (named.new.lines.items ≡ named.old.lines.items ++ spec.line_by naming line ∷ []) }

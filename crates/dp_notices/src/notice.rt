@@ -2,7 +2,7 @@
 ghost use Rattle.std.specs.Prelude.{◌≡◌};
 ghost use Rattle.dp_notices.specs.Notices as spec;
 
-use dp_files::{Fault, Note, RemarkKind};
+use dp_files::{Fault, LineNote, RemarkKind};
 use dp_pattern::NameFault;
 use dp_plan::{NoteKind, PlanKind, Word};
 use dp_queue::QueueKind;
@@ -33,7 +33,7 @@ pub enum QueueNote {
 #[derive(Clone, Copy, Debug, PartialEq, Eq)]
 pub enum Notice {
     /// A note of the file reader.
-    Read(Note),
+    Read(LineNote),
     /// A note of the loader.
     Loaded(NoteKind),
     /// A note on a line of a file of queues.
@@ -43,19 +43,19 @@ pub enum Notice {
 }
 
 /// The name of a note of the file reader.
-fn note_name(note: Note) -> &'static str
+fn note_name(note: LineNote) -> &'static str
     ensures { result.now ≡ spec.reading_note_name note }
 {
     match note {
-        Note::OpenComment => "OpenComment",
-        Note::Exec => "Exec",
-        Note::AfterHint => "AfterHint",
-        Note::DoubleLabel => "DoubleLabel",
-        Note::Hint => "Hint",
-        Note::IgnorePat => "IgnorePat",
-        Note::Switch => "Switch",
-        Note::AutoFallThrough => "AutoFallThrough",
-        Note::CallerId => "CallerId",
+        LineNote::OpenComment => "OpenComment",
+        LineNote::Exec => "Exec",
+        LineNote::AfterHint => "AfterHint",
+        LineNote::DoubleLabel => "DoubleLabel",
+        LineNote::Hint => "Hint",
+        LineNote::IgnorePat => "IgnorePat",
+        LineNote::Switch => "Switch",
+        LineNote::AutoFallThrough => "AutoFallThrough",
+        LineNote::CallerId => "CallerId",
     }
 }
 

@@ -13,7 +13,7 @@ use crate::notice::Notice;
 use crate::preparation::load_prepared;
 use dp_conf::NoMemory;
 use dp_files::{
-    DialplanFiles, MadeLine, MadeText, Paths, ReadingFault, Remark, Source, SourceFile,
+    DialplanFiles, LineRemark, MadeLine, MadeText, Paths, ReadingFault, Source, SourceFile,
     read_dialplan, read_folder_dialplan, text_of,
 };
 use dp_wide::Moment;
@@ -54,7 +54,10 @@ impl PlanFiles {
 }
 
 /// Adds the notices of remarks of the file reader.
-pub(crate) fn push_remarks(notices: &mut Vec<NoticeAt>, remarks: &[Remark]) -> Result<(), NoMemory>
+pub(crate) fn push_remarks(
+    notices: &mut Vec<NoticeAt>,
+    remarks: &[LineRemark],
+) -> Result<(), NoMemory>
     ensures { OnOk result (notices.new.items ≡ notices.old.items ++ map spec.reading_notice remarks.now) }
 {
     for remark in remarks {
@@ -69,7 +72,7 @@ pub(crate) fn push_remarks(notices: &mut Vec<NoticeAt>, remarks: &[Remark]) -> R
 /// All notices: first those of the file reader, and then those of the loader.
 fn all_notices(
     alloc: Global,
-    remarks: &[Remark],
+    remarks: &[LineRemark],
     loaded: &[NoticeAt],
 ) -> Result<Vec<NoticeAt>, NoMemory>
     ensures { IfOk result (λ notices. notices.items ≡ map spec.reading_notice remarks.now ++ loaded.now) }

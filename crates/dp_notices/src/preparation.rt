@@ -151,7 +151,7 @@ pub(crate) fn load_prepared(
     clock: Option<Moment>,
     lines: Vec<MadeLine>,
 ) -> Result<LoadedLines, NoMemory>
-    ensures { IfOk result (λ loaded. loader.loaded_now loaded ≡ spec.prepared clock lines.items) }
+    ensures { IfOk result (λ loaded. loader.loaded_now loaded ≡ spec.prepared_plan clock lines.items) }
 {
     let NamedLines { lines, notices } = expand_names(alloc, lines)?;
     let lines = set_times(alloc, clock, lines)?;

@@ -9,7 +9,7 @@ use crate::notice::{Notice, NoticeFault};
 use crate::plan_files::PlanFiles;
 use crate::queue_files::QueueFiles;
 use dp_conf::{NoMemory, line_content, same_word};
-use dp_files::{Fault, Note, SourceFile, SourceLine, included_name, path_of};
+use dp_files::{Fault, LineNote, SourceFile, SourceLine, included_name, path_of};
 use itoa::Buffer;
 use std::alloc::Global;
 
@@ -188,10 +188,10 @@ fn is_unfollowed(assumed: Assumptions, notice: Notice) -> bool
     ensures { result ≡ spec.is_unfollowed assumed notice }
 {
     match notice {
-        Notice::Read(Note::Exec) => !assumed.exec,
-        Notice::Read(Note::Switch) => !assumed.switch,
-        Notice::Read(Note::AutoFallThrough) => !assumed.auto_fall_through,
-        Notice::Read(Note::CallerId) => !assumed.caller_id,
+        Notice::Read(LineNote::Exec) => !assumed.exec,
+        Notice::Read(LineNote::Switch) => !assumed.switch,
+        Notice::Read(LineNote::AutoFallThrough) => !assumed.auto_fall_through,
+        Notice::Read(LineNote::CallerId) => !assumed.caller_id,
         _ => false,
     }
 }

@@ -17,7 +17,7 @@ use crate::plan_files::push_remarks;
 use crate::queue_lines::{QueueLines, read_queue_lines};
 use dp_conf::NoMemory;
 use dp_files::{
-    ConfigurationFiles, Fault, MadeLine, Paths, ReadingFault, Remark, Source, SourceFile,
+    ConfigurationFiles, Fault, LineRemark, MadeLine, Paths, ReadingFault, Source, SourceFile,
     read_configuration, read_folder_configuration, text_of,
 };
 use dp_queue::{QueueFault, QueueLoadKind, Queues, queue_faults};
@@ -139,7 +139,7 @@ fn faults_of_lines(alloc: Global, lines: &[MadeLine]) -> Result<Vec<NumberedNoti
 /// All notices: first those of the file reader, then the faults, and then the notes.
 fn all_notices(
     alloc: Global,
-    remarks: &[Remark],
+    remarks: &[LineRemark],
     made: &[MadeLine],
     faults: &[NumberedNotice],
     notes: &[NoticeAt],

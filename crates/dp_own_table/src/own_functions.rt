@@ -5,7 +5,7 @@ ghost use Rattle.dp_own_table.specs.OwnFunctions as spec;
 use dp_conf::NoMemory;
 use dp_vars::{
     Counts, ExpressionReading, FoundValue, FunctionName, FunctionValue, Functions, Scope,
-    StandardFunctions, Target, is_set, variable,
+    SetTarget, StandardFunctions, is_set, variable,
 };
 use std::alloc::Global;
 
@@ -86,17 +86,17 @@ impl Functions for OwnFunctions {
         }
     }
 
-    fn target(name: &[u8]) -> Target<'_> {
+    fn target(name: &[u8]) -> SetTarget<'_> {
         if name == b"ALL".as_slice() {
-            Target::Global(name)
+            SetTarget::Global(name)
         } else if name == b"MINE".as_slice() {
-            Target::Local(name)
+            SetTarget::Local(name)
         } else if name == b"WHO".as_slice() {
-            Target::Caller
+            SetTarget::Caller
         } else if name == b"NONE".as_slice() {
-            Target::Nothing
+            SetTarget::Nothing
         } else {
-            Target::Variable(name)
+            SetTarget::Variable(name)
         }
     }
 }

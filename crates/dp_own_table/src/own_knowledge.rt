@@ -18,7 +18,7 @@ impl KnownTable for OwnApps {
         same_word(name, b"Ping")
     }
 
-    fn asked<B, C: Counts>(
+    fn unknown_need<B, C: Counts>(
         alloc: Global,
         scope: &Scope<'_, B, C>,
         name: &[u8],

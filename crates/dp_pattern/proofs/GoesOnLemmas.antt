@@ -12,7 +12,7 @@ use Rattle.dp_pattern.specs.declared.tail.Tail.TheVariants.{End, Dot, Bang}
 use Rattle.dp_pattern.proofs.ClassLemmas.{is_one_of-class_by}
 use Rattle.dp_pattern.proofs.NameLemmas.{IsClass, each_by_index, each_of}
 use Rattle.dp_pattern.proofs.MeaningLemmas.{IsMeaning, IsByte}
-use Rattle.dp_pattern.proofs.WalkLemmas.{matched, tail_fits}
+use Rattle.dp_pattern.proofs.WalkLemmas.{walk_decides_match, tail_fits}
 
 -- a byte that may be in an ending
 abbrev IsEndingByte : ℕ → Type 0
@@ -202,7 +202,7 @@ going_on name text means = (there, back)
           some = found.some;
           bytes = λ k within. (each_of IsEndingByte found.ending found.bytes k within).0;
           dashless = λ k within same. true≢false (sym (eq-eqb (slice_index found.ending k) 45 same) ∙ (each_of IsEndingByte found.ending found.bytes k within).1);
-          matching = (matched name (text ++ found.ending)).0 (ap (λ ds. is_match (tail_of name) (walk_after (classes_of name) ds)) (without_dashes-more text found.ending found.bytes) ∙ found.taken);
+          matching = (walk_decides_match name (text ++ found.ending)).0 (ap (λ ds. is_match (tail_of name) (walk_after (classes_of name) ds)) (without_dashes-more text found.ending found.bytes) ∙ found.taken);
           no_bang = no_bang name (walk_after (classes_of name) (without_dashes text)) h;
         }
 
@@ -210,4 +210,4 @@ going_on name text means = (there, back)
     back found =
         let each = each_by_index IsEndingByte found.ending (λ k within. (found.bytes k within, ne_eqb (slice_index found.ending k) 45 (found.dashless k within))) in
         goes (classes_of name) (tail_of name) (without_dashes text) found.ending (not_bang name found.no_bang) found.some
-        (ap (λ ds. is_match (tail_of name) (walk_after (classes_of name) ds)) (sym (without_dashes-more text found.ending each)) ∙ (matched name (text ++ found.ending)).1 found.matching)
+        (ap (λ ds. is_match (tail_of name) (walk_after (classes_of name) ds)) (sym (without_dashes-more text found.ending each)) ∙ (walk_decides_match name (text ++ found.ending)).1 found.matching)

@@ -2,7 +2,7 @@
 use Rattle.std.proofs.Common.{◌≡◌, ℕ, ◌<◌, Bool, true, false, cond, not, ◌||◌, ◌==◌, List, [], ◌∷◌, Result, Ok, Err, true≢false, refl, sym, ap, ◌∙◌, subst}
 use Rattle.std.specs.List.{AllByRecursion, list_all, list_any}
 use Rattle.dp_pattern.specs.Dashes.{is_dash, without_dashes, from_first}
-use Rattle.dp_pattern.specs.Name.{◌>>=◌, Meaning, Plain, Pattern, Piece, Dash, Wild, Byte, Set, Unclosed, is_bad, class_of, class_of_set, is_dash_piece, pieces_of, Parts, parts_of, with_class, pattern_of, pattern_reading, plain_of, reading_of, meaning_of, IsName}
+use Rattle.dp_pattern.specs.Name.{◌>>=◌, Meaning, Plain, Pattern, PatternPieceOf, Dash, Wild, Byte, Set, Unclosed, is_bad, class_of, class_of_set, is_dash_piece, pieces_of, Parts, parts_of, with_class, pattern_of, pattern_reading, plain_of, reading_of, meaning_of, IsName}
 use Rattle.dp_pattern.specs.declared.fault.NameFault.{NameFault}
 use Rattle.dp_pattern.specs.declared.fault.NameFault.TheVariants.{BadByte, AfterWildcard}
 use Rattle.dp_pattern.specs.declared.tail.Tail.{Tail}
@@ -44,7 +44,7 @@ with_class-ok (Ok c) (Ok p) whole e =
     let same : (c ∷ p.0, p.1) ≡ whole = cc in
     record { first = c; after = p; read = refl; later = refl; both = ap (λ (parts : Parts). parts.0) same }
 
-parts_of-classes : (pieces : List Piece) → AllByRecursion IsPiece pieces → (parts : Parts) → parts_of pieces ≡ Ok parts → AllByRecursion IsClass parts.0
+parts_of-classes : (pieces : List PatternPieceOf) → AllByRecursion IsPiece pieces → (parts : Parts) → parts_of pieces ≡ Ok parts → AllByRecursion IsClass parts.0
 parts_of-classes [] each parts e =
     let same : ([], End) ≡ parts = cc in subst (λ (p : Parts). AllByRecursion IsClass p.0) same tt
 parts_of-classes (Dash ∷ pieces) each parts e = parts_of-classes pieces each.1 parts e

@@ -5,7 +5,7 @@ use Rattle.std.proofs.lemmas.Bool.Decides.{nat_tests}
 use Rattle.std.proofs.lemmas.List.Sums.{fails_before_first}
 use Rattle.dp_pattern.specs.Classes.{class_by}
 use Rattle.dp_pattern.specs.Dashes.{is_dash}
-use Rattle.dp_pattern.specs.Name.{Piece, Dash, Wild, Byte, Set, Unclosed, is_bad, is_one_of, class_of, is_end, set_piece, set_size, piece_of, pieces_after, pieces_of}
+use Rattle.dp_pattern.specs.Name.{PatternPieceOf, Dash, Wild, Byte, Set, Unclosed, is_bad, is_one_of, class_of, is_end, set_piece, set_size, piece_of, pieces_after, pieces_of}
 use Rattle.dp_pattern.specs.declared.fault.NameFault.TheVariants.{BadByte}
 use Rattle.dp_pattern.specs.declared.tail.Tail.TheVariants.{Dot, Bang}
 use Rattle.dp_pattern.proofs.ClassLemmas.{class_by-digits, class_by-digits_from_1, class_by-digits_from_2, class_by-byte}
@@ -32,7 +32,7 @@ IsByte b = b < 256
 abbrev pub IsListed : ℕ → Type 0
 IsListed b = (b < 256) × (is_end b ≡ false)
 
-abbrev pub IsPiece : Piece → Type 0
+abbrev pub IsPiece : PatternPieceOf → Type 0
 IsPiece Dash = Unit {0}
 IsPiece (Wild tail) = Unit {0}
 IsPiece (Byte b) = (b < 256) × (is_dash b ≡ false)

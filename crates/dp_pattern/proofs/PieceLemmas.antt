@@ -3,7 +3,7 @@ use Rattle.std.proofs.Common.{◌≡◌, ℕ, zero, suc, Bool, true, false, cond
 use Rattle.std.specs.List.{list_all, position}
 use Rattle.std.proofs.lemmas.Bool.Decides.{nat_tests}
 use Rattle.dp_pattern.specs.Dashes.{is_dash}
-use Rattle.dp_pattern.specs.Name.{◌>>=◌, Piece, Dash, Wild, Byte, pieces_after, pieces_of, piece_of, set_piece, set_size, is_end, is_dash_piece, Parts, parts_of, with_class}
+use Rattle.dp_pattern.specs.Name.{◌>>=◌, PatternPieceOf, Dash, Wild, Byte, pieces_after, pieces_of, piece_of, set_piece, set_size, is_end, is_dash_piece, Parts, parts_of, with_class}
 use Rattle.dp_pattern.specs.declared.tail.Tail.{Tail}
 use Rattle.dp_pattern.specs.declared.fault.NameFault.{NameFault}
 use Rattle.dp_pattern.specs.declared.fault.NameFault.TheVariants.{AfterWildcard}
@@ -31,13 +31,13 @@ byte_is_dash b = by_tests (is_dash b) (b == 46) (b == 33)
 
 -- a text that begins with `[`, and one that does not
 pub pieces_of-set : (b : ℕ) (text : List ℕ) → (b == 91) ≡ true → pieces_of (b ∷ text) ≡ set_piece (position is_end text) text ∷ pieces_after (set_size (position is_end text) text) text
-pieces_of-set b text e = ap (λ (t : Bool). elim t as (λ _. List Piece) [
+pieces_of-set b text e = ap (λ (t : Bool). elim t as (λ _. List PatternPieceOf) [
   | true ↦ set_piece (position is_end text) text ∷ pieces_after (set_size (position is_end text) text) text
   | false ↦ piece_of b ∷ pieces_after zero text
 ]) e
 
 pub pieces_of-byte : (b : ℕ) (text : List ℕ) → (b == 91) ≡ false → pieces_of (b ∷ text) ≡ piece_of b ∷ pieces_of text
-pieces_of-byte b text e = ap (λ (t : Bool). elim t as (λ _. List Piece) [
+pieces_of-byte b text e = ap (λ (t : Bool). elim t as (λ _. List PatternPieceOf) [
   | true ↦ set_piece (position is_end text) text ∷ pieces_after (set_size (position is_end text) text) text
   | false ↦ piece_of b ∷ pieces_after zero text
 ]) e
@@ -76,14 +76,14 @@ pieces_of-after n place text e within =
     ap pieces_of whole ∙ sym (pieces_after-drop n text) ∙ ap (λ m. pieces_after m text) (sym e)
 
 -- a `.` or a `!` with only dashes after it, and with anything else
-pub ends_wild : (front : List (List ℕ)) (pieces : List Piece) (tail : Tail) (after : List ℕ) (whole : Result Parts NameFault) → with_front front (parts_of pieces) ≡ whole → pieces ≡ Wild tail ∷ pieces_of after → list_all is_dash after ≡ true → whole ≡ Ok (front, tail)
+pub ends_wild : (front : List (List ℕ)) (pieces : List PatternPieceOf) (tail : Tail) (after : List ℕ) (whole : Result Parts NameFault) → with_front front (parts_of pieces) ≡ whole → pieces ≡ Wild tail ∷ pieces_of after → list_all is_dash after ≡ true → whole ≡ Ok (front, tail)
 ends_wild front pieces tail after whole invariant e dashes =
     sym invariant
     ∙ ap (λ ps. with_front front (parts_of ps)) e
     ∙ ap (λ t. with_front front (cond t (Ok ([], tail)) (Err AfterWildcard))) (list_all-pieces_of after ∙ dashes)
     ∙ ap (λ classes. Ok (classes, tail)) (append-nil front)
 
-pub ends_wild-fault : (front : List (List ℕ)) (pieces : List Piece) (tail : Tail) (after : List ℕ) (whole : Result Parts NameFault) → with_front front (parts_of pieces) ≡ whole → pieces ≡ Wild tail ∷ pieces_of after → list_all is_dash after ≡ false → whole ≡ Err AfterWildcard
+pub ends_wild-fault : (front : List (List ℕ)) (pieces : List PatternPieceOf) (tail : Tail) (after : List ℕ) (whole : Result Parts NameFault) → with_front front (parts_of pieces) ≡ whole → pieces ≡ Wild tail ∷ pieces_of after → list_all is_dash after ≡ false → whole ≡ Err AfterWildcard
 ends_wild-fault front pieces tail after whole invariant e dashes =
     sym invariant
     ∙ ap (λ ps. with_front front (parts_of ps)) e

@@ -5,23 +5,23 @@ use Rattle.std.proofs.lemmas.Bool.Decides.{nat_tests}
 use Rattle.dp_pattern.specs.Classes.{class_by}
 use Rattle.dp_pattern.specs.Dashes.{is_dash}
 use Rattle.dp_pattern.specs.Name.{is_bad, is_end, is_range, items_of, item_fault, or_else, first_fault, lists, class_of_set, unless_fault}
-use Rattle.dp_pattern.specs.declared.class.Item.{Item}
-use Rattle.dp_pattern.specs.declared.class.Item.TheVariants.{One, Range}
+use Rattle.dp_pattern.specs.declared.class.SetItem.{SetItem}
+use Rattle.dp_pattern.specs.declared.class.SetItem.TheVariants.{One, Range}
 use Rattle.dp_pattern.specs.declared.fault.NameFault.{NameFault}
 use Rattle.dp_pattern.specs.declared.fault.NameFault.TheVariants.{BadByte, BadRange}
 use Rattle.dp_pattern.proofs.NameLemmas.{IsMember, IsListed, IsClass}
 
 -- an item made from the bytes of a set
-abbrev pub IsItem : Item → Type 0
+abbrev pub IsItem : SetItem → Type 0
 IsItem (One a) = IsListed a
 IsItem (Range from to) = IsListed from
 
 -- a set of three bytes or more, given the second of them
 pub items_of-range : (a b c : ℕ) (bytes : List ℕ) → is_dash b ≡ true → items_of (a ∷ b ∷ c ∷ bytes) ≡ Range a c ∷ items_of bytes
-items_of-range a b c bytes e = ap (λ (t : Bool). elim t as (λ _. List Item) [ true ↦ Range a c ∷ items_of bytes | false ↦ One a ∷ items_of (b ∷ c ∷ bytes) ]) e
+items_of-range a b c bytes e = ap (λ (t : Bool). elim t as (λ _. List SetItem) [ true ↦ Range a c ∷ items_of bytes | false ↦ One a ∷ items_of (b ∷ c ∷ bytes) ]) e
 
 pub items_of-one : (a b c : ℕ) (bytes : List ℕ) → is_dash b ≡ false → items_of (a ∷ b ∷ c ∷ bytes) ≡ One a ∷ items_of (b ∷ c ∷ bytes)
-items_of-one a b c bytes e = ap (λ (t : Bool). elim t as (λ _. List Item) [ true ↦ Range a c ∷ items_of bytes | false ↦ One a ∷ items_of (b ∷ c ∷ bytes) ]) e
+items_of-one a b c bytes e = ap (λ (t : Bool). elim t as (λ _. List SetItem) [ true ↦ Range a c ∷ items_of bytes | false ↦ One a ∷ items_of (b ∷ c ∷ bytes) ]) e
 
 items_of-each : (bytes : List ℕ) → AllByRecursion IsListed bytes → AllByRecursion IsItem (items_of bytes)
 items_of-each [] each = tt
@@ -43,7 +43,7 @@ items_of-some a (b ∷ c ∷ bytes) = by_test (is_dash b) refl
     by_test false e = rw (items_of-one a b c bytes e) (omega arith)
 
 -- the bytes that an item without a fault lists
-listed_fine : (item : Item) → IsItem item → item_fault item ≡ None → (b : ℕ) → lists b item ≡ true → IsMember b × (is_end b ≡ false)
+listed_fine : (item : SetItem) → IsItem item → item_fault item ≡ None → (b : ℕ) → lists b item ≡ true → IsMember b × (is_end b ≡ false)
 listed_fine (One a) stands fine b h = by_tests (is_dash a) refl (is_bad a) refl fine
   where
     same : a ≡ b
@@ -60,7 +60,7 @@ listed_fine (Range from to) stands fine b h = by_test (is_range from to) refl fi
     by_test true e f = ((grind (arith, nat_tests), grind (arith, nat_tests)), grind (arith, nat_tests))
     by_test false e f = absurd cc
 
-first_listed : (item : Item) → IsItem item → item_fault item ≡ None → (b : ℕ) × (b < 256) × (lists b item ≡ true)
+first_listed : (item : SetItem) → IsItem item → item_fault item ≡ None → (b : ℕ) × (b < 256) × (lists b item ≡ true)
 first_listed (One a) stands fine = (a, stands.0, grind (arith, nat_tests))
 first_listed (Range from to) stands fine = by_test (is_range from to) refl fine
   where
@@ -76,13 +76,13 @@ or_true : (x y : Bool) (P : Type 0) → (x || y) ≡ true → (x ≡ true → P)
 or_true true y P e f g = f refl
 or_true false y P e f g = g e
 
-all_fine : (items : List Item) → AllByRecursion IsItem items → first_fault items ≡ None → (b : ℕ) → list_any (lists b) items ≡ true → IsMember b × (is_end b ≡ false)
+all_fine : (items : List SetItem) → AllByRecursion IsItem items → first_fault items ≡ None → (b : ℕ) → list_any (lists b) items ≡ true → IsMember b × (is_end b ≡ false)
 all_fine [] each fine b h = absurd (true≢false (sym h))
 all_fine (item ∷ items) each fine b h =
     let faults = fault_of_first (item_fault item) (first_fault items) fine in
     or_true (lists b item) (list_any (lists b) items) (IsMember b × (is_end b ≡ false)) h (listed_fine item each.0 faults.0 b) (all_fine items each.1 faults.1 b)
 
-class_of_items-class : (items : List Item) → 0 < length items → AllByRecursion IsItem items → first_fault items ≡ None → IsClass (class_by (λ b. list_any (lists b) items))
+class_of_items-class : (items : List SetItem) → 0 < length items → AllByRecursion IsItem items → first_fault items ≡ None → IsClass (class_by (λ b. list_any (lists b) items))
 class_of_items-class [] some each fine = absurd (omega arith)
 class_of_items-class (item ∷ items) some each fine =
     let faults = fault_of_first (item_fault item) (first_fault items) fine in

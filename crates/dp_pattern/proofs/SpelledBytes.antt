@@ -5,10 +5,10 @@ use Rattle.std.proofs.lemmas.Bool.Decides.{nat_tests}
 use Rattle.std.proofs.lemmas.List.Folds.{list_any-append}
 use Rattle.dp_pattern.specs.Classes.{byte_count, class_by}
 use Rattle.dp_pattern.specs.Dashes.{is_dash, without_dashes, from_first}
-use Rattle.dp_pattern.specs.Name.{◌>>=◌, Meaning, Plain, Pattern, Piece, Dash, Wild, Byte, Set, Unclosed, is_bad, is_one_of, is_end, is_range, items_of, item_fault, first_fault, lists, unless_fault, class_of_set, class_of, piece_of, pieces_of, pieces_after, set_piece, set_size, is_dash_piece, Parts, parts_of, pattern_of, pattern_reading, plain_of, reading_of, meaning_of}
+use Rattle.dp_pattern.specs.Name.{◌>>=◌, Meaning, Plain, Pattern, PatternPieceOf, Dash, Wild, Byte, Set, Unclosed, is_bad, is_one_of, is_end, is_range, items_of, item_fault, first_fault, lists, unless_fault, class_of_set, class_of, piece_of, pieces_of, pieces_after, set_piece, set_size, is_dash_piece, Parts, parts_of, pattern_of, pattern_reading, plain_of, reading_of, meaning_of}
 use Rattle.dp_pattern.specs.Spelling.{stands_alone, class_spelling, tail_spelling, spelling, is_own, SpellsCleanly}
-use Rattle.dp_pattern.specs.declared.class.Item.{Item}
-use Rattle.dp_pattern.specs.declared.class.Item.TheVariants.{One, Range}
+use Rattle.dp_pattern.specs.declared.class.SetItem.{SetItem}
+use Rattle.dp_pattern.specs.declared.class.SetItem.TheVariants.{One, Range}
 use Rattle.dp_pattern.specs.declared.fault.NameFault.{NameFault}
 use Rattle.dp_pattern.specs.declared.fault.NameFault.TheVariants.{BadByte, BadRange, AfterWildcard}
 use Rattle.dp_pattern.specs.declared.tail.Tail.{Tail}
@@ -113,7 +113,7 @@ module _ (b : ℕ) (foreign : is_own b ≡ false) where
       by_test later false t e = later e
 
   -- an item without a fault lists such a byte only if it is that byte itself
-  item_lists : (item : Item) → item_fault item ≡ None → lists b item ≡ true → item ≡ One b
+  item_lists : (item : SetItem) → item_fault item ≡ None → lists b item ≡ true → item ≡ One b
   item_lists (One a) fine e = ap One (eqb-true a b e)
   item_lists (Range from to) fine e = by_test (is_range from to) refl fine
     where
@@ -121,12 +121,12 @@ module _ (b : ℕ) (foreign : is_own b ≡ false) where
       by_test true r f = absurd (grind (arith, nat_tests))
       by_test false r f = absurd cc
 
-  has_one : List Item → Bool
+  has_one : List SetItem → Bool
   has_one [] = false
   has_one (One a ∷ items) = (b == a) || has_one items
   has_one (Range from to ∷ items) = has_one items
 
-  items_list : (items : List Item) → first_fault items ≡ None → list_any (lists b) items ≡ true → has_one items ≡ true
+  items_list : (items : List SetItem) → first_fault items ≡ None → list_any (lists b) items ≡ true → has_one items ≡ true
   unfolding has_one
   items_list [] fine e = absurd (true≢false (sym e))
   items_list (One a ∷ items) fine e =
@@ -177,14 +177,14 @@ module _ (b : ℕ) (foreign : is_own b ≡ false) where
           let there : is_one_of (a ∷ []) b ≡ true = ap (λ c. is_one_of c b) (sym same) ∙ h in
           either (b == a) false there (λ t. t) (λ t. absurd (true≢false (sym t)))
 
-  piece_has : Piece → Bool
+  piece_has : PatternPieceOf → Bool
   piece_has Dash = false
   piece_has (Wild tail) = false
   piece_has (Byte a) = b == a
   piece_has (Set bytes) = is_one_of bytes b
   piece_has Unclosed = false
 
-  parts_have : (pieces : List Piece) (parts : Parts) → parts_of pieces ≡ Ok parts → any_class parts.0 ≡ true → list_any piece_has pieces ≡ true
+  parts_have : (pieces : List PatternPieceOf) (parts : Parts) → parts_of pieces ≡ Ok parts → any_class parts.0 ≡ true → list_any piece_has pieces ≡ true
   unfolding any_class piece_has
   parts_have [] parts e h = let same : parts ≡ ([], End) = cc in absurd (true≢false (sym (sym (ap (λ (p : Parts). any_class p.0) same) ∙ h)))
   parts_have (Dash ∷ pieces) parts e h = parts_have pieces parts e h

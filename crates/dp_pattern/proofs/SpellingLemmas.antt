@@ -7,8 +7,8 @@ use Rattle.dp_pattern.specs.Classes.{byte_count, class_by}
 use Rattle.dp_pattern.specs.Dashes.{is_dash, without_dashes, from_first}
 use Rattle.dp_pattern.specs.Name.{◌>>=◌, Meaning, Plain, Pattern, Byte, Set, is_bad, is_one_of, is_end, items_of, or_else, first_fault, lists, unless_fault, class_of_items, class_of_set, class_of, piece_of, pieces_of, pieces_after, set_piece, set_size, parts_of, with_class, pattern_of, pattern_reading, plain_of, reading_of, meaning_of, IsName}
 use Rattle.dp_pattern.specs.Spelling.{stands_alone, class_spelling, tail_spelling, spelling}
-use Rattle.dp_pattern.specs.declared.class.Item.{Item}
-use Rattle.dp_pattern.specs.declared.class.Item.TheVariants.{One}
+use Rattle.dp_pattern.specs.declared.class.SetItem.{SetItem}
+use Rattle.dp_pattern.specs.declared.class.SetItem.TheVariants.{One}
 use Rattle.dp_pattern.specs.declared.fault.NameFault.TheVariants.{BadByte, BadRange}
 use Rattle.dp_pattern.proofs.SetLemmas.{items_of-one}
 use Rattle.dp_pattern.specs.declared.tail.Tail.{Tail}
@@ -33,7 +33,7 @@ each_member P p each = each_in_range P p 0 256 each
 
 -- ---- a set
 
-ones : List ℕ → List Item
+ones : List ℕ → List SetItem
 ones [] = []
 ones (b ∷ bytes) = One b ∷ ones bytes
 

@@ -77,7 +77,7 @@ plain_taken (b ∷ plain) (d ∷ digits) = by_test (plain_taken plain digits) (d
     by_test later false t = (λ h. absurd (true≢false (sym h)), λ e. let same : d ≡ b = cc in absurd (true≢false (sym (eq-eqb d b same) ∙ t)))
 
 -- the walk along a name over a text decides whether they match
-pub matched : (name : Meaning) (text : List ℕ) → Decides (is_match (tail_of name) (walk_after (classes_of name) (without_dashes text))) (Matches name text)
+pub walk_decides_match : (name : Meaning) (text : List ℕ) → Decides (is_match (tail_of name) (walk_after (classes_of name) (without_dashes text))) (Matches name text)
 unfolding Matches
-matched (Plain plain) text = plain_taken plain (without_dashes text)
-matched (Pattern classes tail) text = matched_pattern classes tail (without_dashes text)
+walk_decides_match (Plain plain) text = plain_taken plain (without_dashes text)
+walk_decides_match (Pattern classes tail) text = matched_pattern classes tail (without_dashes text)

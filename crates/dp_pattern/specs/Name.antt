@@ -4,8 +4,8 @@ use Rattle.std.specs.List.{list_any, list_all, position}
 use Rattle.std.specs.Str.{byte}
 use Rattle.dp_pattern.specs.Classes.{class_by}
 use Rattle.dp_pattern.specs.Dashes.{is_dash, without_dashes, from_first}
-use Rattle.dp_pattern.specs.declared.class.Item.{Item}
-use Rattle.dp_pattern.specs.declared.class.Item.TheVariants.{One, Range}
+use Rattle.dp_pattern.specs.declared.class.SetItem.{SetItem}
+use Rattle.dp_pattern.specs.declared.class.SetItem.TheVariants.{One, Range}
 use Rattle.dp_pattern.specs.declared.tail.Tail.{Tail}
 use Rattle.dp_pattern.specs.declared.tail.Tail.TheVariants.{End, Dot, Bang}
 use Rattle.dp_pattern.specs.declared.fault.NameFault.{NameFault}
@@ -19,12 +19,12 @@ pub data Meaning : Type 0 where
   Pattern : List (List ℕ) → Tail → Meaning
 
 -- a piece of the text of a pattern; a set is the text between `[` and the next `]`
-pub data Piece : Type 0 where
-  Dash : Piece
-  Wild : Tail → Piece
-  Byte : ℕ → Piece
-  Set : List ℕ → Piece
-  Unclosed : Piece
+pub data PatternPieceOf : Type 0 where
+  Dash : PatternPieceOf
+  Wild : Tail → PatternPieceOf
+  Byte : ℕ → PatternPieceOf
+  Set : List ℕ → PatternPieceOf
+  Unclosed : PatternPieceOf
 
 infixl 10 ◌>>=◌
 abbrev pub ◌>>=◌ : {A B : Type 0} → Result A NameFault → (A → Result B NameFault) → Result B NameFault
@@ -41,7 +41,7 @@ is_bad b = nat_lt b 33 || b == 127 || b == 92
 -- ---- a set
 
 -- from the left, three bytes with a `-` in the middle are a range
-abbrev pub items_of : List ℕ → List Item
+abbrev pub items_of : List ℕ → List SetItem
 items_of [] = []
 items_of (a ∷ []) = One a ∷ []
 items_of (a ∷ b ∷ []) = One a ∷ One b ∷ []
@@ -58,7 +58,7 @@ is_range from to =
     is_within (byte "0") (byte "9") from to || is_within (byte "A") (byte "Z") from to || is_within (byte "a") (byte "z") from to
 
 -- the reason why a set cannot list the item
-abbrev pub item_fault : Item → Option NameFault
+abbrev pub item_fault : SetItem → Option NameFault
 item_fault (One b) = if is_dash b then Some BadRange else (if is_bad b then Some BadByte else None)
 item_fault (Range from to) = if is_range from to then None else Some BadRange
 
@@ -66,12 +66,12 @@ abbrev pub or_else : Option NameFault → Option NameFault → Option NameFault
 or_else None next = next
 or_else (Some fault) next = Some fault
 
-abbrev pub first_fault : List Item → Option NameFault
+abbrev pub first_fault : List SetItem → Option NameFault
 first_fault [] = None
 first_fault (item ∷ items) = or_else (item_fault item) (first_fault items)
 
 -- whether the item lists the byte
-abbrev pub lists : ℕ → Item → Bool
+abbrev pub lists : ℕ → SetItem → Bool
 lists b (One a) = a == b
 lists b (Range from to) = nat_le from b && nat_le b to
 
@@ -80,7 +80,7 @@ abbrev pub unless_fault : Option NameFault → List ℕ → Result (List ℕ) Na
 unless_fault None class = Ok class
 unless_fault (Some fault) class = Err fault
 
-abbrev pub class_of_items : List Item → Result (List ℕ) NameFault
+abbrev pub class_of_items : List SetItem → Result (List ℕ) NameFault
 class_of_items items = unless_fault (first_fault items) (class_by (λ b. list_any (lists b) items))
 
 abbrev pub class_of_set : List ℕ → Result (List ℕ) NameFault
@@ -98,7 +98,7 @@ class_of b =
     (if is_bad b then Err BadByte else Ok (b ∷ []))))
 
 -- a byte outside sets other than `[`
-abbrev pub piece_of : ℕ → Piece
+abbrev pub piece_of : ℕ → PatternPieceOf
 piece_of b =
     if is_dash b then Dash else
     (if b == byte "." then Wild Dot else
@@ -108,7 +108,7 @@ abbrev pub is_end : ℕ → Bool
 is_end b = b == byte "]"
 
 -- the set of the text after a `[`, given the place of the next `]`
-abbrev pub set_piece : Option ℕ → List ℕ → Piece
+abbrev pub set_piece : Option ℕ → List ℕ → PatternPieceOf
 set_piece None text = Unclosed
 set_piece (Some n) text = Set (take n text)
 
@@ -118,7 +118,7 @@ set_size None text = length text
 set_size (Some n) text = n + 1
 
 -- the pieces of the text, whose first n bytes belong to the piece before
-abbrev pub pieces_after : ℕ → List ℕ → List Piece
+abbrev pub pieces_after : ℕ → List ℕ → List PatternPieceOf
 pieces_after n [] = []
 pieces_after (suc n) (b ∷ text) = pieces_after n text
 pieces_after zero (b ∷ text) = elim (b == byte "[") [
@@ -126,10 +126,10 @@ pieces_after zero (b ∷ text) = elim (b == byte "[") [
   | false ↦ piece_of b ∷ pieces_after zero text
 ]
 
-abbrev pub pieces_of : List ℕ → List Piece
+abbrev pub pieces_of : List ℕ → List PatternPieceOf
 pieces_of text = pieces_after zero text
 
-abbrev pub is_dash_piece : Piece → Bool
+abbrev pub is_dash_piece : PatternPieceOf → Bool
 is_dash_piece Dash = true
 is_dash_piece (Wild tail) = false
 is_dash_piece (Byte b) = false
@@ -144,7 +144,7 @@ with_class class parts = class >>= (λ c. parts >>= (λ p. Ok (c ∷ p.0, p.1)))
 
 -- the classes and the tail, or the first fault from the left; of two faults at one byte, text after a wildcard comes
 -- first, then a set that is not closed, then a fault in the set, where the place of a range is its first byte
-abbrev pub parts_of : List Piece → Result Parts NameFault
+abbrev pub parts_of : List PatternPieceOf → Result Parts NameFault
 parts_of [] = Ok ([], End)
 parts_of (Dash ∷ pieces) = parts_of pieces
 parts_of (Wild tail ∷ pieces) = if list_all is_dash_piece pieces then Ok ([], tail) else Err AfterWildcard

@@ -84,7 +84,7 @@ impl Class {
 
 /// An item of a set: one byte, or the bytes from one to another.
 #[derive(Clone, Copy)]
-pub(crate) enum Item {
+pub(crate) enum SetItem {
     One(u8),
     Range(u8, u8),
 }
@@ -107,39 +107,39 @@ fn is_range(from: u8, to: u8) -> bool
 }
 
 // The reason why a set cannot list the item, if there is one.
-fn fault_of(item: Item) -> Option<NameFault>
+fn fault_of(item: SetItem) -> Option<NameFault>
     ensures { result ≡ item_fault item }
 {
     match item {
-        Item::One(b'-') => Some(NameFault::BadRange),
-        Item::One(byte) if is_bad(byte) => Some(NameFault::BadByte),
-        Item::One(_) => None,
-        Item::Range(from, to) if is_range(from, to) => None,
-        Item::Range(_, _) => Some(NameFault::BadRange),
+        SetItem::One(b'-') => Some(NameFault::BadRange),
+        SetItem::One(byte) if is_bad(byte) => Some(NameFault::BadByte),
+        SetItem::One(_) => None,
+        SetItem::Range(from, to) if is_range(from, to) => None,
+        SetItem::Range(_, _) => Some(NameFault::BadRange),
     }
 }
 
 // Adds the bytes that the item lists.
-fn add_item(words: &mut [u64; 4], item: Item)
+fn add_item(words: &mut [u64; 4], item: SetItem)
     requires { item_fault item ≡ None }
     ensures { (b : ℕ) → b < 256 → has_bit words.new b ≡ (has_bit words.old b || lists b item) }
 {
     match item {
-        Item::One(byte) => add(words, byte),
-        Item::Range(from, to) => add_range(words, from, to),
+        SetItem::One(byte) => add(words, byte),
+        SetItem::Range(from, to) => add_range(words, from, to),
     }
 }
 
 // The first item that the bytes of a set list, and the bytes after it.
-fn first_item(bytes: &[u8]) -> Option<(Item, &[u8])>
+fn first_item(bytes: &[u8]) -> Option<(SetItem, &[u8])>
     ensures { MatchOption result (bytes.now ≡ [])
         (λ x. (items_of bytes.now ≡ x.0 ∷ items_of x.1.now) × (length x.1.now < length bytes.now)) }
 {
     let (byte, after) = bytes.split_first()?;
     if after.len() >= 2 && after[0] == b'-' {
-        Some((Item::Range(*byte, after[1]), &after[2..]))
+        Some((SetItem::Range(*byte, after[1]), &after[2..]))
     } else {
-        Some((Item::One(*byte), after))
+        Some((SetItem::One(*byte), after))
     }
 }
 

@@ -8,31 +8,31 @@ use Rattle.dp_conf.specs.Levels.{arguments_of, level_of, next_level, parts_argum
 use Rattle.dp_pieces.specs.Bytes.{Bytes, Within}
 use Rattle.dp_pieces.specs.Arguments.{are_clean, is_clean_set, shapes_of, split_pieces}
 use Rattle.dp_pieces.specs.Fitting.{AllFit}
-use Rattle.dp_pieces.specs.Pieces.{AnyOf, Fits, Known, OneOf, Piece}
+use Rattle.dp_pieces.specs.Pieces.{AnyOf, Fits, Known, OneOf, PieceOf}
 use Rattle.dp_pieces.specs.Trimmed.{without_end_blanks}
 use Rattle.dp_pieces.proofs.TrimmedLemmas.{fits-without_end_blanks}
 
 -- and there is one
-abbrev pub SomeFit : List (List Piece) → List (List ℕ) → Type 0
+abbrev pub SomeFit : List (List PieceOf) → List (List ℕ) → Type 0
 SomeFit [] texts = ⊥
 SomeFit (pieces ∷ more) texts = AllFit (pieces ∷ more) texts
 
 -- a known byte before the first
-some-known : (byte : ℕ) (parts : List (List Piece)) (texts : List (List ℕ)) → SomeFit parts texts → SomeFit (onto_first (Known byte) parts) (onto_first byte texts)
+some-known : (byte : ℕ) (parts : List (List PieceOf)) (texts : List (List ℕ)) → SomeFit parts texts → SomeFit (onto_first (Known byte) parts) (onto_first byte texts)
 unfolding Fits
 some-known byte [] texts fit = absurd fit
 some-known byte (pieces ∷ more) [] fit = absurd fit
 some-known byte (pieces ∷ more) (text ∷ texts) fit = ((text, refl, fit.0), fit.1)
 
 -- an unknown piece before the first, which is empty so far
-some-any : (set : Bytes) (parts : List (List Piece)) (texts : List (List ℕ)) → SomeFit parts texts → SomeFit (onto_first (AnyOf set) parts) texts
+some-any : (set : Bytes) (parts : List (List PieceOf)) (texts : List (List ℕ)) → SomeFit parts texts → SomeFit (onto_first (AnyOf set) parts) texts
 unfolding Fits
 some-any set [] texts fit = absurd fit
 some-any set (pieces ∷ more) [] fit = absurd fit
 some-any set (pieces ∷ more) (text ∷ texts) fit = ((([], text), refl, tt, fit.0), fit.1)
 
 -- one byte of a set before the first
-some-one : (set : Bytes) (byte : ℕ) → set byte ≡ true → (parts : List (List Piece)) (texts : List (List ℕ)) → SomeFit parts texts
+some-one : (set : Bytes) (byte : ℕ) → set byte ≡ true → (parts : List (List PieceOf)) (texts : List (List ℕ)) → SomeFit parts texts
     → SomeFit (onto_first (OneOf set) parts) (onto_first byte texts)
 unfolding Fits
 some-one set byte here [] texts fit = absurd fit
@@ -40,7 +40,7 @@ some-one set byte here (pieces ∷ more) [] fit = absurd fit
 some-one set byte here (pieces ∷ more) (text ∷ texts) fit = (((byte, text), refl, here, fit.0), fit.1)
 
 -- one more byte of it
-some-byte : (set : Bytes) (byte : ℕ) → set byte ≡ true → (parts : List (List Piece)) (texts : List (List ℕ)) → SomeFit (onto_first (AnyOf set) parts) texts
+some-byte : (set : Bytes) (byte : ℕ) → set byte ≡ true → (parts : List (List PieceOf)) (texts : List (List ℕ)) → SomeFit (onto_first (AnyOf set) parts) texts
     → SomeFit (onto_first (AnyOf set) parts) (onto_first byte texts)
 unfolding Fits
 some-byte set byte here [] [] fit = absurd fit
@@ -89,7 +89,7 @@ no-mark set byte mark level here none = by (byte == mark) refl
         ap (λ t. t && level == 0) (sym yes) ∙ none
 
 -- the bytes of an unknown piece
-split-any : (set : Bytes) (level : ℕ) → IsClean level set → (front rest : List ℕ) (parts : List (List Piece)) → Within set front
+split-any : (set : Bytes) (level : ℕ) → IsClean level set → (front rest : List ℕ) (parts : List (List PieceOf)) → Within set front
     → ((before : List ℕ) → level_of before ≡ level → SomeFit parts (split_after parts_arguments before rest))
     → (before : List ℕ) → level_of before ≡ level → SomeFit (onto_first (AnyOf set) parts) (split_after parts_arguments before (front ++ rest))
 split-any set level clean [] rest parts within later before at = some-any set parts (split_after parts_arguments before rest) (later before at)
@@ -107,7 +107,7 @@ and-both true b is = (refl, is)
 and-both false b is = absurd cc
 
 -- the commas cut the text as they cut the pieces
-pub split-fits : (pieces : List Piece) (text before : List ℕ) (level : ℕ) → level_of before ≡ level → are_clean level pieces ≡ true → Fits pieces text
+pub split-fits : (pieces : List PieceOf) (text before : List ℕ) (level : ℕ) → level_of before ≡ level → are_clean level pieces ≡ true → Fits pieces text
     → SomeFit (split_pieces level pieces) (split_after parts_arguments before text)
 unfolding Fits split_pieces
 split-fits [] text before level at clean fits = subst (λ t. SomeFit ([] ∷ []) (split_after parts_arguments before t)) (sym fits) (refl, tt)
@@ -117,13 +117,13 @@ split-fits (Known byte ∷ pieces) text before level at clean fits =
     (by (byte == 44 && level == 0)
     (split-fits pieces fits.0 (before ++ byte ∷ []) (next_level level byte) (level_of-push before byte ∙ ap (λ l. next_level l byte) at) clean fits.2)))
   where
-    more : List (List Piece)
+    more : List (List PieceOf)
     more = split_pieces (next_level level byte) pieces
 
     next : List (List ℕ)
     next = split_after parts_arguments (before ++ byte ∷ []) fits.0
 
-    some-all : (parts : List (List Piece)) (texts : List (List ℕ)) → SomeFit parts texts → AllFit parts texts
+    some-all : (parts : List (List PieceOf)) (texts : List (List ℕ)) → SomeFit parts texts → AllFit parts texts
     some-all [] texts fit = absurd fit
     some-all (pieces ∷ more) texts fit = fit
 
@@ -148,17 +148,17 @@ split-fits (AnyOf set ∷ pieces) text before level at clean fits =
     (split-any set level (clean-set level set both.0) fits.0.0 fits.0.1 (split_pieces level pieces) fits.2
     (λ b l. split-fits pieces fits.0.1 b level l both.1 fits.3) before at)
 
-all-without_end_blanks : (parts : List (List Piece)) (texts : List (List ℕ)) → AllFit parts texts → AllFit (map without_end_blanks parts) (map trim texts)
+all-without_end_blanks : (parts : List (List PieceOf)) (texts : List (List ℕ)) → AllFit parts texts → AllFit (map without_end_blanks parts) (map trim texts)
 all-without_end_blanks [] [] fit = tt
 all-without_end_blanks [] (text ∷ texts) fit = absurd fit
 all-without_end_blanks (pieces ∷ more) [] fit = absurd fit
 all-without_end_blanks (pieces ∷ more) (text ∷ texts) fit = (fits-without_end_blanks pieces text fit.0, all-without_end_blanks more texts fit.1)
 
 -- the arguments of a text fit the shapes of its pieces
-pub fits-arguments : (pieces : List Piece) (text : List ℕ) → are_clean 0 pieces ≡ true → Fits pieces text → AllFit (shapes_of pieces) (arguments_of text)
+pub fits-arguments : (pieces : List PieceOf) (text : List ℕ) → are_clean 0 pieces ≡ true → Fits pieces text → AllFit (shapes_of pieces) (arguments_of text)
 unfolding parts_of shapes_of
 fits-arguments pieces text clean fits = some (split_pieces 0 pieces) (split_after parts_arguments [] text) (split-fits pieces text [] 0 refl clean fits)
   where
-    some : (parts : List (List Piece)) (texts : List (List ℕ)) → SomeFit parts texts → AllFit (map without_end_blanks parts) (map trim texts)
+    some : (parts : List (List PieceOf)) (texts : List (List ℕ)) → SomeFit parts texts → AllFit (map without_end_blanks parts) (map trim texts)
     some [] texts fit = absurd fit
     some (pieces ∷ more) texts fit = all-without_end_blanks (pieces ∷ more) texts fit

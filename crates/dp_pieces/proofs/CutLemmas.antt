@@ -7,13 +7,13 @@ use Rattle.dp_conf.proofs.TextLemmas.{Avoids, cut_once-here, cut_once-nowhere, e
 use Rattle.dp_conf.specs.Cut.{cut_once}
 use Rattle.dp_conf.specs.Levels.{cut_after, cut_outside, level_of, next_level, stands_outside}
 use Rattle.dp_pieces.specs.Bytes.{Bytes, Within}
-use Rattle.dp_pieces.specs.Cuts.{At, Cutting, Nowhere, Unsure, cut_level, cut_pieces, may_cut, with_piece}
+use Rattle.dp_pieces.specs.Cuts.{At, CuttingOf, Nowhere, Unsure, cut_level, cut_pieces, may_cut, with_piece}
 use Rattle.dp_pieces.specs.Fitting.{IsCutAs}
-use Rattle.dp_pieces.specs.Pieces.{AnyOf, Fits, Known, OneOf, Piece}
+use Rattle.dp_pieces.specs.Pieces.{AnyOf, Fits, Known, OneOf, PieceOf}
 use Rattle.dp_pieces.proofs.ArgumentLemmas.{no-mark, other, same_level}
 
 -- a text that is cut like its pieces, given the text before and after the byte
-record IsBetween (mark : ℕ) (front rest : List Piece) (text : List ℕ) : Type 0 where
+record IsBetween (mark : ℕ) (front rest : List PieceOf) (text : List ℕ) : Type 0 where
   before : List ℕ
   after : List ℕ
   whole : text ≡ before ++ mark ∷ after
@@ -21,12 +21,12 @@ record IsBetween (mark : ℕ) (front rest : List Piece) (text : List ℕ) : Type
   front_fits : Fits front before
   rest_fits : Fits rest after
 
-IsParted : ℕ → Cutting → List ℕ → Type 0
+IsParted : ℕ → CuttingOf → List ℕ → Type 0
 IsParted mark Nowhere text = Avoids mark text
 IsParted mark Unsure text = Unit {0}
 IsParted mark (At front rest) text = IsBetween mark front rest text
 
-parted-known : (mark byte : ℕ) → (byte == mark) ≡ false → (cutting : Cutting) (text : List ℕ) → IsParted mark cutting text → IsParted mark (with_piece (Known byte) cutting) (byte ∷ text)
+parted-known : (mark byte : ℕ) → (byte == mark) ≡ false → (cutting : CuttingOf) (text : List ℕ) → IsParted mark cutting text → IsParted mark (with_piece (Known byte) cutting) (byte ∷ text)
 unfolding IsParted Fits
 parted-known mark byte differs Nowhere text is = (differs, is)
 parted-known mark byte differs Unsure text is = tt
@@ -39,7 +39,7 @@ parted-known mark byte differs (At front rest) text is = record {
   rest_fits = is.rest_fits;
 }
 
-parted-one : (mark byte : ℕ) (set : Bytes) → set byte ≡ true → (byte == mark) ≡ false → (cutting : Cutting) (text : List ℕ) → IsParted mark cutting text
+parted-one : (mark byte : ℕ) (set : Bytes) → set byte ≡ true → (byte == mark) ≡ false → (cutting : CuttingOf) (text : List ℕ) → IsParted mark cutting text
     → IsParted mark (with_piece (OneOf set) cutting) (byte ∷ text)
 unfolding IsParted Fits
 parted-one mark byte set here differs Nowhere text is = (differs, is)
@@ -56,7 +56,7 @@ parted-one mark byte set here differs (At front rest) text is = record {
 avoids-within : (set : Bytes) (mark : ℕ) → set mark ≡ false → (text : List ℕ) → Within set text → Avoids mark text
 avoids-within set mark none text is = each-weaker (λ b. set b ≡ true) (λ b. (b == mark) ≡ false) (λ b here. other set b mark here none) text is
 
-parted-any : (mark : ℕ) (set : Bytes) → set mark ≡ false → (cutting : Cutting) (front text : List ℕ) → Within set front → IsParted mark cutting text
+parted-any : (mark : ℕ) (set : Bytes) → set mark ≡ false → (cutting : CuttingOf) (front text : List ℕ) → Within set front → IsParted mark cutting text
     → IsParted mark (with_piece (AnyOf set) cutting) (front ++ text)
 unfolding IsParted Fits
 parted-any mark set none Nowhere front text within is = each-append (λ b. (b == mark) ≡ false) front text (avoids-within set mark none front within) is
@@ -70,7 +70,7 @@ parted-any mark set none (At f r) front text within is = record {
   rest_fits = is.rest_fits;
 }
 
-parted-pieces : (mark : ℕ) (pieces : List Piece) (text : List ℕ) → Fits pieces text → IsParted mark (cut_pieces mark pieces) text
+parted-pieces : (mark : ℕ) (pieces : List PieceOf) (text : List ℕ) → Fits pieces text → IsParted mark (cut_pieces mark pieces) text
 unfolding IsParted Fits
 parted-pieces mark [] text fits = subst (Avoids mark) (sym fits) tt
 parted-pieces mark (Known byte ∷ pieces) text fits =
@@ -96,23 +96,23 @@ parted-pieces mark (AnyOf set ∷ pieces) text fits =
     by false none later = parted-any mark set none (cut_pieces mark pieces) fits.0.0 fits.0.1 fits.2 later
 
 -- a text is cut at the first such byte where its pieces are
-pub cut-pieces : (mark : ℕ) (pieces : List Piece) (text : List ℕ) → Fits pieces text → IsCutAs (cut_pieces mark pieces) (cut_once mark text)
+pub cut-pieces : (mark : ℕ) (pieces : List PieceOf) (text : List ℕ) → Fits pieces text → IsCutAs (cut_pieces mark pieces) (cut_once mark text)
 unfolding IsParted
 cut-pieces mark pieces text fits = by (cut_pieces mark pieces) (parted-pieces mark pieces text fits)
   where
-    by : (cutting : Cutting) → IsParted mark cutting text → IsCutAs cutting (cut_once mark text)
+    by : (cutting : CuttingOf) → IsParted mark cutting text → IsCutAs cutting (cut_once mark text)
     by Nowhere is = cut_once-nowhere mark text is
     by Unsure is = tt
     by (At front rest) is = subst (IsCutAs (At front rest)) (sym (ap (cut_once mark) is.whole ∙ cut_once-here mark is.before is.after is.avoids)) (is.front_fits, is.rest_fits)
 
 -- pieces before a later cut
-abbrev IsCutLater : List ℕ → Cutting → Option (List ℕ × List ℕ) → Type 0
+abbrev IsCutLater : List ℕ → CuttingOf → Option (List ℕ × List ℕ) → Type 0
 IsCutLater before Nowhere cut = cut ≡ None
 IsCutLater before Unsure cut = Unit {0}
 IsCutLater before (At front rest) None = ⊥
 IsCutLater before (At front rest) (Some cut) = (own : List ℕ) × (cut.0 ≡ before ++ own) × Fits front own × Fits rest cut.1
 
-later-known : (before : List ℕ) (byte : ℕ) (cutting : Cutting) (cut : Option (List ℕ × List ℕ)) → IsCutLater (before ++ byte ∷ []) cutting cut
+later-known : (before : List ℕ) (byte : ℕ) (cutting : CuttingOf) (cut : Option (List ℕ × List ℕ)) → IsCutLater (before ++ byte ∷ []) cutting cut
     → IsCutLater before (with_piece (Known byte) cutting) cut
 unfolding Fits
 later-known before byte Nowhere cut is = is
@@ -120,7 +120,7 @@ later-known before byte Unsure cut is = tt
 later-known before byte (At front rest) None is = is
 later-known before byte (At front rest) (Some cut) is = (byte ∷ is.0, is.1 ∙ append_assoc before (byte ∷ []) is.0, (is.0, refl, is.2), is.3)
 
-later-one : (before : List ℕ) (byte : ℕ) (set : Bytes) → set byte ≡ true → (cutting : Cutting) (cut : Option (List ℕ × List ℕ)) → IsCutLater (before ++ byte ∷ []) cutting cut
+later-one : (before : List ℕ) (byte : ℕ) (set : Bytes) → set byte ≡ true → (cutting : CuttingOf) (cut : Option (List ℕ × List ℕ)) → IsCutLater (before ++ byte ∷ []) cutting cut
     → IsCutLater before (with_piece (OneOf set) cutting) cut
 unfolding Fits
 later-one before byte set here Nowhere cut is = is
@@ -128,7 +128,7 @@ later-one before byte set here Unsure cut is = tt
 later-one before byte set here (At front rest) None is = is
 later-one before byte set here (At front rest) (Some cut) is = (byte ∷ is.0, is.1 ∙ append_assoc before (byte ∷ []) is.0, ((byte, is.0), refl, here, is.2), is.3)
 
-later-byte : (before : List ℕ) (byte : ℕ) (set : Bytes) → set byte ≡ true → (cutting : Cutting) (cut : Option (List ℕ × List ℕ))
+later-byte : (before : List ℕ) (byte : ℕ) (set : Bytes) → set byte ≡ true → (cutting : CuttingOf) (cut : Option (List ℕ × List ℕ))
     → IsCutLater (before ++ byte ∷ []) (with_piece (AnyOf set) cutting) cut → IsCutLater before (with_piece (AnyOf set) cutting) cut
 unfolding Fits
 later-byte before byte set here Nowhere cut is = is
@@ -137,7 +137,7 @@ later-byte before byte set here (At front rest) None is = is
 later-byte before byte set here (At front rest) (Some cut) is =
     (byte ∷ is.0, is.1 ∙ append_assoc before (byte ∷ []) is.0, ((byte ∷ is.2.0.0, is.2.0.1), ap (λ bs. byte ∷ bs) is.2.1, (here, is.2.2), is.2.3), is.3)
 
-later-any : (before : List ℕ) (set : Bytes) (cutting : Cutting) (cut : Option (List ℕ × List ℕ)) → IsCutLater before cutting cut
+later-any : (before : List ℕ) (set : Bytes) (cutting : CuttingOf) (cut : Option (List ℕ × List ℕ)) → IsCutLater before cutting cut
     → IsCutLater before (with_piece (AnyOf set) cutting) cut
 unfolding Fits
 later-any before set Nowhere cut is = is
@@ -156,7 +156,7 @@ may-not mark level set is =
     let second = either-false (set 40) (set 41) first.0 in
     record { opening = second.0; closing = second.1; none = first.1 }
 
-cut-any : (mark : ℕ) (set : Bytes) (level : ℕ) → MayNot mark level set → (cutting : Cutting) (front rest : List ℕ) → Within set front
+cut-any : (mark : ℕ) (set : Bytes) (level : ℕ) → MayNot mark level set → (cutting : CuttingOf) (front rest : List ℕ) → Within set front
     → ((before : List ℕ) → level_of before ≡ level → IsCutLater before cutting (cut_after (stands_outside mark) before rest))
     → (before : List ℕ) → level_of before ≡ level → IsCutLater before (with_piece (AnyOf set) cutting) (cut_after (stands_outside mark) before (front ++ rest))
 cut-any mark set level not cutting [] rest within later before at = later-any before set cutting _ (later before at)
@@ -167,7 +167,7 @@ cut-any mark set level not cutting (byte ∷ front) rest within later before at 
     (cut-any mark set level not cutting front rest within.1 later (before ++ byte ∷ [])
     (level_of-push before byte ∙ (ap (λ l. next_level l byte) at ∙ same_level set byte level not.opening not.closing within.0))))
 
-cut-from : (mark : ℕ) (pieces : List Piece) (text before : List ℕ) (level : ℕ) → level_of before ≡ level → Fits pieces text
+cut-from : (mark : ℕ) (pieces : List PieceOf) (text before : List ℕ) (level : ℕ) → level_of before ≡ level → Fits pieces text
     → IsCutLater before (cut_level mark level pieces) (cut_after (stands_outside mark) before text)
 unfolding Fits
 cut-from mark [] text before level at fits = subst (λ t. IsCutLater before Nowhere (cut_after (stands_outside mark) before t)) (sym fits) refl
@@ -209,11 +209,11 @@ cut-from mark (AnyOf set ∷ pieces) text before level at fits =
     by false is later = cut-any mark set level (may-not mark level set is) (cut_level mark level pieces) fits.0.0 fits.0.1 fits.2 later before at
 
 -- a text is cut at the first such byte of level 0 where its pieces are
-pub cut-level : (mark : ℕ) (pieces : List Piece) (text : List ℕ) → Fits pieces text → IsCutAs (cut_level mark 0 pieces) (cut_outside mark text)
+pub cut-level : (mark : ℕ) (pieces : List PieceOf) (text : List ℕ) → Fits pieces text → IsCutAs (cut_level mark 0 pieces) (cut_outside mark text)
 unfolding cut_outside
 cut-level mark pieces text fits = by (cut_level mark 0 pieces) (cut_after (stands_outside mark) [] text) (cut-from mark pieces text [] 0 refl fits)
   where
-    by : (cutting : Cutting) (cut : Option (List ℕ × List ℕ)) → IsCutLater [] cutting cut → IsCutAs cutting cut
+    by : (cutting : CuttingOf) (cut : Option (List ℕ × List ℕ)) → IsCutLater [] cutting cut → IsCutAs cutting cut
     by Nowhere cut is = is
     by Unsure cut is = tt
     by (At front rest) None is = is

@@ -1,10 +1,10 @@
 -- Texts that end like their shapes.
 use Rattle.std.proofs.Common.{◌≡◌, ℕ, List, [], ◌∷◌, ◌++◌, length, sym, ap, ◌∙◌, arith}
 use Rattle.std.proofs.lemmas.List.{append_assoc, length-append}
-use Rattle.dp_pieces.specs.Pieces.{AnyOf, Fits, Known, OneOf, Piece}
+use Rattle.dp_pieces.specs.Pieces.{AnyOf, Fits, Known, OneOf, PieceOf}
 
 -- a text of pieces that end with a known byte ends with that byte
-pub fits-last : (front : List Piece) (byte : ℕ) (text : List ℕ) → Fits (front ++ Known byte ∷ []) text → (before : List ℕ) × (text ≡ before ++ byte ∷ [])
+pub fits-last : (front : List PieceOf) (byte : ℕ) (text : List ℕ) → Fits (front ++ Known byte ∷ []) text → (before : List ℕ) × (text ≡ before ++ byte ∷ [])
 unfolding Fits
 fits-last [] byte text fits = ([], fits.1 ∙ ap (λ (t : List ℕ). byte ∷ t) fits.2)
 fits-last (Known b ∷ front) byte text fits =

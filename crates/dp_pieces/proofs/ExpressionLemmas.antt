@@ -10,16 +10,16 @@ use Rattle.std.specs.Ordering.{is_lt, is_eq, is_gt, is_le, is_ge, is_ne}
 use Rattle.dp_expr.specs.Expression.{expression_value}
 use Rattle.dp_expr.specs.Ascii.{exclamation, quote, percent, ampersand, opening_parenthesis, closing_parenthesis, asterisk, plus_sign, minus_sign, slash, less_sign, equals_sign, more_sign, bar}
 use Rattle.dp_expr.specs.Numbers.{decimal_text, in_range, number_of}
-use Rattle.dp_expr.specs.Tokens.{Token, Operand, Sign, Bang, Opening, Closing, Stray, Cut, begin_token, begins_with, cut_at, is_blank, is_word_byte, longest, mark_cut, quoted_cut, quoted_size, single, tokens_after, tokens_of, word_size}
+use Rattle.dp_expr.specs.Tokens.{TokenOf, Operand, Sign, Bang, Opening, Closing, Stray, Cut, begin_token, begins_with, cut_at, is_blank, is_word_byte, longest, mark_cut, quoted_cut, quoted_size, single, tokens_after, tokens_of, word_size}
 use Rattle.dp_expr.specs.Values.{Outcome, answer, both, either as either_text, is_false, negation, order_of, result_of, result_text, text_between, truth, value_before, value_between}
-use Rattle.dp_expr.specs.Walk.{Frame, Left, Front, Paren, State, Wanting, Holding, Failed, closing, ending, entry, is_due, nesting, prefix_entry, reduction, step, values, walk, whole}
+use Rattle.dp_expr.specs.Walk.{FrameOf, Left, Front, Paren, State, Wanting, Holding, Failed, closing, ending, entry, is_due, nesting, prefix_entry, reduction, step, values, walk, whole}
 use Rattle.dp_expr.specs.Trees.{level_of, most_depth}
 use Rattle.dp_pieces.specs.Bytes.{Bytes, Within, either, numeric}
 use Rattle.dp_pieces.proofs.NumeralLemmas.{within-signed}
 use Rattle.dp_pieces.proofs.WithinLemmas.{part-left, part-right, within-more, within-take}
 
 -- the bytes of each operand are in the set
-IsFrom : Bytes → Token → Type 0
+IsFrom : Bytes → TokenOf → Type 0
 IsFrom set (Operand bytes) = Within set bytes
 IsFrom set (Sign operator) = Unit {0}
 IsFrom set Bang = Unit {0}
@@ -27,7 +27,7 @@ IsFrom set Opening = Unit {0}
 IsFrom set Closing = Unit {0}
 IsFrom set Stray = Unit {0}
 
-AreFrom : Bytes → List Token → Type 0
+AreFrom : Bytes → List TokenOf → Type 0
 AreFrom set [] = Unit {0}
 AreFrom set (token ∷ tokens) = IsFrom set token × AreFrom set tokens
 
@@ -36,7 +36,7 @@ record IsCutFrom (set : Bytes) (cut : Cut) : Type 0 where
   token : IsFrom set cut.token
 
 module _ (set : Bytes) where
-  from-longest : (test : Bool) (operator : Operator) (short : Token) → IsFrom set short → IsCutFrom set (longest test (Sign operator) short)
+  from-longest : (test : Bool) (operator : Operator) (short : TokenOf) → IsFrom set short → IsCutFrom set (longest test (Sign operator) short)
   unfolding IsFrom
   from-longest true operator short is = record { token = tt }
   from-longest false operator short is = record { token = is }
@@ -59,7 +59,7 @@ module _ (set : Bytes) where
       by true rest = all.0
       by false rest = rest
 
-  from-token : (token : Token) → IsFrom set token → IsCutFrom set (single token)
+  from-token : (token : TokenOf) → IsFrom set token → IsCutFrom set (single token)
   from-token token is = record { token = is }
 
   from-mark : (b : ℕ) (bytes : List ℕ) → IsCutFrom set (mark_cut b bytes)
@@ -202,7 +202,7 @@ module _ (set : Bytes) (numbers : (byte : ℕ) → numeric byte ≡ true → set
   valued-before Not (Some a) = within-truth (is_false a)
 
   -- the frames that wait for an operand, and the state of a walk
-  AreValued : List (Frame Outcome) → Type 0
+  AreValued : List (FrameOf Outcome) → Type 0
   AreValued [] = Unit {0}
   AreValued (Left operator left ∷ frames) = IsValued set left × AreValued frames
   AreValued (Front prefix ∷ frames) = AreValued frames
@@ -213,7 +213,7 @@ module _ (set : Bytes) (numbers : (byte : ℕ) → numeric byte ≡ true → set
   IsValuedState (Holding frames x) = AreValued frames × IsValued set x
   IsValuedState Failed = Unit {0}
 
-  valued-reduction : (level : ℕ) (frames : List (Frame Outcome)) (x : Outcome) → AreValued frames → IsValued set x
+  valued-reduction : (level : ℕ) (frames : List (FrameOf Outcome)) (x : Outcome) → AreValued frames → IsValued set x
       → AreValued (reduction values level frames x).frames × IsValued set (reduction values level frames x).value
   unfolding reduction AreValued
   valued-reduction level [] x all is = (tt, is)
@@ -228,7 +228,7 @@ module _ (set : Bytes) (numbers : (byte : ℕ) → numeric byte ≡ true → set
   valued-reduction level (Front prefix ∷ frames) x all is = valued-reduction level frames (value_before prefix x) all (valued-before prefix x)
   valued-reduction level (Paren ∷ frames) x all is = (all, is)
 
-  valued-entry : (frame : Frame Outcome) (frames : List (Frame Outcome)) → AreValued (frame ∷ frames) → IsValuedState (entry frame frames)
+  valued-entry : (frame : FrameOf Outcome) (frames : List (FrameOf Outcome)) → AreValued (frame ∷ frames) → IsValuedState (entry frame frames)
   unfolding IsValuedState
   valued-entry frame frames all = by (nat_lt (nesting frames) most_depth)
     where
@@ -236,7 +236,7 @@ module _ (set : Bytes) (numbers : (byte : ℕ) → numeric byte ≡ true → set
       by true = all
       by false = tt
 
-  valued-prefix : (operator : Operator) (frames : List (Frame Outcome)) → AreValued frames → IsValuedState (prefix_entry operator frames)
+  valued-prefix : (operator : Operator) (frames : List (FrameOf Outcome)) → AreValued frames → IsValuedState (prefix_entry operator frames)
   unfolding IsValuedState AreValued
   valued-prefix Or frames all = tt
   valued-prefix And frames all = tt
@@ -252,14 +252,14 @@ module _ (set : Bytes) (numbers : (byte : ℕ) → numeric byte ≡ true → set
   valued-prefix Over frames all = tt
   valued-prefix Remainder frames all = tt
 
-  valued-closing : (frames : List (Frame Outcome)) (x : Outcome) → AreValued frames → IsValued set x → IsValuedState (closing values frames x)
+  valued-closing : (frames : List (FrameOf Outcome)) (x : Outcome) → AreValued frames → IsValued set x → IsValuedState (closing values frames x)
   unfolding IsValuedState AreValued
   valued-closing [] x all is = tt
   valued-closing (Left operator left ∷ frames) x all is = tt
   valued-closing (Front prefix ∷ frames) x all is = tt
   valued-closing (Paren ∷ frames) x all is = (all, is)
 
-  valued-step : (state : State Outcome) (token : Token) → IsValuedState state → IsFrom set token → IsValuedState (step values state token)
+  valued-step : (state : State Outcome) (token : TokenOf) → IsValuedState state → IsFrom set token → IsValuedState (step values state token)
   unfolding step IsValuedState AreValued IsFrom IsValued
   valued-step (Wanting frames) (Operand bytes) all from = (all, from)
   valued-step (Wanting frames) (Sign operator) all from = valued-prefix operator frames all
@@ -277,13 +277,13 @@ module _ (set : Bytes) (numbers : (byte : ℕ) → numeric byte ≡ true → set
   valued-step Failed token all from = tt
 
   -- the result of a walk
-  valued-whole : (frames : List (Frame Outcome)) (x : Outcome) → IsValued set x → Within set (answer (unwrap_or (whole frames x) None))
+  valued-whole : (frames : List (FrameOf Outcome)) (x : Outcome) → IsValued set x → Within set (answer (unwrap_or (whole frames x) None))
   unfolding IsValued
   valued-whole [] None is = tt
   valued-whole [] (Some text) is = is
   valued-whole (frame ∷ frames) x is = tt
 
-  valued-walk : (tokens : List Token) (state : State Outcome) → IsValuedState state → AreFrom set tokens → Within set (answer (unwrap_or (walk values state tokens) None))
+  valued-walk : (tokens : List TokenOf) (state : State Outcome) → IsValuedState state → AreFrom set tokens → Within set (answer (unwrap_or (walk values state tokens) None))
   unfolding walk ending IsValuedState AreFrom
   valued-walk [] (Wanting frames) all from = tt
   valued-walk [] (Holding frames x) all from =

@@ -8,7 +8,7 @@ use Rattle.dp_vars.specs.declared.part.Selection.{Selection}
 use Rattle.dp_vars.specs.declared.part.Selection.TheVariants.{Whole, Part, Nothing}
 use Rattle.dp_pieces.specs.Bytes.{Bytes, IsPart, Within}
 use Rattle.dp_pieces.specs.Names.{part_pieces}
-use Rattle.dp_pieces.specs.Pieces.{AnyOf, Fits, Known, OneOf, Piece, exactly, front, text_known, any_bytes_of, piece_set, pieces_set, without}
+use Rattle.dp_pieces.specs.Pieces.{AnyOf, Fits, Known, OneOf, PieceOf, exactly, front, text_known, any_bytes_of, piece_set, pieces_set, without}
 use Rattle.dp_pieces.proofs.WithinLemmas.{either-left, either-right, within-append, within-drop, within-more, within-part, within-take}
 
 -- nothing
@@ -28,7 +28,7 @@ fits-exactly [] = refl
 fits-exactly (byte ∷ text) = (text, refl, fits-exactly text)
 
 -- one text after another
-pub fits-append : (pieces more : List Piece) (text rest : List ℕ) → Fits pieces text → Fits more rest → Fits (pieces ++ more) (text ++ rest)
+pub fits-append : (pieces more : List PieceOf) (text rest : List ℕ) → Fits pieces text → Fits more rest → Fits (pieces ++ more) (text ++ rest)
 unfolding Fits
 fits-append [] more text rest fits later = subst (λ t. Fits more (t ++ rest)) (sym fits) later
 fits-append (Known byte ∷ pieces) more text rest fits later = (fits.0 ++ rest, ap (λ t. t ++ rest) fits.1, fits-append pieces more fits.0 rest fits.2 later)
@@ -38,7 +38,7 @@ fits-append (AnyOf set ∷ pieces) more text rest fits later =
     ((fits.0.0, fits.0.1 ++ rest), ap (λ t. t ++ rest) fits.1 ∙ append_assoc fits.0.0 fits.0.1 rest, fits.2, fits-append pieces more fits.0.1 rest fits.3 later)
 
 -- pieces that are all known
-pub fits-text_known : (pieces : List Piece) (text bytes : List ℕ) → text_known pieces ≡ Some bytes → Fits pieces text → text ≡ bytes
+pub fits-text_known : (pieces : List PieceOf) (text bytes : List ℕ) → text_known pieces ≡ Some bytes → Fits pieces text → text ≡ bytes
 unfolding Fits
 fits-text_known [] text bytes is fits = fits ∙ (cc)
 fits-text_known (Known byte ∷ pieces) text bytes is fits = by (text_known pieces) refl (λ bs from. fits-text_known pieces fits.0 bs from fits.2) is
@@ -51,11 +51,11 @@ fits-text_known (OneOf set ∷ pieces) text bytes is fits = absurd cc
 fits-text_known (AnyOf set ∷ pieces) text bytes is fits = absurd cc
 
 -- the bytes after the first piece are among those of all pieces
-pub later-part : (piece : Piece) (pieces : List Piece) → IsPart (pieces_set pieces) (pieces_set (piece ∷ pieces))
+pub later-part : (piece : PieceOf) (pieces : List PieceOf) → IsPart (pieces_set pieces) (pieces_set (piece ∷ pieces))
 unfolding pieces_set
 later-part piece pieces byte is = either-right (piece_set piece byte) (pieces_set pieces byte) is
 
-pub first-part : (piece : Piece) (pieces : List Piece) → IsPart (piece_set piece) (pieces_set (piece ∷ pieces))
+pub first-part : (piece : PieceOf) (pieces : List PieceOf) → IsPart (piece_set piece) (pieces_set (piece ∷ pieces))
 unfolding pieces_set
 first-part piece pieces byte is = either-left (piece_set piece byte) (pieces_set pieces byte) is
 
@@ -69,7 +69,7 @@ any_bytes_of-part set byte is = by (set byte) is
     by false e = e
 
 -- the bytes of a text that fits
-pub fits-set : (pieces : List Piece) (text : List ℕ) → Fits pieces text → Within (pieces_set pieces) text
+pub fits-set : (pieces : List PieceOf) (text : List ℕ) → Fits pieces text → Within (pieces_set pieces) text
 unfolding Fits
 fits-set [] text fits = subst (Within (pieces_set [])) (sym fits) tt
 fits-set (Known byte ∷ pieces) text fits =
@@ -89,11 +89,11 @@ fits-set (AnyOf set ∷ pieces) text fits =
     (within-more (pieces_set pieces) (pieces_set (AnyOf set ∷ pieces)) (later-part (AnyOf set) pieces) fits.0.1 (fits-set pieces fits.0.1 fits.3)))
 
 -- a text fits any number of bytes of its pieces
-pub fits-loosely : (pieces : List Piece) (text : List ℕ) → Fits pieces text → Fits (any_bytes_of (pieces_set pieces)) text
+pub fits-loosely : (pieces : List PieceOf) (text : List ℕ) → Fits pieces text → Fits (any_bytes_of (pieces_set pieces)) text
 fits-loosely pieces text fits = fits-any_bytes_of (pieces_set pieces) text (fits-set pieces text fits)
 
 -- a text without its first bytes
-pub fits-without : (count : ℕ) (pieces : List Piece) (text : List ℕ) → Fits pieces text → Fits (without count pieces) (drop count text)
+pub fits-without : (count : ℕ) (pieces : List PieceOf) (text : List ℕ) → Fits pieces text → Fits (without count pieces) (drop count text)
 unfolding Fits
 fits-without zero pieces text fits = fits
 fits-without (suc count) [] text fits = subst (λ t. Fits [] (drop (suc count) t)) (sym fits) refl
@@ -106,7 +106,7 @@ fits-without (suc count) (AnyOf set ∷ pieces) text fits =
     (within-drop (pieces_set (AnyOf set ∷ pieces)) (suc count) text (fits-set (AnyOf set ∷ pieces) text fits))
 
 -- the first bytes of a text
-pub fits-front : (count : ℕ) (pieces : List Piece) (text : List ℕ) → Fits pieces text → Fits (front count pieces) (take count text)
+pub fits-front : (count : ℕ) (pieces : List PieceOf) (text : List ℕ) → Fits pieces text → Fits (front count pieces) (take count text)
 unfolding Fits
 fits-front zero pieces text fits = refl
 fits-front (suc count) [] text fits = subst (λ t. Fits [] (take (suc count) t)) (sym fits) refl
@@ -138,7 +138,7 @@ part-some count size text =
     ∙ (take_min size (drop (min count (length text)) text) ∙ ap (take size) (drop-min count text))
 
 -- the requested part of a text
-pub fits-part : (asked : Selection) (pieces : List Piece) (text : List ℕ) → Fits pieces text → Fits (part_pieces asked pieces) (part asked text)
+pub fits-part : (asked : Selection) (pieces : List PieceOf) (text : List ℕ) → Fits pieces text → Fits (part_pieces asked pieces) (part asked text)
 fits-part Whole pieces text fits = fits
 fits-part (Part (Ahead offset) None) pieces text fits = subst (Fits (without offset pieces)) (sym (part-rest offset text)) (fits-without offset pieces text fits)
 fits-part (Part (Ahead offset) (Some (Ahead size))) pieces text fits =

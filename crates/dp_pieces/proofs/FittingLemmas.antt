@@ -1,12 +1,12 @@
 -- Texts that fit pieces, byte by byte.
 use Rattle.std.proofs.Common.{◌≡◌, ℕ, true, false, List, [], ◌∷◌, eq-eqb, length, arith, refl, ap, subst}
-use Rattle.dp_pieces.specs.Pieces.{AnyOf, Fits, Known, OneOf, Piece, piece_set}
+use Rattle.dp_pieces.specs.Pieces.{AnyOf, Fits, Known, OneOf, PieceOf, piece_set}
 use Rattle.dp_pieces.specs.ShapeSteps.{is_any}
 use Rattle.dp_pieces.specs.Shown.{shown_piece, shown_all}
 use Rattle.dp_pieces.specs.declared.piece.Piece.{Piece as KeptPiece}
 
 -- the first byte of a text, if the first piece has one byte
-byte-fits : (piece : Piece) (later : List Piece) (byte : ℕ) (after : List ℕ) → is_any piece ≡ false → Fits (piece ∷ later) (byte ∷ after)
+byte-fits : (piece : PieceOf) (later : List PieceOf) (byte : ℕ) (after : List ℕ) → is_any piece ≡ false → Fits (piece ∷ later) (byte ∷ after)
     → (piece_set piece byte ≡ true) × Fits later after
 unfolding Fits
 byte-fits (Known only) later byte after one fits =
@@ -27,7 +27,7 @@ no-items [] is = refl
 no-items (x ∷ xs) is = absurd (omega (arith, is))
 
 -- the empty text has no first byte
-none-fits : (piece : Piece) (later : List Piece) → is_any piece ≡ false → Fits (piece ∷ later) [] → ⊥
+none-fits : (piece : PieceOf) (later : List PieceOf) → is_any piece ≡ false → Fits (piece ∷ later) [] → ⊥
 unfolding Fits
 none-fits (Known only) later one fits = let no : [] ≡ only ∷ fits.0 = fits.1 in let bottom : ⊥ = cc in bottom
 none-fits (OneOf set) later one fits = let no : [] ≡ fits.0.0 ∷ fits.0.1 = fits.1 in let bottom : ⊥ = cc in bottom

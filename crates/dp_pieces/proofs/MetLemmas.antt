@@ -10,7 +10,7 @@ use Rattle.dp_pattern.specs.declared.tail.Tail.{Tail}
 use Rattle.dp_pattern.specs.declared.tail.Tail.TheVariants.{End, Dot, Bang}
 use Rattle.dp_pieces.specs.Bytes.{Bytes, IsPart, Within, both}
 use Rattle.dp_pieces.specs.Met.{after_match, after_meeting, met_classes, met_tail}
-use Rattle.dp_pieces.specs.Pieces.{AnyOf, Fits, Known, OneOf, Piece, bytes_in, exactly, any_bytes_of, piece_set, pieces_set}
+use Rattle.dp_pieces.specs.Pieces.{AnyOf, Fits, Known, OneOf, PieceOf, bytes_in, exactly, any_bytes_of, piece_set, pieces_set}
 use Rattle.dp_pieces.proofs.FitsLemmas.{first-part, fits-exactly, fits-any_bytes_of, fits-set, later-part, any_bytes_of-part}
 use Rattle.dp_pieces.proofs.WithinLemmas.{either-left, either-right}
 
@@ -24,7 +24,7 @@ in-both : (a b : Bytes) (byte : ℕ) → a byte ≡ true → b byte ≡ true →
 in-both a b byte x y = ap (λ t. t && b byte) x ∙ y
 
 -- after the classes
-fits-tail : (pieces : List Piece) (tail : Tail) (text rest : List ℕ) → text ≡ rest → FitsTail tail rest → Fits pieces text → Fits (met_tail pieces tail) text
+fits-tail : (pieces : List PieceOf) (tail : Tail) (text rest : List ℕ) → text ≡ rest → FitsTail tail rest → Fits pieces text → Fits (met_tail pieces tail) text
 unfolding Fits
 fits-tail pieces End text rest is ending fits = is ∙ ending
 fits-tail pieces Dot text rest is ending fits = fits
@@ -34,7 +34,7 @@ fits-tail pieces Bang text rest is ending fits = fits
 heads : (a b : ℕ) (x y : List ℕ) → a ∷ x ≡ b ∷ y → (a ≡ b) × (x ≡ y)
 heads a b x y is = (cc, cc)
 
-fits-classes : (pieces : List Piece) (classes : List (List ℕ)) (tail : Tail) (text begin rest : List ℕ) → text ≡ begin ++ rest → AllZip Contains classes begin → FitsTail tail rest
+fits-classes : (pieces : List PieceOf) (classes : List (List ℕ)) (tail : Tail) (text begin rest : List ℕ) → text ≡ begin ++ rest → AllZip Contains classes begin → FitsTail tail rest
     → Fits pieces text → Fits (met_classes pieces classes tail) text
 unfolding Fits
 fits-classes pieces [] tail text [] rest whole zip ending fits = fits-tail pieces tail text rest whole ending fits
@@ -61,7 +61,7 @@ fits-classes (AnyOf set ∷ pieces) (class ∷ classes) tail text (byte ∷ begi
           (fits-any_bytes_of (pieces_set (AnyOf set ∷ pieces)) (begin ++ rest) within.1),
     )
 
-fits-after_meeting : (pieces : List Piece) (name : Meaning) (text : List ℕ) → without_dashes text ≡ text → Fits pieces text → Matches name text → Fits (after_meeting pieces name) text
+fits-after_meeting : (pieces : List PieceOf) (name : Meaning) (text : List ℕ) → without_dashes text ≡ text → Fits pieces text → Matches name text → Fits (after_meeting pieces name) text
 unfolding Matches
 fits-after_meeting pieces (Plain plain) text clean fits matching = subst (Fits (exactly plain)) (sym matching ∙ clean) (fits-exactly plain)
 fits-after_meeting pieces (Pattern classes tail) text clean fits matching =
@@ -77,7 +77,7 @@ no-dashes set (byte ∷ text) lacks within = by (is_dash byte) refl (no-dashes s
     by false is rest = ap (λ t. byte ∷ t) rest
 
 -- an extension that matches a name
-pub fits-after_match : (pieces : List Piece) (name : Meaning) (text : List ℕ) → Fits pieces text → Matches name text → Fits (after_match pieces name) text
+pub fits-after_match : (pieces : List PieceOf) (name : Meaning) (text : List ℕ) → Fits pieces text → Matches name text → Fits (after_match pieces name) text
 fits-after_match pieces name text fits matching = by (pieces_set pieces 45) refl
   where
     by : (dashed : Bool) → pieces_set pieces 45 ≡ dashed → Fits (if dashed then pieces else after_meeting pieces name) text
@@ -85,7 +85,7 @@ fits-after_match pieces name text fits matching = by (pieces_set pieces 45) refl
     by false is = fits-after_meeting pieces name text (no-dashes (pieces_set pieces) text is (fits-set pieces text fits)) fits matching
 
 -- the bytes of the pieces after the first, and those of the first
-part-cons : (a b : Piece) (xs ys : List Piece) → IsPart (piece_set a) (pieces_set (b ∷ ys)) → IsPart (pieces_set xs) (pieces_set (b ∷ ys)) → IsPart (pieces_set (a ∷ xs)) (pieces_set (b ∷ ys))
+part-cons : (a b : PieceOf) (xs ys : List PieceOf) → IsPart (piece_set a) (pieces_set (b ∷ ys)) → IsPart (pieces_set xs) (pieces_set (b ∷ ys)) → IsPart (pieces_set (a ∷ xs)) (pieces_set (b ∷ ys))
 unfolding pieces_set
 part-cons a b xs ys first rest byte is = by (piece_set a byte) refl is
   where
@@ -107,13 +107,13 @@ nothing-part : (set : Bytes) → IsPart (pieces_set []) set
 unfolding pieces_set
 nothing-part set byte is = absurd cc
 
-tail-part : (pieces : List Piece) (tail : Tail) → IsPart (pieces_set (met_tail pieces tail)) (pieces_set pieces)
+tail-part : (pieces : List PieceOf) (tail : Tail) → IsPart (pieces_set (met_tail pieces tail)) (pieces_set pieces)
 tail-part pieces End = nothing-part (pieces_set pieces)
 tail-part pieces Dot = λ byte is. is
 tail-part pieces Bang = λ byte is. is
 
 -- what is met with classes has no other bytes
-classes-part : (pieces : List Piece) (classes : List (List ℕ)) (tail : Tail) → IsPart (pieces_set (met_classes pieces classes tail)) (pieces_set pieces)
+classes-part : (pieces : List PieceOf) (classes : List (List ℕ)) (tail : Tail) → IsPart (pieces_set (met_classes pieces classes tail)) (pieces_set pieces)
 classes-part pieces [] tail = tail-part pieces tail
 classes-part [] (class ∷ classes) tail = λ byte is. is
 classes-part (Known known ∷ pieces) (class ∷ classes) tail =
@@ -140,7 +140,7 @@ exactly-part set (b ∷ text) within byte is = by (byte == b) refl (exactly-part
     by false other rest has = rest has
 
 -- and what is met with a matching name has no other bytes
-pub part-after_match : (pieces : List Piece) (name : Meaning) (text : List ℕ) → Fits pieces text → Matches name text → IsPart (pieces_set (after_match pieces name)) (pieces_set pieces)
+pub part-after_match : (pieces : List PieceOf) (name : Meaning) (text : List ℕ) → Fits pieces text → Matches name text → IsPart (pieces_set (after_match pieces name)) (pieces_set pieces)
 unfolding Matches
 part-after_match pieces name text fits matching = by (pieces_set pieces 45) refl name matching
   where

@@ -7,7 +7,7 @@ use Rattle.dp_conf.specs.Groups.{opener}
 use Rattle.dp_conf.specs.GroupsRead.{levels, reading_of, with_mark}
 use Rattle.dp_pieces.specs.Pieces.{Known}
 use Rattle.dp_pieces.specs.Texts.{GroupMeaning, pieces_by}
-use Rattle.dp_pieces.specs.steps.Reader.{Open, Read, after, after_group, kinds_of, with_group}
+use Rattle.dp_pieces.specs.steps.Reader.{OpenOf, Read, after, after_group, kinds_of, with_group}
 use Rattle.dp_pieces.specs.steps.ReadSoFar.{StandIn}
 use Rattle.dp_pieces.proofs.ReaderLemmas.{come, come-mark, come-over, come-text}
 
@@ -15,14 +15,14 @@ pub record IsOnWay (groups : GroupMeaning) (text : List ℕ) (read : Read) (rest
   pub comes : come groups read.waiting read.pieces (levels rest (kinds_of read.waiting) 0) ≡ pieces_by groups (reading_of text)
   pub stands : StandIn read.waiting (length read.pieces)
 
-stand-more : (waiting : List Open) (size more : ℕ) → size ≤ more → StandIn waiting size → StandIn waiting more
+stand-more : (waiting : List OpenOf) (size more : ℕ) → size ≤ more → StandIn waiting size → StandIn waiting more
 stand-more [] size more larger stand = tt
 stand-more (w ∷ waiting) size more larger stand = (omega (arith, stand.0), stand.1)
 
 stand-after : (groups : GroupMeaning) (m : Mark) (read : Read) → StandIn read.waiting (length read.pieces) → StandIn (after groups m read).waiting (length (after groups m read).pieces)
 stand-after groups End read stand = by read.waiting stand
   where
-    by : (ws : List Open) → StandIn ws (length read.pieces) → StandIn (after_group groups ws read.pieces).waiting (length (after_group groups ws read.pieces).pieces)
+    by : (ws : List OpenOf) → StandIn ws (length read.pieces) → StandIn (after_group groups ws read.pieces).waiting (length (after_group groups ws read.pieces).pieces)
     by [] stand = tt
     by (w ∷ ws) stand =
         stand-more ws w.start (length (with_group groups w read.pieces))

@@ -4,14 +4,14 @@ use Rattle.std.proofs.lemmas.List.{map-append}
 use Rattle.std.specs.Borrow.{Bor}
 use Rattle.std.specs.Prelude.{IfSome, MatchOption}
 use Rattle.dp_pieces.specs.Arguments.{split_pieces}
-use Rattle.dp_pieces.specs.Pieces.{Piece, front, any_bytes_of, pieces_set}
+use Rattle.dp_pieces.specs.Pieces.{PieceOf, front, any_bytes_of, pieces_set}
 use Rattle.dp_pieces.specs.Shown.{shown_piece, shown_all}
 use Rattle.dp_pieces.specs.Trimmed.{without_end_blanks}
 use Rattle.dp_pieces.specs.declared.byte_set.ByteSet.{ByteSet}
 use Rattle.dp_pieces.specs.declared.piece.Piece.{Piece as KeptPiece}
 use Rattle.dp_pieces.specs.declared.piece.Piece.TheVariants.{Known as kept_known, OneOf as kept_one, AnyOf as kept_any}
 
-abbrev pub parts_left : Option (Bor (List KeptPiece)) → List (List Piece)
+abbrev pub parts_left : Option (Bor (List KeptPiece)) → List (List PieceOf)
 parts_left None = []
 parts_left (Some left) = split_pieces 0 (shown_all left.now)
 
@@ -51,7 +51,7 @@ front-any (suc count) left rest first set is any some =
     let whole : left ≡ kept_any set ∷ rest = is ∙ ap (λ (f : KeptPiece). f ∷ rest) any in
     ap (λ ps. any_bytes_of (pieces_set (shown_all ps))) whole ∙ sym (ap (λ ps. front (suc count) (shown_all ps)) whole)
 
-front-one : (count : ℕ) (first : KeptPiece) (rest : List Piece) → ((set : ByteSet) → first ≡ kept_any set → ⊥) → front (suc count) (shown_piece first ∷ rest) ≡ shown_piece first ∷ front count rest
+front-one : (count : ℕ) (first : KeptPiece) (rest : List PieceOf) → ((set : ByteSet) → first ≡ kept_any set → ⊥) → front (suc count) (shown_piece first ∷ rest) ≡ shown_piece first ∷ front count rest
 front-one count (kept_known byte) rest not = refl
 front-one count (kept_one set) rest not = refl
 front-one count (kept_any set) rest not = absurd (not set refl)

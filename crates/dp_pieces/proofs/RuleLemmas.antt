@@ -9,8 +9,8 @@ use Rattle.dp_pieces.specs.Arguments.{are_clean, split_pieces}
 use Rattle.dp_pieces.proofs.ArgumentLemmas.{and-both}
 use Rattle.dp_conf.specs.Levels.{next_level}
 use Rattle.dp_pieces.specs.Bytes.{Bytes}
-use Rattle.dp_pieces.specs.Cuts.{At, Cutting, Nowhere, Unsure, cut_known, cut_last, cut_level, cut_pieces, last_known, last_unknown, may_cut, with_byte, with_piece}
-use Rattle.dp_pieces.specs.Pieces.{AnyOf, Known, OneOf, Piece, byte_of, exactly}
+use Rattle.dp_pieces.specs.Cuts.{At, CuttingOf, Nowhere, Unsure, cut_known, cut_last, cut_level, cut_pieces, last_known, last_unknown, may_cut, with_byte, with_piece}
+use Rattle.dp_pieces.specs.Pieces.{AnyOf, Known, OneOf, PieceOf, byte_of, exactly}
 use Rattle.dp_pieces.specs.Shown.{shown_piece, shown_all}
 use Rattle.dp_pieces.specs.declared.cuts.Rule.{Rule}
 use Rattle.dp_pieces.specs.declared.cuts.Rule.TheVariants.{First, Outside, Comma}
@@ -20,7 +20,7 @@ use Rattle.dp_pieces.specs.declared.piece.Piece.{Piece as KeptPiece}
 use Rattle.dp_pieces.specs.steps.Stands.{cut_by, cut_rule, is_clean_piece, level_after, stand_of}
 
 -- one piece opens at most one level
-pub level-bound : (level at : ℕ) (piece : Piece) → level ≤ at → level_after level piece ≤ at + 1
+pub level-bound : (level at : ℕ) (piece : PieceOf) → level ≤ at → level_after level piece ≤ at + 1
 level-bound level at (Known byte) is = by (byte == 40) (byte == 41)
   where
     by : (opens closes : Bool) → (if opens then level + 1 else if closes then level - 1 else level) ≤ at + 1
@@ -41,24 +41,24 @@ pub parts-at : (at : ℕ) (pieces : List KeptPiece)
 parts-at at pieces = λ i. At (sym (take-map shown_piece at pieces) i) (sym (rest-at at pieces) i)
 
 -- pieces before a cut
-abbrev pub before : List Piece → Cutting → Cutting
+abbrev pub before : List PieceOf → CuttingOf → CuttingOf
 before [] cutting = cutting
 before (piece ∷ pieces) cutting = with_piece piece (before pieces cutting)
 
-pub before-nowhere : (pieces : List Piece) → before pieces Nowhere ≡ Nowhere
+pub before-nowhere : (pieces : List PieceOf) → before pieces Nowhere ≡ Nowhere
 before-nowhere [] = refl
 before-nowhere (piece ∷ pieces) = ap (with_piece piece) (before-nowhere pieces)
 
-pub before-unsure : (pieces : List Piece) → before pieces Unsure ≡ Unsure
+pub before-unsure : (pieces : List PieceOf) → before pieces Unsure ≡ Unsure
 before-unsure [] = refl
 before-unsure (piece ∷ pieces) = ap (with_piece piece) (before-unsure pieces)
 
-pub before-at : (pieces rest : List Piece) → before pieces (At [] rest) ≡ At pieces rest
+pub before-at : (pieces rest : List PieceOf) → before pieces (At [] rest) ≡ At pieces rest
 before-at [] rest = refl
 before-at (piece ∷ pieces) rest = ap (with_piece piece) (before-at pieces rest)
 
 -- the cut of all pieces, given the cut from a place on
-abbrev pub cut_from : Rule → ℕ → ℕ → List KeptPiece → Cutting
+abbrev pub cut_from : Rule → ℕ → ℕ → List KeptPiece → CuttingOf
 cut_from rule level at pieces = before (take at (shown_all pieces)) (cut_rule rule level (drop at (shown_all pieces)))
 
 -- a piece at a place
@@ -70,7 +70,7 @@ cut_from-piece rule level zero (p ∷ pieces) piece below is =
     ap (λ (x : KeptPiece). cut_by (stand_of rule level (shown_piece x)) (shown_piece x) (shown_all pieces) (cut_rule rule (level_after level (shown_piece x)) (shown_all pieces))) (sym is)
 cut_from-piece rule level (suc at) (p ∷ pieces) piece below is = ap (with_piece (shown_piece p)) (cut_from-piece rule level at pieces piece (omega (arith, below)) is)
 
-before-push : (pieces : List KeptPiece) (at : ℕ) (piece : KeptPiece) (cutting : Cutting) → at < length pieces → piece ≡ slice_index_or pieces at piece
+before-push : (pieces : List KeptPiece) (at : ℕ) (piece : KeptPiece) (cutting : CuttingOf) → at < length pieces → piece ≡ slice_index_or pieces at piece
     → before (take at (shown_all pieces)) (with_piece (shown_piece piece) cutting) ≡ before (take (suc at) (shown_all pieces)) cutting
 before-push [] at piece cutting below is = absurd (omega (arith, below))
 before-push (p ∷ pieces) zero piece cutting below is = ap (λ (x : KeptPiece). with_piece (shown_piece x) cutting) is
@@ -112,15 +112,15 @@ cut_from-over rule level at pieces far = sym (ap (λ ps. before (take at (shown_
     none (suc at) (p ∷ pieces) far = none at pieces (omega (arith, far))
 
 -- the two cuts and their rules
-first-by : (b : Bool) (piece : Piece) (pieces : List Piece) (later : Cutting) → cut_by (if b then Here else Apart) piece pieces later ≡ (if b then At [] pieces else with_piece piece later)
+first-by : (b : Bool) (piece : PieceOf) (pieces : List PieceOf) (later : CuttingOf) → cut_by (if b then Here else Apart) piece pieces later ≡ (if b then At [] pieces else with_piece piece later)
 first-by true piece pieces later = refl
 first-by false piece pieces later = refl
 
-maybe-by : (b : Bool) (piece : Piece) (pieces : List Piece) (later : Cutting) → cut_by (if b then Maybe else Apart) piece pieces later ≡ (if b then Unsure else with_piece piece later)
+maybe-by : (b : Bool) (piece : PieceOf) (pieces : List PieceOf) (later : CuttingOf) → cut_by (if b then Maybe else Apart) piece pieces later ≡ (if b then Unsure else with_piece piece later)
 maybe-by true piece pieces later = refl
 maybe-by false piece pieces later = refl
 
-pub rule-first : (mark level : ℕ) (pieces : List Piece) → cut_rule (First mark) level pieces ≡ cut_pieces mark pieces
+pub rule-first : (mark level : ℕ) (pieces : List PieceOf) → cut_rule (First mark) level pieces ≡ cut_pieces mark pieces
 rule-first mark level [] = refl
 rule-first mark level (Known byte ∷ pieces) =
     ap (cut_by (if byte == mark then Here else Apart) (Known byte) pieces) (rule-first mark (next_level level byte) pieces) ∙ first-by (byte == mark) (Known byte) pieces (cut_pieces mark pieces)
@@ -129,7 +129,7 @@ rule-first mark level (OneOf set ∷ pieces) =
 rule-first mark level (AnyOf set ∷ pieces) =
     ap (cut_by (if set mark then Maybe else Apart) (AnyOf set) pieces) (rule-first mark level pieces) ∙ maybe-by (set mark) (AnyOf set) pieces (cut_pieces mark pieces)
 
-pub rule-outside : (mark level : ℕ) (pieces : List Piece) → cut_rule (Outside mark) level pieces ≡ cut_level mark level pieces
+pub rule-outside : (mark level : ℕ) (pieces : List PieceOf) → cut_rule (Outside mark) level pieces ≡ cut_level mark level pieces
 rule-outside mark level [] = refl
 rule-outside mark level (Known byte ∷ pieces) =
     ap (cut_by (if byte == mark && level == 0 then Here else Apart) (Known byte) pieces) (rule-outside mark (next_level level byte) pieces)
@@ -142,18 +142,18 @@ rule-outside mark level (AnyOf set ∷ pieces) =
     ∙ maybe-by (may_cut mark level set) (AnyOf set) pieces (cut_level mark level pieces)
 
 -- the parts of pieces at their first known comma
-abbrev pub IsSplit : ℕ → List Piece → Cutting → Type 0
+abbrev pub IsSplit : ℕ → List PieceOf → CuttingOf → Type 0
 IsSplit level pieces Nowhere = split_pieces level pieces ≡ pieces ∷ []
 IsSplit level pieces Unsure = ⊥
 IsSplit level pieces (At part rest) = (split_pieces level pieces ≡ part ∷ split_pieces 0 rest) × (length rest < length pieces)
 
-split-push : (level next : ℕ) (piece : Piece) (pieces : List Piece) → split_pieces level (piece ∷ pieces) ≡ onto_first piece (split_pieces next pieces)
-    → (cutting : Cutting) → IsSplit next pieces cutting → IsSplit level (piece ∷ pieces) (with_piece piece cutting)
+split-push : (level next : ℕ) (piece : PieceOf) (pieces : List PieceOf) → split_pieces level (piece ∷ pieces) ≡ onto_first piece (split_pieces next pieces)
+    → (cutting : CuttingOf) → IsSplit next pieces cutting → IsSplit level (piece ∷ pieces) (with_piece piece cutting)
 split-push level next piece pieces is Nowhere split = is ∙ ap (onto_first piece) split
 split-push level next piece pieces is Unsure split = split
 split-push level next piece pieces is (At part rest) split = (is ∙ ap (onto_first piece) split.0, omega (arith, split.1))
 
-pub split-comma : (level : ℕ) (pieces : List Piece) → IsSplit level pieces (cut_rule Comma level pieces)
+pub split-comma : (level : ℕ) (pieces : List PieceOf) → IsSplit level pieces (cut_rule Comma level pieces)
 unfolding split_pieces
 split-comma level [] = refl
 split-comma level (Known byte ∷ pieces) = by (byte == 44 && level == 0) refl (split-comma (next_level level byte) pieces)
@@ -173,12 +173,12 @@ split-comma level (OneOf set ∷ pieces) = split-push level level (OneOf set) pi
 split-comma level (AnyOf set ∷ pieces) = split-push level level (AnyOf set) pieces refl (cut_rule Comma level pieces) (split-comma level pieces)
 
 -- the last piece decides where the last cut is, or the pieces before it do
-abbrev pub last_by : Stand → List Piece → Cutting → Cutting
+abbrev pub last_by : Stand → List PieceOf → CuttingOf → CuttingOf
 last_by Here pieces later = At pieces []
 last_by Maybe pieces later = Unsure
 last_by Apart pieces later = later
 
-last-one : (mark : ℕ) (piece : Piece) → cut_last mark (piece ∷ []) ≡ last_by (stand_of (First mark) 0 piece) [] Nowhere
+last-one : (mark : ℕ) (piece : PieceOf) → cut_last mark (piece ∷ []) ≡ last_by (stand_of (First mark) 0 piece) [] Nowhere
 last-one mark (Known byte) = by (byte == mark)
   where
     by : (b : Bool) → (if b then At [] [] else Nowhere) ≡ last_by (if b then Here else Apart) [] Nowhere
@@ -195,18 +195,18 @@ last-one mark (AnyOf set) = by (set mark)
     by true = refl
     by false = refl
 
-last-known : (mark byte : ℕ) (s : Stand) (pieces : List Piece) (later : Cutting) → last_known mark byte (last_by s pieces later) ≡ last_by s (Known byte ∷ pieces) (last_known mark byte later)
+last-known : (mark byte : ℕ) (s : Stand) (pieces : List PieceOf) (later : CuttingOf) → last_known mark byte (last_by s pieces later) ≡ last_by s (Known byte ∷ pieces) (last_known mark byte later)
 last-known mark byte Here pieces later = refl
 last-known mark byte Maybe pieces later = refl
 last-known mark byte Apart pieces later = refl
 
-last-unknown : (mark : ℕ) (set : Bytes) (piece : Piece) (s : Stand) (pieces : List Piece) (later : Cutting)
+last-unknown : (mark : ℕ) (set : Bytes) (piece : PieceOf) (s : Stand) (pieces : List PieceOf) (later : CuttingOf)
     → last_unknown mark set piece (last_by s pieces later) ≡ last_by s (piece ∷ pieces) (last_unknown mark set piece later)
 last-unknown mark set piece Here pieces later = refl
 last-unknown mark set piece Maybe pieces later = refl
 last-unknown mark set piece Apart pieces later = refl
 
-pub last-push : (mark : ℕ) (pieces : List Piece) (piece : Piece) → cut_last mark (pieces ++ piece ∷ []) ≡ last_by (stand_of (First mark) 0 piece) pieces (cut_last mark pieces)
+pub last-push : (mark : ℕ) (pieces : List PieceOf) (piece : PieceOf) → cut_last mark (pieces ++ piece ∷ []) ≡ last_by (stand_of (First mark) 0 piece) pieces (cut_last mark pieces)
 last-push mark [] piece = last-one mark piece
 last-push mark (Known byte ∷ pieces) piece =
     ap (last_known mark byte) (last-push mark pieces piece) ∙ last-known mark byte (stand_of (First mark) 0 piece) pieces (cut_last mark pieces)
@@ -239,7 +239,7 @@ not-any true b c = refl
 not-any false true c = refl
 not-any false false c = refl
 
-clean-first : (level : ℕ) (piece : Piece) (pieces : List Piece) → are_clean level (piece ∷ pieces) ≡ (is_clean_piece level piece && are_clean (level_after level piece) pieces)
+clean-first : (level : ℕ) (piece : PieceOf) (pieces : List PieceOf) → are_clean level (piece ∷ pieces) ≡ (is_clean_piece level piece && are_clean (level_after level piece) pieces)
 clean-first level (Known byte) pieces = refl
 clean-first level (OneOf set) pieces = ap (λ b. b && are_clean level pieces) (not-any (set 40) (set 41) (set 44 && level == 0))
 clean-first level (AnyOf set) pieces = ap (λ b. b && are_clean level pieces) (not-any (set 40) (set 41) (set 44 && level == 0))
@@ -250,10 +250,10 @@ clean-at level at pieces piece below is =
     ap (are_clean level) (from-place at pieces piece below is) ∙ clean-first level (shown_piece piece) (drop (suc at) (shown_all pieces))
 
 -- a known text before a cut
-abbrev pub with_bytes : List ℕ → Option (List ℕ × List Piece) → Option (List ℕ × List Piece)
+abbrev pub with_bytes : List ℕ → Option (List ℕ × List PieceOf) → Option (List ℕ × List PieceOf)
 with_bytes name cut = option_map (λ c. (name ++ c.0, c.1)) cut
 
-with_bytes-push : (name : List ℕ) (byte : ℕ) (cut : Option (List ℕ × List Piece)) → with_bytes name (with_byte byte cut) ≡ with_bytes (name ++ byte ∷ []) cut
+with_bytes-push : (name : List ℕ) (byte : ℕ) (cut : Option (List ℕ × List PieceOf)) → with_bytes name (with_byte byte cut) ≡ with_bytes (name ++ byte ∷ []) cut
 with_bytes-push name byte None = refl
 with_bytes-push name byte (Some cut) = (λ i. Some (sym (append_assoc name (byte ∷ []) cut.0) i, cut.1))
 
@@ -266,7 +266,7 @@ pub record IsKnownFront (mark at : ℕ) (pieces : List KeptPiece) : Type 0 where
 pub front-none : (mark : ℕ) (pieces : List KeptPiece) → IsKnownFront mark 0 pieces
 front-none mark pieces = record { name = []; front = refl; cut = by (cut_known mark (shown_all pieces)) }
   where
-    by : (o : Option (List ℕ × List Piece)) → o ≡ with_bytes [] o
+    by : (o : Option (List ℕ × List PieceOf)) → o ≡ with_bytes [] o
     by None = refl
     by (Some cut) = refl
 
@@ -280,7 +280,7 @@ take-push at [] piece below is = absurd (omega (arith, below))
 take-push zero (p ∷ pieces) piece below is = ap (λ (x : KeptPiece). shown_piece x ∷ []) (sym is)
 take-push (suc at) (p ∷ pieces) piece below is = ap (λ ps. shown_piece p ∷ ps) (take-push at pieces piece (omega (arith, below)) is)
 
-known-at : (mark byte : ℕ) (b : Bool) → (byte == mark) ≡ b → (rest : List Piece) → cut_known mark (Known byte ∷ rest) ≡ (if b then Some ([], rest) else with_byte byte (cut_known mark rest))
+known-at : (mark byte : ℕ) (b : Bool) → (byte == mark) ≡ b → (rest : List PieceOf) → cut_known mark (Known byte ∷ rest) ≡ (if b then Some ([], rest) else with_byte byte (cut_known mark rest))
 known-at mark byte b is rest = ap (λ t. if t then Some ([], rest) else with_byte byte (cut_known mark rest)) is
 
 pub front-push : (mark at byte : ℕ) (pieces : List KeptPiece) (piece : KeptPiece) → at < length pieces → piece ≡ slice_index_or pieces at piece → shown_piece piece ≡ Known byte
@@ -306,13 +306,13 @@ front-unknown mark at pieces piece below is unknown front =
     front.cut ∙ (ap (λ ps. with_bytes front.name (cut_known mark ps)) (from-place at pieces piece below is)
     ∙ ap (with_bytes front.name) (none (shown_piece piece) (drop (suc at) (shown_all pieces)) unknown))
   where
-    none : (piece : Piece) (rest : List Piece) → byte_of piece ≡ None → cut_known mark (piece ∷ rest) ≡ None
+    none : (piece : PieceOf) (rest : List PieceOf) → byte_of piece ≡ None → cut_known mark (piece ∷ rest) ≡ None
     none (Known byte) rest is = absurd cc
     none (OneOf set) rest is = refl
     none (AnyOf set) rest is = refl
 
 -- a known piece
-pub is-known : (piece : Piece) (byte : ℕ) → byte_of piece ≡ Some byte → piece ≡ Known byte
+pub is-known : (piece : PieceOf) (byte : ℕ) → byte_of piece ≡ Some byte → piece ≡ Known byte
 is-known (Known b) byte is = let same : b ≡ byte = cc in ap (λ x. Known x) same
 is-known (OneOf set) byte is = absurd cc
 is-known (AnyOf set) byte is = absurd cc

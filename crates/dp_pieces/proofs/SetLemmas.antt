@@ -6,7 +6,7 @@ use Rattle.std.proofs.lemmas.Bool.{leb-true, ltb-true}
 use Rattle.dp_pieces.specs.Bytes.{Bytes}
 use Rattle.dp_pieces.specs.Sets.{set_by}
 use Rattle.dp_pieces.proofs.BlankLemmas.{none-has}
-use Rattle.dp_pieces.specs.Pieces.{AnyOf, Piece, bytes_in, exactly, text_known, any_bytes_of}
+use Rattle.dp_pieces.specs.Pieces.{AnyOf, PieceOf, bytes_in, exactly, text_known, any_bytes_of}
 
 -- any number of bytes of sets with the same bytes
 pub any_bytes_of-same : (set other : Bytes) → ((b : ℕ) → set b ≡ other b) → any_bytes_of set ≡ any_bytes_of other
@@ -39,8 +39,8 @@ no-digit b = by (nat_le 48 b) (nat_lt b 48) refl refl
     by true true x y = absurd (omega (arith, leb-true 48 b x, ltb-true b 48 y))
 
 -- a text, given its pieces, which are all known
-pub text-exactly : (pieces : List Piece) (text name : List ℕ) → text_known pieces ≡ Some text → pieces ≡ exactly name → text ≡ name
+pub text-exactly : (pieces : List PieceOf) (text name : List ℕ) → text_known pieces ≡ Some text → pieces ≡ exactly name → text ≡ name
 text-exactly pieces text name is same = ap (λ t. unwrap_or t []) (sym is ∙ (ap text_known same ∙ text_known-exactly name))
 
-pub never-unknown : (pieces : List Piece) (name : List ℕ) → text_known pieces ≡ None → pieces ≡ exactly name → ⊥
+pub never-unknown : (pieces : List PieceOf) (name : List ℕ) → text_known pieces ≡ None → pieces ≡ exactly name → ⊥
 never-unknown pieces name is same = let no : None ≡ Some name = sym is ∙ (ap text_known same ∙ text_known-exactly name) in let bottom : ⊥ = cc in bottom

@@ -10,7 +10,7 @@ use Rattle.dp_pattern.specs.Walk.{classes_of, singles}
 use Rattle.dp_pattern.specs.declared.tail.Tail.{Tail}
 use Rattle.dp_pieces.specs.Bytes.{Bytes, both, either}
 use Rattle.dp_pieces.specs.Met.{met_classes, met_tail}
-use Rattle.dp_pieces.specs.Pieces.{AnyOf, Known, OneOf, Piece, bytes_in, any_bytes_of, piece_set, pieces_set}
+use Rattle.dp_pieces.specs.Pieces.{AnyOf, Known, OneOf, PieceOf, bytes_in, any_bytes_of, piece_set, pieces_set}
 use Rattle.dp_pieces.specs.Sets.{set_by}
 use Rattle.dp_pieces.specs.ShapeSteps.{AreAllBytes, AreBytes, is_any}
 use Rattle.dp_pieces.specs.Shown.{shown_piece, shown_all}
@@ -26,7 +26,7 @@ or-assoc true b c = refl
 or-assoc false b c = refl
 
 -- one more piece is added
-pub set-step : (old new all : Bytes) (piece : Piece) (left later : List Piece) → left ≡ piece ∷ later → ((byte : ℕ) → new byte ≡ either old (piece_set piece) byte)
+pub set-step : (old new all : Bytes) (piece : PieceOf) (left later : List PieceOf) → left ≡ piece ∷ later → ((byte : ℕ) → new byte ≡ either old (piece_set piece) byte)
     → ((byte : ℕ) → either old (pieces_set left) byte ≡ all byte) → (byte : ℕ) → either new (pieces_set later) byte ≡ all byte
 unfolding pieces_set
 set-step old new all piece left later is added so_far byte =
@@ -39,12 +39,12 @@ or-false : (a : Bool) → (a || false) ≡ a
 or-false true = refl
 or-false false = refl
 
-pub set-end : (old all : Bytes) (left : List Piece) → left ≡ [] → ((byte : ℕ) → either old (pieces_set left) byte ≡ all byte) → (byte : ℕ) → old byte ≡ all byte
+pub set-end : (old all : Bytes) (left : List PieceOf) → left ≡ [] → ((byte : ℕ) → either old (pieces_set left) byte ≡ all byte) → (byte : ℕ) → old byte ≡ all byte
 unfolding pieces_set
 set-end old all left is so_far byte = sym (or-false (old byte)) ∙ (ap (λ ps. old byte || pieces_set ps byte) (sym is) ∙ so_far byte)
 
 -- one more piece is added at the end
-pub shown_piece-push : (old : List Kept) (piece : Kept) (more : List Piece) → shown_all (old ++ piece ∷ []) ++ more ≡ shown_all old ++ shown_piece piece ∷ more
+pub shown_piece-push : (old : List Kept) (piece : Kept) (more : List PieceOf) → shown_all (old ++ piece ∷ []) ++ more ≡ shown_all old ++ shown_piece piece ∷ more
 shown_piece-push old piece more = ap (λ ps. ps ++ more) (map-append shown_piece old (piece ∷ [])) ∙ append_assoc (shown_all old) (shown_piece piece ∷ []) more
 
 -- any number of bytes of a set is one piece, with only bytes of the set
@@ -56,7 +56,7 @@ any_bytes_of-met : (set : Bytes) (class : List ℕ) (classes : List (List ℕ)) 
 any_bytes_of-met set class classes tail = ap (λ s. OneOf (both s (bytes_in class)) ∷ met_classes (any_bytes_of s) classes tail) (any_bytes_of-set set)
 
 -- any number of bytes of a set, met with one more class
-pub any-step : (old new : List Kept) (set : Bytes) (met : List ℕ) (class : List ℕ) (left later : List (List ℕ)) (tail : Tail) (all : List Piece)
+pub any-step : (old new : List Kept) (set : Bytes) (met : List ℕ) (class : List ℕ) (left later : List (List ℕ)) (tail : Tail) (all : List PieceOf)
     → left ≡ class ∷ later → ((byte : ℕ) → set_by met byte ≡ both set (bytes_in class) byte) → new ≡ old ++ kept.OneOf met ∷ []
     → shown_all old ++ met_classes (any_bytes_of set) left tail ≡ all → shown_all new ++ met_classes (any_bytes_of set) later tail ≡ all
 any-step old new set met class left later tail all is same pushed so_far =
@@ -67,7 +67,7 @@ any-step old new set met class left later tail all is same pushed so_far =
     ∙ (ap (λ cs. shown_all old ++ met_classes (any_bytes_of set) cs tail) (sym is) ∙ so_far))))
 
 -- no class is left, and any bytes may come after
-pub any-end : (old new : List Kept) (set : Bytes) (copy : List ℕ) (left : List (List ℕ)) (tail : Tail) (all : List Piece)
+pub any-end : (old new : List Kept) (set : Bytes) (copy : List ℕ) (left : List (List ℕ)) (tail : Tail) (all : List PieceOf)
     → left ≡ [] → met_tail (any_bytes_of set) tail ≡ any_bytes_of set → ((byte : ℕ) → set_by copy byte ≡ set byte) → new ≡ old ++ kept.AnyOf copy ∷ []
     → shown_all old ++ met_classes (any_bytes_of set) left tail ≡ all → shown_all new ≡ all
 any-end old new set copy left tail all is follows same pushed so_far =
@@ -78,7 +78,7 @@ any-end old new set copy left tail all is follows same pushed so_far =
     ∙ (ap (λ cs. shown_all old ++ met_classes (any_bytes_of set) cs tail) (sym is) ∙ so_far))))
 
 -- from a piece with any number of bytes on, the pieces are met as any number of bytes of all of them
-pub any-met : (piece : Piece) (later left : List Piece) (class : List ℕ) (after classes : List (List ℕ)) (tail : Tail) (set : Bytes) → is_any piece ≡ true → left ≡ piece ∷ later → classes ≡ class ∷ after
+pub any-met : (piece : PieceOf) (later left : List PieceOf) (class : List ℕ) (after classes : List (List ℕ)) (tail : Tail) (set : Bytes) → is_any piece ≡ true → left ≡ piece ∷ later → classes ≡ class ∷ after
     → ((byte : ℕ) → set byte ≡ pieces_set left byte) → met_classes left classes tail ≡ met_classes (any_bytes_of set) classes tail
 any-met (Known byte) later left class after classes tail set any is begins same = absurd cc
 any-met (OneOf bytes) later left class after classes tail set any is begins same = absurd cc

@@ -5,7 +5,7 @@ use Rattle.std.specs.Prelude.{slice_index_or}
 use Rattle.std.specs.Option.{option_map_or}
 use Rattle.dp_conf.specs.Blanks.{is_blank}
 use Rattle.dp_pieces.specs.Bytes.{Bytes, has_blank}
-use Rattle.dp_pieces.specs.Pieces.{AnyOf, Known, OneOf, Piece, byte_of, any_bytes_of, piece_set, pieces_set}
+use Rattle.dp_pieces.specs.Pieces.{AnyOf, Known, OneOf, PieceOf, byte_of, any_bytes_of, piece_set, pieces_set}
 use Rattle.dp_pieces.specs.Shown.{shown_piece, shown_all}
 use Rattle.dp_pieces.specs.Trimmed.{before_kept, known_before, loose_front, starts_kept, trimmed_end, trimmed_start}
 use Rattle.dp_pieces.specs.declared.piece.Piece.{Piece as KeptPiece}
@@ -13,15 +13,15 @@ use Rattle.dp_pieces.specs.steps.Softened.{before_last_kept, blank_of, loosened_
 use Rattle.dp_pieces.proofs.RuleLemmas.{from-end, from-place}
 
 -- the last piece
-last-blank : (pieces : List Piece) (piece : Piece) → blank_of piece ≡ true → without_last (pieces ++ piece ∷ []) ≡ without_last pieces
+last-blank : (pieces : List PieceOf) (piece : PieceOf) → blank_of piece ≡ true → without_last (pieces ++ piece ∷ []) ≡ without_last pieces
 last-blank [] piece is = ap (λ b. if b then [] else piece ∷ []) is
 last-blank (p ∷ pieces) piece is = ap (before_last_kept p) (last-blank pieces piece is)
 
-last-kept : (pieces : List Piece) (piece : Piece) → blank_of piece ≡ false → without_last (pieces ++ piece ∷ []) ≡ pieces ++ piece ∷ []
+last-kept : (pieces : List PieceOf) (piece : PieceOf) → blank_of piece ≡ false → without_last (pieces ++ piece ∷ []) ≡ pieces ++ piece ∷ []
 last-kept [] piece is = ap (λ b. if b then [] else piece ∷ []) is
 last-kept (p ∷ pieces) piece is = ap (before_last_kept p) (last-kept pieces piece is) ∙ some pieces
   where
-    some : (pieces : List Piece) → before_last_kept p (pieces ++ piece ∷ []) ≡ p ∷ (pieces ++ piece ∷ [])
+    some : (pieces : List PieceOf) → before_last_kept p (pieces ++ piece ∷ []) ≡ p ∷ (pieces ++ piece ∷ [])
     some [] = refl
     some (q ∷ pieces) = refl
 
@@ -37,7 +37,7 @@ kept-last left front last is kept =
     ∙ (last-kept (shown_all front) (shown_piece last) kept ∙ (sym (map-append shown_piece front (last ∷ [])) ∙ ap shown_all (sym is))))
 
 -- the definition in terms of these
-soft-known : (byte : ℕ) (pieces : List Piece) → known_before byte (map soft_piece pieces) ≡ map soft_piece (before_last_kept (Known byte) pieces)
+soft-known : (byte : ℕ) (pieces : List PieceOf) → known_before byte (map soft_piece pieces) ≡ map soft_piece (before_last_kept (Known byte) pieces)
 soft-known byte [] = by (is_blank byte) refl
   where
     by : (b : Bool) → is_blank byte ≡ b → (if b then [] else Known byte ∷ []) ≡ map soft_piece (if b then [] else Known byte ∷ [])
@@ -49,11 +49,11 @@ soft-known byte (piece ∷ pieces) = by (is_blank byte)
     by true = refl
     by false = refl
 
-soft-other : (piece : Piece) (pieces : List Piece) → byte_of piece ≡ None → map soft_piece (before_last_kept piece pieces) ≡ soft_piece piece ∷ map soft_piece pieces
+soft-other : (piece : PieceOf) (pieces : List PieceOf) → byte_of piece ≡ None → map soft_piece (before_last_kept piece pieces) ≡ soft_piece piece ∷ map soft_piece pieces
 soft-other piece [] is = (λ i. map soft_piece (if option_map_or is_blank (is i) false then [] else piece ∷ []))
 soft-other piece (next ∷ pieces) is = refl
 
-pub soft-end : (pieces : List Piece) → trimmed_end pieces ≡ map soft_piece (without_last pieces)
+pub soft-end : (pieces : List PieceOf) → trimmed_end pieces ≡ map soft_piece (without_last pieces)
 soft-end [] = refl
 soft-end (Known byte ∷ pieces) = ap (known_before byte) (soft-end pieces) ∙ soft-known byte (without_last pieces)
 soft-end (OneOf set ∷ pieces) =
@@ -100,7 +100,7 @@ pub soft-over : (at : ℕ) (kept left : List KeptPiece) → length left ≤ at �
 soft-over at kept left far = sym (append-nil (shown_all kept)) ∙ ap (λ ps. shown_all kept ++ map soft_piece ps) (sym (from-end at left far))
 
 -- the blanks at the start are left out first
-pub start-kept : (pieces : List Piece) → start_by (without_blanks pieces) ≡ trimmed_start pieces
+pub start-kept : (pieces : List PieceOf) → start_by (without_blanks pieces) ≡ trimmed_start pieces
 start-kept [] = refl
 start-kept (Known byte ∷ pieces) = by (is_blank byte) (start-kept pieces)
   where
@@ -116,7 +116,7 @@ start-kept (OneOf set ∷ pieces) = by (has_blank set)
 start-kept (AnyOf set ∷ pieces) = refl
 
 -- any number of bytes of all
-pub loose_front-all : (set all : Bytes) (pieces : List Piece) → starts_kept pieces ≡ false → ((b : ℕ) → all b ≡ (set b || pieces_set pieces b)) → AnyOf all ∷ [] ≡ loose_front set pieces
+pub loose_front-all : (set all : Bytes) (pieces : List PieceOf) → starts_kept pieces ≡ false → ((b : ℕ) → all b ≡ (set b || pieces_set pieces b)) → AnyOf all ∷ [] ≡ loose_front set pieces
 unfolding pieces_set
 loose_front-all set all pieces loose same =
     (λ i. AnyOf (λ b. same b i) ∷ []) ∙ sym (ap (λ k. if k then AnyOf set ∷ pieces else any_bytes_of (pieces_set (AnyOf set ∷ pieces))) loose)

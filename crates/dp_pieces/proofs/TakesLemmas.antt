@@ -9,7 +9,7 @@ use Rattle.dp_pattern.specs.Walk.{classes_of, singles, tail_of}
 use Rattle.dp_pattern.specs.declared.tail.Tail.{Tail}
 use Rattle.dp_pattern.specs.declared.tail.Tail.TheVariants.{End}
 use Rattle.dp_pieces.specs.Bytes.{Bytes, IsPart, Within, none}
-use Rattle.dp_pieces.specs.Pieces.{AnyOf, Fits, Known, OneOf, Piece, bytes_in, piece_set, pieces_set}
+use Rattle.dp_pieces.specs.Pieces.{AnyOf, Fits, Known, OneOf, PieceOf, bytes_in, piece_set, pieces_set}
 use Rattle.dp_pieces.specs.Shown.{shown_all}
 use Rattle.dp_pieces.specs.declared.piece.Piece.{Piece as Kept}
 use Rattle.dp_pieces.specs.ShapeSteps.{AlwaysTakes, AlwaysTakesWithin, Lacks, Misses, MissesWithin, Takes, is_any, least_of}
@@ -27,16 +27,16 @@ flip a b = by (a == b) refl (b == a) refl
     by false x true y = sym x ∙ eq-eqb a b (sym (eqb-true b a y))
     by false x false y = refl
 
-pub flipped : (class : List ℕ) (byte : ℕ) → bytes_in class byte ≡ is_one_of class byte
-flipped [] byte = refl
-flipped (c ∷ class) byte = λ i. flip c byte i || flipped class byte i
+pub bytes_in_is_one_of : (class : List ℕ) (byte : ℕ) → bytes_in class byte ≡ is_one_of class byte
+bytes_in_is_one_of [] byte = refl
+bytes_in_is_one_of (c ∷ class) byte = λ i. flip c byte i || bytes_in_is_one_of class byte i
 
 takes-begin : (classes : List (List ℕ)) (tail : Tail) (begin rest : List ℕ) → AllZip Contains classes begin → FitsTail tail rest → Takes classes tail (begin ++ rest)
 takes-begin [] tail [] rest members ending = ending
 takes-begin [] tail (d ∷ begin) rest members ending = absurd members
 takes-begin (class ∷ classes) tail [] rest members ending = absurd members
 takes-begin (class ∷ classes) tail (d ∷ begin) rest members ending =
-    (flipped class d ∙ (member class d).1 members.0, takes-begin classes tail begin rest members.1 ending)
+    (bytes_in_is_one_of class d ∙ (member class d).1 members.0, takes-begin classes tail begin rest members.1 ending)
 
 takes-singles : (plain : List ℕ) → Takes (singles plain) End plain
 takes-singles [] = refl
@@ -56,7 +56,7 @@ takes-pattern (class ∷ classes) tail (d ∷ digits) takes =
       begin = d ∷ more.begin;
       rest = more.rest;
       whole = ap (λ ds. d ∷ ds) more.whole;
-      members = ((member class d).0 (sym (flipped class d) ∙ takes.0), more.members);
+      members = ((member class d).0 (sym (bytes_in_is_one_of class d) ∙ takes.0), more.members);
       ending = more.ending;
     }
 
@@ -85,14 +85,14 @@ within-without_dashes set (byte ∷ text) within = by (is_dash byte) (within-wit
 
 -- ---- the first piece of a shape, and the lengths of its texts
 
-one-byte : (piece : Piece) (pieces : List Piece) (text : List ℕ) → is_any piece ≡ false → Fits (piece ∷ pieces) text
+one-byte : (piece : PieceOf) (pieces : List PieceOf) (text : List ℕ) → is_any piece ≡ false → Fits (piece ∷ pieces) text
     → (cut : ℕ × List ℕ) × (text ≡ cut.0 ∷ cut.1) × (piece_set piece cut.0 ≡ true) × Fits pieces cut.1
 unfolding Fits
 one-byte (Known byte) pieces text one fits = ((byte, fits.0), fits.1, eq-eqb byte byte refl, fits.2)
 one-byte (OneOf set) pieces text one fits = fits
 one-byte (AnyOf set) pieces text one fits = absurd cc
 
-least-fits : (pieces : List Piece) (text : List ℕ) → Fits pieces text → least_of pieces ≤ length text
+least-fits : (pieces : List PieceOf) (text : List ℕ) → Fits pieces text → least_of pieces ≤ length text
 unfolding Fits
 least-fits [] text fits = omega arith
 least-fits (Known byte ∷ pieces) text fits = omega (arith, least-fits pieces fits.0 fits.2, ap length fits.1)
@@ -101,7 +101,7 @@ least-fits (AnyOf set ∷ pieces) text fits = omega (arith, least-fits pieces fi
 
 -- ---- no text is taken
 
-module _ (left later : List Piece) (piece : Piece) (classes after : List (List ℕ)) (class : List ℕ) (tail next : Tail) (begins : classes ≡ class ∷ after) where
+module _ (left later : List PieceOf) (piece : PieceOf) (classes after : List (List ℕ)) (class : List ℕ) (tail next : Tail) (begins : classes ≡ class ∷ after) where
   taken : (digits : List ℕ) (cut : ℕ × List ℕ) → digits ≡ cut.0 ∷ cut.1 → Takes classes tail digits → Takes (class ∷ after) tail (cut.0 ∷ cut.1)
   taken digits cut is takes = subst (Takes (class ∷ after) tail) is (subst (λ cs. Takes cs tail digits) begins takes)
 
@@ -124,7 +124,7 @@ misses-short [] classes after class tail begins empty digits fits takes = subst 
 misses-short (piece ∷ left) classes after class tail begins empty digits fits takes = absurd (omega (arith, empty))
 
 -- a text that fits pieces has their bytes, and is not shorter than they are
-pub misses-within : (left : List Piece) (set : Bytes) (least : ℕ) (classes : List (List ℕ)) (tail : Tail) → ((byte : ℕ) → set byte ≡ pieces_set left byte) → least ≡ least_of left
+pub misses-within : (left : List PieceOf) (set : Bytes) (least : ℕ) (classes : List (List ℕ)) (tail : Tail) → ((byte : ℕ) → set byte ≡ pieces_set left byte) → least ≡ least_of left
     → MissesWithin set least classes tail → Misses left classes tail
 misses-within left set least classes tail same long misses digits fits takes =
     misses digits (subst (λ s. Within s digits) (λ i byte. sym (same byte) i) (fits-set left digits fits)) (omega (arith, least-fits left digits fits, long)) takes
@@ -142,14 +142,14 @@ none-follow set (d ∷ digits) empty within long = let no : false ≡ true = emp
 
 -- ---- each text is taken
 
-pub always-step : (left later : List Piece) (piece : Piece) (classes after : List (List ℕ)) (class : List ℕ) (tail next : Tail) → left ≡ piece ∷ later → classes ≡ class ∷ after → next ≡ tail
+pub always-step : (left later : List PieceOf) (piece : PieceOf) (classes after : List (List ℕ)) (class : List ℕ) (tail next : Tail) → left ≡ piece ∷ later → classes ≡ class ∷ after → next ≡ tail
     → is_any piece ≡ false → IsPart (piece_set piece) (bytes_in class) → AlwaysTakes later after next → AlwaysTakes left classes tail
 always-step left later piece classes after class tail next is begins same one part always digits fits =
     let cut = one-byte piece later digits one (subst (λ ps. Fits ps digits) is fits) in
     let rest : Takes after tail cut.0.1 = subst (λ t. Takes after t cut.0.1) same (always cut.0.1 cut.3) in
     subst (λ cs. Takes cs tail digits) (sym begins) (subst (Takes (class ∷ after) tail) (sym cut.1) (part cut.0.0 cut.2, rest))
 
-pub always-within : (left : List Piece) (set : Bytes) (least : ℕ) (classes : List (List ℕ)) (tail : Tail) → ((byte : ℕ) → set byte ≡ pieces_set left byte) → least ≡ least_of left
+pub always-within : (left : List PieceOf) (set : Bytes) (least : ℕ) (classes : List (List ℕ)) (tail : Tail) → ((byte : ℕ) → set byte ≡ pieces_set left byte) → least ≡ least_of left
     → AlwaysTakesWithin set least classes tail → AlwaysTakes left classes tail
 always-within left set least classes tail same long always digits fits =
     always digits (subst (λ s. Within s digits) (λ i byte. sym (same byte) i) (fits-set left digits fits)) (omega (arith, least-fits left digits fits, long))
@@ -165,23 +165,23 @@ none-ends set (d ∷ digits) empty within = let no : false ≡ true = empty d wi
 
 -- ---- a name
 
-pub covered : (pieces : List Piece) (set : Bytes) (name found : Meaning) → ((byte : ℕ) → set byte ≡ pieces_set pieces byte) → set 45 ≡ false → found ≡ name
+pub covered_name_matches : (pieces : List PieceOf) (set : Bytes) (name found : Meaning) → ((byte : ℕ) → set byte ≡ pieces_set pieces byte) → set 45 ≡ false → found ≡ name
     → AlwaysTakes pieces (classes_of found) (tail_of found) → (text : List ℕ) → Fits pieces text → Matches name text
-covered pieces set name found same dashless is always text fits =
+covered_name_matches pieces set name found same dashless is always text fits =
     name-takes name text
     (subst (λ n. Takes (classes_of n) (tail_of n) (without_dashes text)) is
     (subst (Takes (classes_of found) (tail_of found)) (sym (no-dashes (pieces_set pieces) text (sym (same 45) ∙ dashless) (fits-set pieces text fits))) (always text fits)))
 
 -- a shape that may contain dashes, given its set
-pub unmatched-dashed : (pieces : List Piece) (set : Bytes) (name found : Meaning) → ((byte : ℕ) → set byte ≡ pieces_set pieces byte) → found ≡ name
+pub unmatched-dashed : (pieces : List PieceOf) (set : Bytes) (name found : Meaning) → ((byte : ℕ) → set byte ≡ pieces_set pieces byte) → found ≡ name
     → MissesWithin set 0 (classes_of found) (tail_of found) → (text : List ℕ) → Fits pieces text → Matches name text → ⊥
 unmatched-dashed pieces set name found same is misses text fits matching =
     misses (without_dashes text) (within-without_dashes set text (subst (λ s. Within s text) (λ i byte. sym (same byte) i) (fits-set pieces text fits))) (omega arith)
     (subst (λ n. Takes (classes_of n) (tail_of n) (without_dashes text)) (sym is) (takes-name name text matching))
 
-pub unmatched : (pieces : List Piece) (set : Bytes) (name found : Meaning) → ((byte : ℕ) → set byte ≡ pieces_set pieces byte) → set 45 ≡ false → found ≡ name
+pub missed_name_differs : (pieces : List PieceOf) (set : Bytes) (name found : Meaning) → ((byte : ℕ) → set byte ≡ pieces_set pieces byte) → set 45 ≡ false → found ≡ name
     → Misses pieces (classes_of found) (tail_of found) → (text : List ℕ) → Fits pieces text → Matches name text → ⊥
-unmatched pieces set name found same dashless is misses text fits matching =
+missed_name_differs pieces set name found same dashless is misses text fits matching =
     misses text fits
     (subst (Takes (classes_of found) (tail_of found)) (no-dashes (pieces_set pieces) text (sym (same 45) ∙ dashless) (fits-set pieces text fits))
     (subst (λ n. Takes (classes_of n) (tail_of n) (without_dashes text)) (sym is) (takes-name name text matching)))

@@ -19,10 +19,10 @@ use Rattle.dp_vars.specs.declared.value.Function.TheVariants.{Global, Local, Len
 use Rattle.dp_pieces.specs.Bytes.{IsPart, Within, either, none, numeric}
 use Rattle.dp_pieces.specs.Cuts.{cut_known}
 use Rattle.dp_pieces.specs.Names.{Names, IsWithin, any_argument_set, body_by, called_set, caller_set, function_set, head_by, head_pieces, variable_pieces}
-use Rattle.dp_pieces.specs.Pieces.{Fits, Known, Piece, bytes_in, text_known, any_bytes_of, pieces_set}
+use Rattle.dp_pieces.specs.Pieces.{Fits, Known, PieceOf, bytes_in, text_known, any_bytes_of, pieces_set}
 use Rattle.dp_pieces.specs.Texts.{GroupMeaning, braces_pieces, called_pieces, group_pieces, pieces_by, text_pieces, text_set, unknown_pieces}
 use Rattle.dp_pieces.proofs.ExpressionLemmas.{within-expression}
-use Rattle.dp_pieces.proofs.LastLemmas.{headed}
+use Rattle.dp_pieces.proofs.LastLemmas.{known_cut_heads}
 use Rattle.dp_pieces.proofs.FitsLemmas.{fits-append, fits-text_known, fits-any_bytes_of, fits-nothing, fits-part, fits-set, any_bytes_of-part}
 use Rattle.dp_pieces.proofs.NumeralLemmas.{within-decimal}
 use Rattle.dp_pieces.proofs.WithinLemmas.{within-more, within-part}
@@ -59,8 +59,8 @@ begins-named mark name rest cut avoids is =
     (found.0, found.1 ∙ append_assoc name (40 ∷ []) found.0)
 
 module _ (groups : GroupMeaning) (functions : FunctionTable) (sight : Sight)
-    (each : (kind : GroupKind) (body : List Piece) (text : List ℕ) → Fits body text → Fits (groups kind body) (group_value_with functions sight kind text)) where
-  plain : (byte : ℕ) (pieces : List Piece) (text : List ℕ) → Fits pieces text → Fits (Known byte ∷ pieces) (byte ∷ text)
+    (each : (kind : GroupKind) (body : List PieceOf) (text : List ℕ) → Fits body text → Fits (groups kind body) (group_value_with functions sight kind text)) where
+  plain : (byte : ℕ) (pieces : List PieceOf) (text : List ℕ) → Fits pieces text → Fits (Known byte ∷ pieces) (byte ∷ text)
   unfolding Fits
   plain byte pieces text fits = (text, refl, fits)
 
@@ -182,21 +182,21 @@ module _ (names : Names) (sight : Sight) (seen : IsWithin names sight) where
       by true has = all-body text (cut_outside 58 text)
       by false lacks = named-body name rest text avoids (lacks-avoids 58 name lacks) is (cut_outside 58 text) refl
 
-  fits-unknown : (pieces : List Piece) (text : List ℕ) → Fits pieces text → Fits (unknown_pieces names (cut_known 40 pieces)) (body_value_by sight text (cut_outside 58 text))
+  fits-unknown : (pieces : List PieceOf) (text : List ℕ) → Fits pieces text → Fits (unknown_pieces names (cut_known 40 pieces)) (body_value_by sight text (cut_outside 58 text))
   fits-unknown pieces text fits = by (cut_known 40 pieces) refl
     where
-      by : (o : Option (List ℕ × List Piece)) → cut_known 40 pieces ≡ o → Fits (unknown_pieces names o) (body_value_by sight text (cut_outside 58 text))
+      by : (o : Option (List ℕ × List PieceOf)) → cut_known 40 pieces ≡ o → Fits (unknown_pieces names o) (body_value_by sight text (cut_outside 58 text))
       by None from = fits-any_bytes_of names.all _ (all-body text (cut_outside 58 text))
-      by (Some cut) from = let is = headed 40 pieces text cut from fits in fits-call_argument cut.0 is.rest text is.avoids is.whole
+      by (Some cut) from = let is = known_cut_heads 40 pieces text cut from fits in fits-call_argument cut.0 is.rest text is.avoids is.whole
 
-  fits-braces : (pieces : List Piece) (text : List ℕ) → Fits pieces text → (o : Option (List ℕ)) → ((body : List ℕ) → o ≡ Some body → text ≡ body)
+  fits-braces : (pieces : List PieceOf) (text : List ℕ) → Fits pieces text → (o : Option (List ℕ)) → ((body : List ℕ) → o ≡ Some body → text ≡ body)
       → Fits (braces_pieces names pieces o) (body_value_by sight text (cut_outside 58 text))
   fits-braces pieces text fits None is = fits-unknown pieces text fits
   fits-braces pieces text fits (Some body) is =
       subst (λ t. Fits (body_by names body (cut_outside 58 body)) (body_value_by sight t (cut_outside 58 t))) (sym (is body refl)) (fits-body body (cut_outside 58 body))
 
   -- the value of a group whose expanded body fits pieces
-  pub fits-group : (kind : GroupKind) (body : List Piece) (text : List ℕ) → Fits body text → Fits (group_pieces names kind body) (group_value sight kind text)
+  pub fits-group : (kind : GroupKind) (body : List PieceOf) (text : List ℕ) → Fits body text → Fits (group_pieces names kind body) (group_value sight kind text)
   unfolding group_value_with
   fits-group Braces body text fits = fits-braces body text fits (text_known body) (λ bytes from. fits-text_known body text bytes from fits)
   fits-group Brackets body text fits = fits-any_bytes_of (either (pieces_set body) numeric) (expression_value text) (within-expression (pieces_set body) text (fits-set body text fits))

@@ -5,7 +5,7 @@ use Rattle.std.proofs.lemmas.Bool.Decides.{nat_tests}
 use Rattle.dp_conf.proofs.TextLemmas.{either-false}
 use Rattle.dp_conf.specs.Blanks.{before_kept as kept_before, is_blank, trim, trim_end, trim_start}
 use Rattle.dp_pieces.specs.Bytes.{Bytes, Within, has_blank, has_blank_below}
-use Rattle.dp_pieces.specs.Pieces.{AnyOf, Fits, Known, OneOf, Piece, any_bytes_of, pieces_set}
+use Rattle.dp_pieces.specs.Pieces.{AnyOf, Fits, Known, OneOf, PieceOf, any_bytes_of, pieces_set}
 use Rattle.dp_pieces.specs.Trimmed.{before_kept, known_before, loose_front, starts_kept, without_end_blanks, trimmed_end, trimmed_start}
 use Rattle.dp_pieces.proofs.FitsLemmas.{fits-any_bytes_of, fits-set}
 use Rattle.dp_pieces.proofs.WithinLemmas.{within-trim_start}
@@ -36,15 +36,15 @@ no-blank set byte none here = by (nat_le byte 32) refl
     by false is = ap (λ b. b && not (byte == 10)) is
 
 -- one more piece, known or not
-plain : (byte : ℕ) (pieces : List Piece) (text : List ℕ) → Fits pieces text → Fits (Known byte ∷ pieces) (byte ∷ text)
+plain : (byte : ℕ) (pieces : List PieceOf) (text : List ℕ) → Fits pieces text → Fits (Known byte ∷ pieces) (byte ∷ text)
 unfolding Fits
 plain byte pieces text fits = (text, refl, fits)
 
-one-of : (set : Bytes) (byte : ℕ) (pieces : List Piece) (text : List ℕ) → set byte ≡ true → Fits pieces text → Fits (OneOf set ∷ pieces) (byte ∷ text)
+one-of : (set : Bytes) (byte : ℕ) (pieces : List PieceOf) (text : List ℕ) → set byte ≡ true → Fits pieces text → Fits (OneOf set ∷ pieces) (byte ∷ text)
 unfolding Fits
 one-of set byte pieces text here fits = ((byte, text), refl, here, fits)
 
-any-of : (set : Bytes) (front : List ℕ) (pieces : List Piece) (text : List ℕ) → Within set front → Fits pieces text → Fits (AnyOf set ∷ pieces) (front ++ text)
+any-of : (set : Bytes) (front : List ℕ) (pieces : List PieceOf) (text : List ℕ) → Within set front → Fits pieces text → Fits (AnyOf set ∷ pieces) (front ++ text)
 unfolding Fits
 any-of set front pieces text within fits = ((front, text), refl, within, fits)
 
@@ -62,7 +62,7 @@ and-both true b is = (refl, is)
 and-both false b is = absurd cc
 
 -- a text that does not begin with a blank
-kept-start : (pieces : List Piece) (text : List ℕ) → starts_kept pieces ≡ true → Fits pieces text → trim_start text ≡ text
+kept-start : (pieces : List PieceOf) (text : List ℕ) → starts_kept pieces ≡ true → Fits pieces text → trim_start text ≡ text
 unfolding Fits
 kept-start [] text starts fits = subst (λ t. trim_start t ≡ t) (sym fits) refl
 kept-start (Known byte ∷ pieces) text starts fits =
@@ -76,7 +76,7 @@ kept-start (AnyOf set ∷ pieces) text starts fits =
     (start-any set (not-true (has_blank set) both.0) fits.0.0 fits.0.1 fits.2 (kept-start pieces fits.0.1 both.1 fits.3))
 
 -- some of the bytes of a set are cut off at the start, and no more if the rest does not begin with a blank
-start-cut : (set : Bytes) (front text : List ℕ) (pieces : List Piece) → Within set front → trim_start text ≡ text → Fits pieces text
+start-cut : (set : Bytes) (front text : List ℕ) (pieces : List PieceOf) → Within set front → trim_start text ≡ text → Fits pieces text
     → Fits (AnyOf set ∷ pieces) (trim_start (front ++ text))
 start-cut set [] text pieces within kept fits = subst (Fits (AnyOf set ∷ pieces)) (sym kept) (any-of set [] pieces text tt fits)
 start-cut set (byte ∷ front) text pieces within kept fits = by (is_blank byte) (start-cut set front text pieces within.1 kept fits)
@@ -85,7 +85,7 @@ start-cut set (byte ∷ front) text pieces within kept fits = by (is_blank byte)
     by true later = later
     by false later = any-of set (byte ∷ front) pieces text within fits
 
-fits-loose_front : (set : Bytes) (pieces : List Piece) (text : List ℕ) → Fits (AnyOf set ∷ pieces) text → Fits (loose_front set pieces) (trim_start text)
+fits-loose_front : (set : Bytes) (pieces : List PieceOf) (text : List ℕ) → Fits (AnyOf set ∷ pieces) text → Fits (loose_front set pieces) (trim_start text)
 unfolding Fits
 fits-loose_front set pieces text fits = by (starts_kept pieces) refl
   where
@@ -98,12 +98,12 @@ fits-loose_front set pieces text fits = by (starts_kept pieces) refl
         (within-trim_start (pieces_set (AnyOf set ∷ pieces)) text (fits-set (AnyOf set ∷ pieces) text fits))
 
 -- one byte of a set is any number of bytes of it
-loosely : (set : Bytes) (pieces : List Piece) (text : List ℕ) → Fits (OneOf set ∷ pieces) text → Fits (AnyOf set ∷ pieces) text
+loosely : (set : Bytes) (pieces : List PieceOf) (text : List ℕ) → Fits (OneOf set ∷ pieces) text → Fits (AnyOf set ∷ pieces) text
 unfolding Fits
 loosely set pieces text fits = ((fits.0.0 ∷ [], fits.0.1), fits.1, (fits.2, tt), fits.3)
 
 -- without the blanks at the start
-pub fits-trimmed_start : (pieces : List Piece) (text : List ℕ) → Fits pieces text → Fits (trimmed_start pieces) (trim_start text)
+pub fits-trimmed_start : (pieces : List PieceOf) (text : List ℕ) → Fits pieces text → Fits (trimmed_start pieces) (trim_start text)
 unfolding Fits
 fits-trimmed_start [] text fits = subst (λ t. Fits [] (trim_start t)) (sym fits) refl
 fits-trimmed_start (Known byte ∷ pieces) text fits =
@@ -128,7 +128,7 @@ end-kept : (byte : ℕ) → is_blank byte ≡ false → (kept : List ℕ) → ke
 end-kept byte none [] = ap (λ b. if b then [] else byte ∷ []) none
 end-kept byte none (k ∷ kept) = refl
 
-end-any : (set : Bytes) (byte : ℕ) → set byte ≡ true → (kept : List ℕ) (pieces : List Piece) → Fits pieces kept → Fits (AnyOf set ∷ pieces) (kept_before byte kept)
+end-any : (set : Bytes) (byte : ℕ) → set byte ≡ true → (kept : List ℕ) (pieces : List PieceOf) → Fits pieces kept → Fits (AnyOf set ∷ pieces) (kept_before byte kept)
 end-any set byte here [] pieces fits = by (is_blank byte)
   where
     by : (blank : Bool) → Fits (AnyOf set ∷ pieces) (if blank then [] else byte ∷ [])
@@ -137,27 +137,27 @@ end-any set byte here [] pieces fits = by (is_blank byte)
 end-any set byte here (k ∷ kept) pieces fits = any-of set (byte ∷ []) pieces (k ∷ kept) (here, tt) fits
 
 -- one more byte before any number of bytes of a set
-joined : (set : Bytes) (byte : ℕ) → set byte ≡ true → (pieces : List Piece) (kept : List ℕ) → Fits (AnyOf set ∷ pieces) kept → Fits (AnyOf set ∷ pieces) (kept_before byte kept)
+fits_one_more : (set : Bytes) (byte : ℕ) → set byte ≡ true → (pieces : List PieceOf) (kept : List ℕ) → Fits (AnyOf set ∷ pieces) kept → Fits (AnyOf set ∷ pieces) (kept_before byte kept)
 unfolding Fits
-joined set byte here pieces [] fits = by (is_blank byte)
+fits_one_more set byte here pieces [] fits = by (is_blank byte)
   where
     by : (blank : Bool) → Fits (AnyOf set ∷ pieces) (if blank then [] else byte ∷ [])
     by true = fits
     by false = ((byte ∷ fits.0.0, fits.0.1), ap (λ t. byte ∷ t) fits.1, (here, fits.2), fits.3)
-joined set byte here pieces (k ∷ kept) fits = ((byte ∷ fits.0.0, fits.0.1), ap (λ t. byte ∷ t) fits.1, (here, fits.2), fits.3)
+fits_one_more set byte here pieces (k ∷ kept) fits = ((byte ∷ fits.0.0, fits.0.1), ap (λ t. byte ∷ t) fits.1, (here, fits.2), fits.3)
 
-end-front : (set : Bytes) (front text : List ℕ) (pieces : List Piece) → Within set front → Fits pieces (trim_end text) → Fits (AnyOf set ∷ pieces) (trim_end (front ++ text))
+end-front : (set : Bytes) (front text : List ℕ) (pieces : List PieceOf) → Within set front → Fits pieces (trim_end text) → Fits (AnyOf set ∷ pieces) (trim_end (front ++ text))
 end-front set [] text pieces within fits = any-of set [] pieces (trim_end text) tt fits
 end-front set (byte ∷ front) text pieces within fits = again (end-front set front text pieces within.1 fits)
   where
     again : Fits (AnyOf set ∷ pieces) (trim_end (front ++ text)) → Fits (AnyOf set ∷ pieces) (kept_before byte (trim_end (front ++ text)))
-    again later = joined set byte within.0 pieces (trim_end (front ++ text)) later
+    again later = fits_one_more set byte within.0 pieces (trim_end (front ++ text)) later
 
 -- without the blanks at the end
 only-byte : (byte : ℕ) → (byte == byte) ≡ true
 only-byte byte = eq-eqb byte byte refl
 
-end-known : (byte : ℕ) (pieces : List Piece) (kept : List ℕ) → Fits pieces kept → Fits (known_before byte pieces) (kept_before byte kept)
+end-known : (byte : ℕ) (pieces : List PieceOf) (kept : List ℕ) → Fits pieces kept → Fits (known_before byte pieces) (kept_before byte kept)
 unfolding Fits
 end-known byte [] kept fits = subst (λ t. Fits (known_before byte []) (kept_before byte t)) (sym fits) (by (is_blank byte))
   where
@@ -170,7 +170,7 @@ end-known byte (piece ∷ pieces) kept fits = by (is_blank byte) refl
     by true is = end-any (λ b. b == byte) byte (only-byte byte) kept (piece ∷ pieces) fits
     by false is = subst (Fits (Known byte ∷ piece ∷ pieces)) (sym (end-kept byte is kept)) (plain byte (piece ∷ pieces) kept fits)
 
-pub fits-trimmed_end : (pieces : List Piece) (text : List ℕ) → Fits pieces text → Fits (trimmed_end pieces) (trim_end text)
+pub fits-trimmed_end : (pieces : List PieceOf) (text : List ℕ) → Fits pieces text → Fits (trimmed_end pieces) (trim_end text)
 unfolding Fits
 fits-trimmed_end [] text fits = subst (λ t. Fits [] (trim_end t)) (sym fits) refl
 fits-trimmed_end (Known byte ∷ pieces) text fits =
@@ -190,5 +190,5 @@ fits-trimmed_end (AnyOf set ∷ pieces) text fits =
     (end-front set fits.0.0 fits.0.1 (trimmed_end pieces) fits.2 (fits-trimmed_end pieces fits.0.1 fits.3))
 
 -- without the blanks at both ends
-pub fits-without_end_blanks : (pieces : List Piece) (text : List ℕ) → Fits pieces text → Fits (without_end_blanks pieces) (trim text)
+pub fits-without_end_blanks : (pieces : List PieceOf) (text : List ℕ) → Fits pieces text → Fits (without_end_blanks pieces) (trim text)
 fits-without_end_blanks pieces text fits = fits-trimmed_end (trimmed_start pieces) (trim_start text) (fits-trimmed_start pieces text fits)

@@ -8,7 +8,7 @@ use Rattle.dp_pattern.specs.Name.{is_one_of}
 use Rattle.dp_pieces.specs.Pieces.{bytes_in}
 use Rattle.dp_pieces.specs.Sets.{set_by}
 use Rattle.dp_pieces.specs.ShapeSteps.{AreBytes}
-use Rattle.dp_pieces.proofs.TakesLemmas.{flipped}
+use Rattle.dp_pieces.proofs.TakesLemmas.{bytes_in_is_one_of}
 
 -- there are no bits after the words
 no-word : (words : List ℕ) (k : ℕ) → length words ≤ k → slice_index words k ≡ 0
@@ -22,7 +22,7 @@ unfolding set_by
 class-set words class long bits bytes b = by (nat_lt b 256) refl
   where
     by : (below : Bool) → nat_lt b 256 ≡ below → set_by words b ≡ bytes_in class b
-    by true is = bits b (grind (arith, nat_tests)) ∙ sym (flipped class b)
+    by true is = bits b (grind (arith, nat_tests)) ∙ sym (bytes_in_is_one_of class b)
     by false is =
         let above : 256 ≤ b = grind (arith, nat_tests) in
         ap (λ word. bit_at word (b % 64) == 1) (no-word words (b / 64) (omega (arith, long, above)))

@@ -13,19 +13,19 @@ use Rattle.dp_vars.specs.declared.part.Selection.TheVariants.{Whole, Part, Nothi
 use Rattle.dp_vars.specs.declared.value.Function.{Function}
 use Rattle.dp_vars.specs.declared.value.Function.TheVariants.{Global, Local, Len, CallerId, QueueWaitingCount}
 use Rattle.dp_pieces.specs.Bytes.{Bytes, IsPart, Within, digits, none}
-use Rattle.dp_pieces.specs.Pieces.{Fits, Piece, front, any_bytes_of, pieces_set, without}
+use Rattle.dp_pieces.specs.Pieces.{Fits, PieceOf, front, any_bytes_of, pieces_set, without}
 
 -- the bytes that the values of each name may have, the shapes of the channel's extension and context, the bytes of the caller's number, and
 -- the bytes of any of these
 pub record Names : Type 0 where
   pub bytes : List ℕ → Bytes
-  pub exten : List Piece
-  pub context : List Piece
+  pub exten : List PieceOf
+  pub context : List PieceOf
   pub caller : Bytes
   pub all : Bytes
 
 -- a variable: the channel's extension and context come before any other value of these names
-abbrev pub variable_pieces : Names → List ℕ → List Piece
+abbrev pub variable_pieces : Names → List ℕ → List PieceOf
 variable_pieces names name =
     if same_text name (codes "EXTEN") then names.exten
     else if same_text name (codes "CONTEXT") then names.context
@@ -76,28 +76,28 @@ any_argument_set names (Some CallerId) = names.caller
 any_argument_set names (Some QueueWaitingCount) = digits
 
 -- a head, given its cut at the first `(`: a function with an argument, or a variable
-abbrev pub head_by : Names → List ℕ → Option (List ℕ × List ℕ) → List Piece
+abbrev pub head_by : Names → List ℕ → Option (List ℕ × List ℕ) → List PieceOf
 head_by names head None = variable_pieces names head
 head_by names head (Some cut) = any_bytes_of (called_set names cut.0 (before_last 41 cut.1))
 
 -- a head: a name, or a function with its argument in parentheses
-unfoldable pub head_pieces : Names → List ℕ → List Piece
+unfoldable pub head_pieces : Names → List ℕ → List PieceOf
 head_pieces names head = head_by names head (cut_once 40 head)
 
 -- from an offset that counts from the front, to the end or this many bytes; a length that counts from the end gives bytes of the whole
-abbrev pub part_ahead : ℕ → Option Reach → List Piece → List Piece
+abbrev pub part_ahead : ℕ → Option Reach → List PieceOf → List PieceOf
 part_ahead offset None pieces = without offset pieces
 part_ahead offset (Some (Ahead size)) pieces = front size (without offset pieces)
 part_ahead offset (Some (Back size)) pieces = any_bytes_of (pieces_set pieces)
 
 -- the requested part of a value
-abbrev pub part_pieces : Selection → List Piece → List Piece
+abbrev pub part_pieces : Selection → List PieceOf → List PieceOf
 part_pieces Whole pieces = pieces
 part_pieces (Part (Ahead offset) size) pieces = part_ahead offset size pieces
 part_pieces (Part (Back offset) size) pieces = any_bytes_of (pieces_set pieces)
 part_pieces Nothing pieces = []
 
 -- a text in braces without groups: a head, or a head and the requested part of it
-abbrev pub body_by : Names → List ℕ → Option (List ℕ × List ℕ) → List Piece
+abbrev pub body_by : Names → List ℕ → Option (List ℕ × List ℕ) → List PieceOf
 body_by names body None = head_pieces names body
 body_by names body (Some cut) = part_pieces (asked_of (Some cut.1)) (head_pieces names cut.0)

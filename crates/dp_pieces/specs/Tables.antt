@@ -6,7 +6,7 @@ use Rattle.std.specs.Option.{unwrap_or}
 use Rattle.dp_conf.specs.Words.{same_text}
 use Rattle.dp_pieces.specs.Bytes.{Bytes, either}
 use Rattle.dp_pieces.specs.Names.{Names}
-use Rattle.dp_pieces.specs.Pieces.{Piece}
+use Rattle.dp_pieces.specs.Pieces.{PieceOf}
 use Rattle.dp_pieces.specs.Sets.{set_by}
 
 -- the entries of a table: names with their own sets
@@ -29,7 +29,7 @@ pub record Table : Type 0 where
   pub all : List ℕ
 
 -- what a table knows of names, if the channel's context and extension have these shapes
-abbrev pub names_by : Table → List Piece → List Piece → Names
+abbrev pub names_by : Table → List PieceOf → List PieceOf → Names
 names_by table context exten = record {
   bytes = λ name. name_set table.own table.shared name;
   exten = exten;

@@ -6,7 +6,7 @@ ghost use Rattle.dp_pieces.specs.Shown.{shown_all};
 
 use crate::cuts::first_part;
 use crate::piece::{Piece, any_bytes, bytes_of};
-use crate::trims::trimmed;
+use crate::trims::trim_pieces;
 use dp_conf::NoMemory;
 use std::alloc::Global;
 
@@ -20,7 +20,7 @@ pub fn shapes_of(alloc: Global, pieces: &[Piece]) -> Result<Vec<Vec<Piece>>, NoM
     let mut rest = Some(pieces);
     while let Some(left) = rest {
         let (part, after) = first_part(left);
-        shapes.push(trimmed(alloc, part)?)?;
+        shapes.push(trim_pieces(alloc, part)?)?;
         rest = after;
     }
     Ok(shapes)

@@ -21,5 +21,5 @@ pub use names_at::{NamesAt, expression_pieces};
 pub use parts::part_of;
 pub use piece::{Piece, add_pieces, any_bytes, bytes_in, bytes_of, known_text};
 pub use reader::{GroupPieces, NamedPieces, read_pieces};
-pub use shapes::{covers, is_within, matched, may_fit, may_match};
-pub use trims::trimmed;
+pub use shapes::{covers, is_within, may_fit, may_match, pieces_after_match};
+pub use trims::trim_pieces;

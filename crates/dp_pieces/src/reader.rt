@@ -95,7 +95,7 @@ struct Open {
 
 /// The pieces so far, and the waiting openings.
 #[derive(Drop)]
-struct Reading {
+struct PiecesReading {
     pieces: Vec<Piece>,
     waiting: Vec<Open>,
 }
@@ -109,7 +109,7 @@ pub fn read_pieces<G: GroupPieces>(
     ensures { IfOk result (λ pieces. shown_all pieces.items ≡ pieces_by (G.groups groups.now) (reading_of text.now)) }
 {
     let pieces = Vec::with_capacity(alloc, text.len())?;
-    let mut reading = Reading {
+    let mut reading = PiecesReading {
         pieces,
         waiting: Vec::new(alloc),
     };
@@ -121,7 +121,7 @@ pub fn read_pieces<G: GroupPieces>(
     Ok(reading.finish())
 }
 
-impl Reading {
+impl PiecesReading {
     /// The kind of the innermost waiting opening.
     fn innermost(&self) -> Option<GroupKind>
         ensures { result ≡ first_of (steps.kinds_of (read_of self.now).waiting) }
@@ -165,7 +165,7 @@ impl Reading {
     fn finish(self) -> Vec<Piece>
         ensures { shown_all result.items ≡ (read_of self).pieces }
     {
-        let Reading { pieces, waiting } = self;
+        let PiecesReading { pieces, waiting } = self;
         drop(waiting);
         pieces
     }

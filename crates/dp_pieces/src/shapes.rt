@@ -9,5 +9,5 @@ mod within;
 
 pub use fitting::may_fit;
 pub use matching::{covers, may_match};
-pub use meeting::matched;
+pub use meeting::pieces_after_match;
 pub use within::is_within;

@@ -154,7 +154,7 @@ fn trimmed_end(alloc: Global, pieces: &[Piece]) -> Result<Vec<Piece>, NoMemory>
 }
 
 /// The pieces of a text without the blanks at both ends. It fails only if memory runs out.
-pub fn trimmed(alloc: Global, pieces: &[Piece]) -> Result<Vec<Piece>, NoMemory>
+pub fn trim_pieces(alloc: Global, pieces: &[Piece]) -> Result<Vec<Piece>, NoMemory>
     ensures { IfOk result (λ kept. shown_all kept.items ≡ trims.without_end_blanks (shown_all pieces.now)) }
 {
     let left = skip_blanks(pieces);

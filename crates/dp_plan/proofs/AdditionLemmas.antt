@@ -6,7 +6,7 @@ use Rattle.dp_plan.specs.Contexts.{with_entry}
 use Rattle.dp_conf.specs.Changes.{changed_at}
 use Rattle.dp_plan.specs.steps.Draft.{Drafted, slot_of, label_of, is_slot_taken, is_marked, double_kind, take_place, with_note, empty_context, with_context, with_addition, with_inclusion, with_entry_of, with_include_of, with_item}
 use Rattle.dp_plan.specs.steps.Numbers.{with_number}
-use Rattle.dp_plan.specs.steps.Table.{StandsAt, Table, number_in}
+use Rattle.dp_plan.specs.steps.Table.{IsFirstAt, Table, number_in}
 use Rattle.dp_plan.specs.Extensions.{extension_of}
 use Rattle.dp_plan.specs.Item.{Adds, Includes}
 use Rattle.dp_plan.specs.declared.entry.Entry.{Entry}
@@ -65,7 +65,7 @@ kept_addition d line place number entry e =
       by false false same = refl
 
 -- a context whose name is among the names exists already
-opened_before : (d : Drafted) (context : List ℕ) (place : ℕ) → StandsAt (same_text context) d.names place → with_context d context ≡ d
+opened_before : (d : Drafted) (context : List ℕ) (place : ℕ) → IsFirstAt (same_text context) d.names place → with_context d context ≡ d
 opened_before d context place stands = ap (λ t. cond t d (record d {
   names = d.names ++ context ∷ [];
   contexts = d.contexts ++ empty_context context ∷ [];
@@ -74,14 +74,14 @@ opened_before d context place stands = ap (λ t. cond t d (record d {
 })) stands.there
 
 -- so an entry is added at its place, given the number of its extension
-pub added_open : (d : Drafted) (table : Table) (line place number : ℕ) (context : List ℕ) (entry : Entry) → StandsAt (same_text context) d.names place → number ≡ number_in table (extension_of context entry.name)
+pub added_open : (d : Drafted) (table : Table) (line place number : ℕ) (context : List ℕ) (entry : Entry) → IsFirstAt (same_text context) d.names place → number ≡ number_in table (extension_of context entry.name)
     → with_item d table (Adds line context entry) ≡ with_addition d line place number entry
 added_open d table line place number context entry stands is =
     ap (λ (o : Drafted). with_entry_of o line context (number_in table (extension_of context entry.name)) entry) (opened_before d context place stands)
     ∙ (λ i. with_addition d line (sym stands.at i) (sym is i) entry)
 
 -- and so is an include
-pub included_open : (d : Drafted) (table : Table) (line place : ℕ) (context name : List ℕ) → StandsAt (same_text context) d.names place
+pub included_open : (d : Drafted) (table : Table) (line place : ℕ) (context name : List ℕ) → IsFirstAt (same_text context) d.names place
     → with_item d table (Includes line context name) ≡ with_inclusion d line place name
 included_open d table line place context name stands =
     ap (λ (o : Drafted). with_include_of o line context name) (opened_before d context place stands)

@@ -5,5 +5,5 @@ use Rattle.dp_plan.specs.steps.Draft.{Drafted, with_label}
 use Rattle.dp_plan.specs.declared.label.Label.{Label}
 
 -- without a label no label is taken
-pub unlabelled : (d : Drafted) → d ≡ with_label d None
-unlabelled d = ap (λ (labels : List Label). record d { labels = labels }) (sym (append-nil d.labels))
+pub no_label_is_taken : (d : Drafted) → d ≡ with_label d None
+no_label_is_taken d = ap (λ (labels : List Label). record d { labels = labels }) (sym (append-nil d.labels))

@@ -18,8 +18,8 @@ use Rattle.dp_conf.proofs.AnswersLemmas.{each_after-push, snoc_from}
 use Rattle.dp_conf.proofs.TextLemmas.{each-append, each-weaker}
 use Rattle.dp_plan.specs.Contexts.{PlanContext, with_entry, with_include}
 use Rattle.dp_plan.specs.Extensions.{extension_of, same_extension}
-use Rattle.dp_plan.specs.steps.Loading.{MadeOf, unmade, after_item}
-use Rattle.dp_plan.specs.steps.Reader.{Reading, unread, after}
+use Rattle.dp_plan.specs.steps.Loading.{MadeOf, nothing_made, after_item}
+use Rattle.dp_plan.specs.steps.Reader.{ItemReading, nothing_read, after}
 use Rattle.dp_plan.specs.steps.Table.{number_in}
 use Rattle.dp_plan.specs.Plan.{Addition, Inclusion, KeptLine, of_one_extension, shares_label, is_place_taken, is_label_taken, is_taken, is_named, kept_by, added_in, included_in, context_in, global_in, kept_in, names_in, context_of, entry_line, kept_line, kept_lines, context_lines, entry_note, include_note, note_of, notes_of}
 use Rattle.dp_plan.specs.steps.Numbers.{with_number}
@@ -408,7 +408,7 @@ with_inclusion-is es globals names kept lines included remarks line k distinct =
 -- ---- one more item
 
 -- the table after an item
-abbrev priorities_after : Reading → Item → Priorities
+abbrev priorities_after : ItemReading → Item → Priorities
 priorities_after reading x = (after reading x).extensions
 
 -- two functions that agree on each element give the same list
@@ -461,7 +461,7 @@ known-all es e v kept all =
     each-weaker (λ a. is_known es (extension_in a) ≡ true) (λ a. is_known (insert_entry same_extension es e v) (extension_in a) ≡ true) (λ a. known-kept es e v (extension_in a)) kept all
 
 -- one more item, given the parts of the draft
-with_item-is : (reading : Reading) (globals : List GlobalVariable) (names : List (List ℕ)) (kept : List Addition) (lines : List KeptLine) (included : List Inclusion) (remarks : List Remark) (x : Item) → IsAllNamed names kept lines included → IsDistinct same_text names → IsKnown reading.extensions kept
+with_item-is : (reading : ItemReading) (globals : List GlobalVariable) (names : List (List ℕ)) (kept : List Addition) (lines : List KeptLine) (included : List Inclusion) (remarks : List Remark) (x : Item) → IsAllNamed names kept lines included → IsDistinct same_text names → IsKnown reading.extensions kept
     → (before : List Item) → kept_in before ≡ kept
     → with_item (draft_of_parts reading.extensions globals names kept lines included remarks) reading.extensions x ≡ draft_of_parts (priorities_after reading x) (globals ++ cons_option (global_in x) []) (more_by is_named names (context_in x)) (more_by is_taken kept (added_in x)) (lines ++ kept_line before x) (included ++ cons_option (included_in x) []) (remarks ++ remark_of before x)
 with_item-is reading globals names kept lines included remarks (Begins General) named distinct all before same =
@@ -500,7 +500,7 @@ reading-items made (item ∷ items) = reading-items (after_item made item) items
 
 -- the draft that the items make, and what stays true of its names and its extensions
 pub record Makes (items : List Item) : Type 0 where
-  pub draft : (fold after_item unmade items).draft ≡ drafted_in items
+  pub draft : (fold after_item nothing_made items).draft ≡ drafted_in items
   pub known : IsKnown (reading_of items).extensions (kept_in items)
   pub named : IsAllNamed (names_in items) (kept_in items) (kept_lines items) (filter_map included_in items)
   pub distinct : IsDistinct same_text (names_in items)
@@ -556,7 +556,7 @@ named-more items names kept lines included x named =
     inclusion (Unknown line) = tt
 
 -- the extensions of the kept entries with one more item are known
-known-more : (reading : Reading) (kept : List Addition) (x : Item) → IsKnown reading.extensions kept
+known-more : (reading : ItemReading) (kept : List Addition) (x : Item) → IsKnown reading.extensions kept
     → IsKnown (priorities_after reading x) (more_by is_taken kept (added_in x))
 known-more reading kept (Begins section) all = all
 known-more reading kept (Sets global) all = all
@@ -576,11 +576,11 @@ Makes-push items x makes =
     let kept : kept_in (items ++ x ∷ []) ≡ more_by is_taken (kept_in items) (added_in x) = kept_by-filter_map is_taken added_in items x in
     let lines = kept_lines-push items x in
     let remarks = remarks_in-push items x in
-    let reading : reading_of (items ++ x ∷ []) ≡ after (reading_of items) x = fold-append after unread items (x ∷ []) in
+    let reading : reading_of (items ++ x ∷ []) ≡ after (reading_of items) x = fold-append after nothing_read items (x ∷ []) in
     record {
       draft =
-          ap (λ (made : MadeOf). made.draft) (fold-append after_item unmade items (x ∷ []))
-          ∙ ((λ i. with_item (makes.draft i) (reading-items unmade items i).extensions x)
+          ap (λ (made : MadeOf). made.draft) (fold-append after_item nothing_made items (x ∷ []))
+          ∙ ((λ i. with_item (makes.draft i) (reading-items nothing_made items i).extensions x)
           ∙ (with_item-is (reading_of items) (filter_map global_in items) (names_in items) (kept_in items) (kept_lines items) (filter_map included_in items) (remarks_in items) x makes.named makes.distinct makes.known items refl
           ∙ (λ i. draft_of_parts (sym reading i).extensions (sym globals i) (sym names i) (sym kept i) (sym lines i) (sym included i) (sym remarks i))));
       known =

@@ -20,7 +20,7 @@ use Rattle.dp_pattern.proofs.NameLemmas.{each_of}
 use Rattle.dp_pattern.proofs.SpelledBytes.{spells_cleanly}
 use Rattle.dp_plan.specs.EntryLine.{has_variable, without_last, name_without_variable, name_of, name_again, is_priority_word, written_number, written_of, before_label, is_no_label, label_within, label_of, number_after, written_priority, called_with, application_parts, application_by, application_of, shallow_at, entry_by, entry_of, exten_rest, exten_cut, exten_entry, same_cut, same_entry}
 use Rattle.dp_plan.specs.Faults.{at_line, name_at_line, plan_fault}
-use Rattle.dp_plan.specs.History.{History}
+use Rattle.dp_plan.specs.History.{PlanHistory}
 use Rattle.dp_plan.specs.Priority.{IsPriority}
 use Rattle.dp_plan.specs.declared.fault.Word.TheVariants.{Hint, CallerId, Variable, OldForm, PriorityWord}
 use Rattle.dp_plan.specs.declared.fault.PlanKind.{PlanKind}
@@ -240,7 +240,7 @@ shallow-known P line text fine = by (is_too_deep text) refl
     by true deep = tt
     by false deep = (fine, deep)
 
-entry_by-known : (history : History) (line : ℕ) (context : List ℕ) (name : Meaning) (priority application : List ℕ)
+entry_by-known : (history : PlanHistory) (line : ℕ) (context : List ℕ) (name : Meaning) (priority application : List ℕ)
     → IsExtension name → AreLineBytes priority → Avoids 44 priority → Avoids 10 application
     → IfOk (entry_by history line context name priority application) IsEntry
 entry_by-known history line context name priority application extension bytes avoids one =
@@ -259,21 +259,21 @@ entry_by-known history line context name priority application extension bytes av
     }))))
 
 -- the entry with a name, given the texts before and after the comma in the rest of a line
-entry_of-known : (history : History) (line : ℕ) (context : List ℕ) (name : Result Meaning LoadFault) (text front rest : List ℕ)
+entry_of-known : (history : PlanHistory) (line : ℕ) (context : List ℕ) (name : Result Meaning LoadFault) (text front rest : List ℕ)
     → IfOk name IsExtension → AreLineBytes text → IsCut 44 text front rest → IfOk (entry_of history line context name (trim front) (trim rest)) IsEntry
 entry_of-known history line context name text front rest names bytes is =
     then-known IsExtension IsEntry name _ names (λ n extension. entry_by-known history line context n (trim front) (trim rest) extension
     (each-trim IsLineByte front (each-cut_front IsLineByte 44 text front rest is bytes)) (each-trim (λ b. (b == 44) ≡ false) front is.avoids)
     (one_line (trim rest) (each-trim IsLineByte rest (each-cut_rest IsLineByte 44 text front rest is bytes))))
 
-exten_rest-known : (history : History) (line : ℕ) (context name rest : List ℕ) (cut : Option (List ℕ × List ℕ)) → AreLineBytes name → Avoids 44 name
+exten_rest-known : (history : PlanHistory) (line : ℕ) (context name rest : List ℕ) (cut : Option (List ℕ × List ℕ)) → AreLineBytes name → Avoids 44 name
     → AreLineBytes rest → cut_once 44 rest ≡ cut → IfOk (exten_rest history line context name cut) IsEntry
 exten_rest-known history line context name rest None name_bytes name_avoids bytes c = tt
 exten_rest-known history line context name rest (Some cut) name_bytes name_avoids bytes c =
     entry_of-known history line context (name_of line name) rest cut.0 cut.1
     (name_of-known line name name_bytes name_avoids) bytes (cut_once-is 44 rest cut.0 cut.1 c)
 
-exten_cut-known : (history : History) (line : ℕ) (context value : List ℕ) (cut : Option (List ℕ × List ℕ)) → AreLineBytes value
+exten_cut-known : (history : PlanHistory) (line : ℕ) (context value : List ℕ) (cut : Option (List ℕ × List ℕ)) → AreLineBytes value
     → cut_once 44 value ≡ cut → IfOk (exten_cut history line context cut) IsEntry
 exten_cut-known history line context value None bytes c = tt
 exten_cut-known history line context value (Some cut) bytes c =
@@ -283,7 +283,7 @@ exten_cut-known history line context value (Some cut) bytes c =
     (each-cut_rest IsLineByte 44 value cut.0 cut.1 is bytes) refl
 
 -- the entry of an `exten` line
-pub exten_entry-known : (history : History) (line : ℕ) (context value : List ℕ) → AreLineBytes value → IfOk (exten_entry history line context value) IsEntry
+pub exten_entry-known : (history : PlanHistory) (line : ℕ) (context value : List ℕ) → AreLineBytes value → IfOk (exten_entry history line context value) IsEntry
 unfolding exten_entry
 exten_entry-known history line context value bytes = exten_cut-known history line context value (cut_once 44 value) bytes refl
 
@@ -296,7 +296,7 @@ name_again-known : (line : ℕ) (last : Option Meaning) → IsLastName last → 
 name_again-known line None fine = tt
 name_again-known line (Some name) fine = fine
 
-same_cut-known : (history : History) (line : ℕ) (context value : List ℕ) (cut : Option (List ℕ × List ℕ)) → IsLastName history.name → AreLineBytes value
+same_cut-known : (history : PlanHistory) (line : ℕ) (context value : List ℕ) (cut : Option (List ℕ × List ℕ)) → IsLastName history.name → AreLineBytes value
     → cut_once 44 value ≡ cut → IfOk (same_cut history line context cut) IsEntry
 same_cut-known history line context value None last bytes c =
     then-known IsExtension IsEntry (name_again line history.name) _ (name_again-known line history.name last) (λ name fine. tt)
@@ -305,7 +305,7 @@ same_cut-known history line context value (Some cut) last bytes c =
     (name_again-known line history.name last) bytes (cut_once-is 44 value cut.0 cut.1 c)
 
 -- the entry of a `same` line
-pub same_entry-known : (history : History) (line : ℕ) (context value : List ℕ) → IsLastName history.name → AreLineBytes value
+pub same_entry-known : (history : PlanHistory) (line : ℕ) (context value : List ℕ) → IsLastName history.name → AreLineBytes value
     → IfOk (same_entry history line context value) IsEntry
 unfolding same_entry
 same_entry-known history line context value last bytes = same_cut-known history line context value (cut_once 44 value) last bytes refl

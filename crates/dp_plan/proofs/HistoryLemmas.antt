@@ -10,8 +10,8 @@ use Rattle.indexmap.specs.IndexMap.{insert_entry}
 use Rattle.dp_conf.proofs.AnswersLemmas.{snoc_from}
 use Rattle.dp_pattern.specs.Name.{Meaning}
 use Rattle.dp_plan.specs.Extensions.{extension_of, same_extension}
-use Rattle.dp_plan.specs.History.{History, latest, section_in, name_in, priority_in, history_of}
-use Rattle.dp_plan.specs.steps.Reader.{Reading, unread, after, last_priority, history_in}
+use Rattle.dp_plan.specs.History.{PlanHistory, latest, section_in, name_in, priority_in, history_of}
+use Rattle.dp_plan.specs.steps.Reader.{ItemReading, nothing_read, after, last_priority, history_in}
 use Rattle.dp_plan.specs.declared.extension.Extension.{Extension}
 use Rattle.dp_plan.specs.declared.section.Section.TheVariants.{General}
 use Rattle.dp_plan.specs.Item.{Item, Begins, Sets, Adds, Includes, Unknown}
@@ -82,7 +82,7 @@ lookup-insert_entry {K} {V} eq laws (e ∷ es) k v q = by (lookup-insert_entry e
 -- ---- the history
 
 -- the history of some items and one more
-abbrev history_and : List Item → Item → History
+abbrev history_and : List Item → Item → PlanHistory
 history_and items x = record {
   section = unwrap_or (option_or (section_in x) (latest section_in items)) General;
   name = option_flatten (option_or (name_in x) (latest name_in items));
@@ -101,7 +101,7 @@ or_if true x o = refl
 or_if false x o = refl
 
 -- the reading after one more item represents the history with it
-history_in-after : (reading : Reading) (items : List Item) (x : Item) → history_in reading ≡ history_of items → history_in (after reading x) ≡ history_and items x
+history_in-after : (reading : ItemReading) (items : List Item) (x : Item) → history_in reading ≡ history_of items → history_in (after reading x) ≡ history_and items x
 history_in-after reading items (Begins section) same = λ i. record { section = section; name = None; priority = (same i).priority }
 history_in-after reading items (Sets global) same = same
 history_in-after reading items (Adds line context entry) same =
@@ -114,12 +114,12 @@ history_in-after reading items (Includes line context name) same = same
 history_in-after reading items (Unknown line) same = same
 
 -- the reading of some items
-abbrev pub reading_of : List Item → Reading
-reading_of items = fold after unread items
+abbrev pub reading_of : List Item → ItemReading
+reading_of items = fold after nothing_read items
 
 history_kept-push : (items : List Item) (x : Item) → history_in (reading_of items) ≡ history_of items → history_in (reading_of (items ++ x ∷ [])) ≡ history_of (items ++ x ∷ [])
 history_kept-push items x same =
-    ap history_in (fold-append after unread items (x ∷ []))
+    ap history_in (fold-append after nothing_read items (x ∷ []))
     ∙ (history_in-after (reading_of items) items x same ∙ sym (history_of-push items x))
 
 -- the reading of some items represents their history

@@ -45,8 +45,8 @@ adds line context entry = Adds line context entry
 abbrev pub includes : ℕ → List ℕ → List ℕ → Item
 includes line context name = Includes line context name
 
-abbrev pub unknown : ℕ → Item
-unknown line = Unknown line
+abbrev pub unknown_key : ℕ → Item
+unknown_key line = Unknown line
 
 abbrev pub by_item {ℓ} : (P : Item → Type ℓ) → ((section : Section) → P (Begins section)) → ((global : GlobalVariable) → P (Sets global))
     → ((line : ℕ) (context : List ℕ) (entry : Entry) → P (Adds line context entry)) → ((line : ℕ) (context name : List ℕ) → P (Includes line context name))

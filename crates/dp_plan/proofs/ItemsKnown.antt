@@ -10,7 +10,7 @@ use Rattle.dp_conf.proofs.LinesKnown.{IsHeader, IsPair, IsKnownLine}
 use Rattle.dp_conf.proofs.TextLemmas.{each-append, none-any}
 use Rattle.dp_pattern.specs.Name.{Meaning}
 use Rattle.dp_plan.specs.EntryLine.{shallow_at, exten_entry, same_entry}
-use Rattle.dp_plan.specs.History.{History, latest, section_in, name_in, history_of}
+use Rattle.dp_plan.specs.History.{PlanHistory, latest, section_in, name_in, history_of}
 use Rattle.dp_plan.specs.Items.{section_named, global_item, include_item, refused_key, other_item, entry_item, context_item, just, pair_item, line_item, items_after}
 use Rattle.dp_plan.specs.Faults.{plan_fault}
 use Rattle.dp_plan.specs.declared.entry.Entry.{Entry}
@@ -97,7 +97,7 @@ entry_item-known : (context : List ℕ) (line : ℕ) (read : Result Entry LoadFa
 entry_item-known context line (Err fault) fine entry = tt
 entry_item-known context line (Ok made) fine entry = (fine, entry)
 
-context_item-known : (history : History) (context : List ℕ) (line : ℕ) (key value : List ℕ) → IsContextName context → IsLastName history.name
+context_item-known : (history : PlanHistory) (context : List ℕ) (line : ℕ) (key value : List ℕ) → IsContextName context → IsLastName history.name
     → IsPair key value → IfOk (context_item history context line key value) IsFine
 unfolding context_item
 context_item-known history context line key value fine last pair =
@@ -120,14 +120,14 @@ just-known : (read : Result Item LoadFault) → IfOk read IsFine → IfOk (just 
 just-known (Err fault) fine = tt
 just-known (Ok x) fine = (fine, tt)
 
-pair_item-known : (history : History) (section : Section) (line : ℕ) (key value : List ℕ) → IsFineSection section → IsLastName history.name
+pair_item-known : (history : PlanHistory) (section : Section) (line : ℕ) (key value : List ℕ) → IsFineSection section → IsLastName history.name
     → IsPair key value → IfOk (pair_item history section line key value) AreFine
 pair_item-known history General line key value fine last pair = tt
 pair_item-known history Globals line key value fine last pair = just-known (global_item line key value) (global_item-known line key value pair)
 pair_item-known history (Context name) line key value fine last pair =
     just-known (context_item history name line key value) (context_item-known history name line key value fine last pair)
 
-line_item-known : (history : History) (line : LineOf) → IsFineSection history.section → IsLastName history.name → IsKnownLine line
+line_item-known : (history : PlanHistory) (line : LineOf) → IsFineSection history.section → IsLastName history.name → IsKnownLine line
     → IfOk (line_item history line) AreFine
 line_item-known history (Header line name) fine last known = (section-known name known, tt)
 line_item-known history (Pair line key value) fine last known = pair_item-known history history.section line key value fine last known

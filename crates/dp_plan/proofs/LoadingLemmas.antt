@@ -12,10 +12,10 @@ use Rattle.dp_conf.proofs.TakingLemmas.{all_taken-refused}
 use Rattle.dp_plan.specs.Contexts.{PlanContext}
 use Rattle.dp_plan.specs.steps.Draft.{Drafted, remark_notes}
 use Rattle.dp_plan.specs.Faults.{fault_of_conf, reason_of, text_fault}
-use Rattle.dp_plan.specs.History.{History, history_of}
+use Rattle.dp_plan.specs.History.{PlanHistory, history_of}
 use Rattle.dp_plan.specs.Items.{line_item, items_after}
 use Rattle.dp_plan.specs.Loaded.{plan_and_notes, lines_loaded, HaveLines}
-use Rattle.dp_plan.specs.steps.Loading.{MadeOf, unmade, after_item, after_one, draft_made, drafted_of}
+use Rattle.dp_plan.specs.steps.Loading.{MadeOf, nothing_made, after_item, after_one, draft_made, drafted_of}
 use Rattle.dp_plan.specs.Plan.{PlanOf, kept_in, names_in, included_in, plan_of, notes_of, entry_lines_of}
 use Rattle.dp_plan.specs.Ranking.{AreApart}
 use Rattle.dp_plan.specs.steps.Numbers.{AreAllNumbered}
@@ -41,13 +41,13 @@ after_fault fault [] = refl
 after_fault fault (line ∷ lines) = after_fault fault lines
 
 -- if all lines were taken the text has the draft of the state
-pub drafted_of-taken : (text : List ℕ) (before state : State) → before ≡ Ok unmade → all_taken after_one before (lines_of text) ≡ Ok state → drafted_of text ≡ draft_made state
+pub drafted_of-taken : (text : List ℕ) (before state : State) → before ≡ Ok nothing_made → all_taken after_one before (lines_of text) ≡ Ok state → drafted_of text ≡ draft_made state
 unfolding drafted_of
 drafted_of-taken text before state new e = by (lines_of text) (sym (ap (λ (s : State). all_taken after_one s (lines_of text)) new) ∙ e)
   where
-    by : (read : Result (List LineOf) LineFault) → all_taken after_one (Ok unmade) read ≡ Ok state → (text_fault read >>= λ lines. draft_made (fold after_one (Ok unmade) lines)) ≡ draft_made state
+    by : (read : Result (List LineOf) LineFault) → all_taken after_one (Ok nothing_made) read ≡ Ok state → (text_fault read >>= λ lines. draft_made (fold after_one (Ok nothing_made) lines)) ≡ draft_made state
     by (Ok lines) e =
-        let same : fold after_one (Ok unmade) lines ≡ state = cc in
+        let same : fold after_one (Ok nothing_made) lines ≡ state = cc in
         ap draft_made same
     by (Err fault) e = absurd cc
 
@@ -55,7 +55,7 @@ drafted_of-taken text before state new e = by (lines_of text) (sym (ap (λ (s : 
 pub Refuses-text : (text : List ℕ) (before : State) (conf : ConfFault) → Refuses (line_fault conf) (all_taken after_one before (lines_of text)) → Refuses (reason_of (fault_of_conf conf)) (drafted_of text)
 unfolding drafted_of
 Refuses-text text before (At line kind) refused =
-    ap (λ read. text_fault read >>= λ lines. draft_made (fold after_one (Ok unmade) lines))
+    ap (λ read. text_fault read >>= λ lines. draft_made (fold after_one (Ok nothing_made) lines))
     (all_taken-refused after_one before (lines_of text) (record { line = line; kind = kind }) refused)
 Refuses-text text before conf_no_memory refused = tt
 
@@ -63,14 +63,14 @@ Refuses-text text before conf_no_memory refused = tt
 
 -- the result of some items
 abbrev pub made_by : List Item → MadeOf
-made_by items = fold after_item unmade items
+made_by items = fold after_item nothing_made items
 
 pub made_by-append : (before items : List Item) → fold after_item (made_by before) items ≡ made_by (before ++ items)
-made_by-append before items = sym (fold-append after_item unmade before items)
+made_by-append before items = sym (fold-append after_item nothing_made before items)
 
 -- what they leave for the next line is their history
 pub made_by-history : (before : List Item) → history_in (made_by before).reading ≡ history_of before
-made_by-history before = ap history_in (reading-items unmade before) ∙ history_kept before
+made_by-history before = ap history_in (reading-items nothing_made before) ∙ history_kept before
 
 abbrev made_of_items : List Item → Result (List Item) LoadFault → State
 made_of_items before read = read >>= λ items. Ok (made_by (before ++ items))
@@ -83,7 +83,7 @@ made_of_items-front before item (Err fault) = refl
 after_lines-items : (before : List Item) (lines : List LineOf) → fold after_one (Ok (made_by before)) lines ≡ made_of_items before (items_after before lines)
 after_lines-items before [] = ap (λ (xs : List Item). let done : State = Ok (made_by xs) in done) (sym (append-nil before))
 after_lines-items before (line ∷ lines) =
-    ap (λ (h : History). read_by (line_item h line)) (made_by-history before) ∙ by (line_item (history_of before) line) (λ item. after_lines-items (before ++ item) lines)
+    ap (λ (h : PlanHistory). read_by (line_item h line)) (made_by-history before) ∙ by (line_item (history_of before) line) (λ item. after_lines-items (before ++ item) lines)
   where
     read_by : Result (List Item) LoadFault → State
     read_by read = fold after_one (read >>= λ items. let done : State = Ok (fold after_item (made_by before) items) in done) lines
@@ -106,7 +106,7 @@ draft_made-items (Err fault) = refl
 drafted-items : (text : List ℕ) → drafted_of text ≡ (text_fault (lines_of text) >>= λ lines. draft_of_items (items_after [] lines))
 unfolding drafted_of
 drafted-items text = by (lines_of text) where
-  by : (read : Result (List LineOf) LineFault) → (text_fault read >>= λ lines. draft_made (fold after_one (Ok unmade) lines)) ≡ (text_fault read >>= λ lines. draft_of_items (items_after [] lines))
+  by : (read : Result (List LineOf) LineFault) → (text_fault read >>= λ lines. draft_made (fold after_one (Ok nothing_made) lines)) ≡ (text_fault read >>= λ lines. draft_of_items (items_after [] lines))
   by (Ok lines) = ap draft_made (after_lines-items [] lines) ∙ draft_made-items (items_after [] lines)
   by (Err fault) = refl
 

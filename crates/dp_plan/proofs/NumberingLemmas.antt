@@ -41,8 +41,8 @@ no_word : (b : ℕ) (bs : List ℕ) (other : ℕ) (rest : List ℕ) → is_digit
 no_word b bs other rest digit above = ap (λ (first : Bool). first && same_text bs rest) (digit-apart b other digit above)
 
 -- a number above the greatest of 64 bits is written like the greatest
-capped : (number : ℕ) → written_number (Some (min number (2 ^ 64 - 1))) ≡ written_number (Some number)
-capped number = by (nat_le number (2 ^ 64 - 1)) refl
+written_at_limit : (number : ℕ) → written_number (Some (min number (2 ^ 64 - 1))) ≡ written_number (Some number)
+written_at_limit number = by (nat_le number (2 ^ 64 - 1)) refl
   where
     by : (t : Bool) → nat_le number (2 ^ 64 - 1) ≡ t → written_number (Some (min number (2 ^ 64 - 1))) ≡ written_number (Some number)
     by true within =
@@ -81,7 +81,7 @@ number_as_written (b ∷ bs) number read = by (list_all is_digit (b ∷ bs)) ref
     by false all read = absurd cc
     by true all read =
         let is : min exact (2 ^ 64 - 1) ≡ number = cc in
-        words all ∙ (sym (capped exact) ∙ ap (λ (n : ℕ). written_number (Some n)) is)
+        words all ∙ (sym (written_at_limit exact) ∙ ap (λ (n : ℕ). written_number (Some n)) is)
 
 -- a digit is not a parenthesis
 digit-no_parenthesis : (b : ℕ) → is_digit b ≡ true → (b == byte "(") ≡ false

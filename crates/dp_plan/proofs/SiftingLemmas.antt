@@ -10,13 +10,13 @@ use Rattle.dp_conf.specs.declared.fault.ConfFault.TheVariants.{At, NoMemory as c
 use Rattle.dp_conf.proofs.TakingLemmas.{all_taken-refused}
 use Rattle.dp_plan.specs.AllFaults.{items_in, fault_in, line_in, faults_after, faultless_after, kept_after, faults_of}
 use Rattle.dp_plan.specs.Faults.{fault_of_conf, reason_of, text_fault}
-use Rattle.dp_plan.specs.History.{History, history_of}
+use Rattle.dp_plan.specs.History.{PlanHistory, history_of}
 use Rattle.dp_plan.specs.Item.{Item}
 use Rattle.dp_plan.specs.Items.{line_item, items_after}
 use Rattle.dp_plan.specs.Loaded.{plan_and_notes}
 use Rattle.dp_plan.specs.Plan.{PlanOf, plan_of, notes_of}
 use Rattle.dp_plan.specs.steps.Loading.{MadeOf, after_items}
-use Rattle.dp_plan.specs.steps.Sifting.{Sifted, unsifted, sifted_by, after_any}
+use Rattle.dp_plan.specs.steps.Sifting.{Sifted, nothing_sifted, sifted_by, after_any}
 use Rattle.dp_plan.specs.declared.fault.LoadFault.{LoadFault}
 use Rattle.dp_plan.specs.declared.note.Note.{Note}
 use Rattle.dp_plan.proofs.LoadedLemmas.{of_items, of_lines}
@@ -32,7 +32,7 @@ sifted_of items faults = record { made = made_by items; faults = faults }
 sifted-faults : (before : List Item) (found : List LoadFault) (lines : List LineOf) → (fold after_any (sifted_of before found) lines).faults ≡ found ++ faults_after before lines
 sifted-faults before found [] = sym (append-nil found)
 sifted-faults before found (line ∷ lines) =
-    ap (λ (h : History). read_by (line_item h line)) (made_by-history before)
+    ap (λ (h : PlanHistory). read_by (line_item h line)) (made_by-history before)
     ∙ by (line_item (history_of before) line) (λ item. sifted-faults (before ++ item) found lines) (λ fault. sifted-faults before (found ++ fault ∷ []) lines)
   where
     read_by : Result (List Item) LoadFault → List LoadFault
@@ -50,13 +50,13 @@ sifted-faults before found (line ∷ lines) =
         ∙ ap (λ (items : List Item). found ++ (fault ∷ faults_after items lines)) (sym (append-nil before)))
 
 -- if all lines were taken the faults of the text are those that were found
-pub faults_of-taken : (text : List ℕ) (before state : Sifted) → before ≡ unsifted → all_taken after_any before (lines_of text) ≡ Ok state → faults_of text ≡ Ok state.faults
+pub faults_of-taken : (text : List ℕ) (before state : Sifted) → before ≡ nothing_sifted → all_taken after_any before (lines_of text) ≡ Ok state → faults_of text ≡ Ok state.faults
 unfolding faults_of
 faults_of-taken text before state new e = by (lines_of text) (sym (ap (λ (s : Sifted). all_taken after_any s (lines_of text)) new) ∙ e)
   where
-    by : (read : Result (List LineOf) LineFault) → all_taken after_any unsifted read ≡ Ok state → (text_fault read >>= λ lines. Ok (faults_after [] lines)) ≡ Ok state.faults
+    by : (read : Result (List LineOf) LineFault) → all_taken after_any nothing_sifted read ≡ Ok state → (text_fault read >>= λ lines. Ok (faults_after [] lines)) ≡ Ok state.faults
     by (Ok lines) e =
-        let same : fold after_any unsifted lines ≡ state = cc in
+        let same : fold after_any nothing_sifted lines ≡ state = cc in
         ap (λ (faults : List LoadFault). let done : Result (List LoadFault) LoadFault = Ok faults in done)
         (sym (sifted-faults [] [] lines) ∙ ap (λ (s : Sifted). s.faults) same)
     by (Err fault) e = absurd cc

@@ -15,13 +15,13 @@ use Rattle.dp_pattern.specs.Name.{Meaning}
 use Rattle.dp_pattern.specs.Spelling.{spelling}
 use Rattle.dp_plan.specs.Extensions.{extension_of, same_extension}
 use Rattle.dp_plan.specs.steps.Reader.{with_priority}
-use Rattle.dp_plan.specs.steps.Table.{StandsAt, Table, HasNumber, number_in}
+use Rattle.dp_plan.specs.steps.Table.{IsFirstAt, Table, HasNumber, number_in}
 use Rattle.dp_plan.specs.declared.extension.Extension.{Extension}
 use Rattle.dp_plan.proofs.HistoryLemmas.{same_extension_equiv}
 use Rattle.dp_plan.proofs.PositionLemmas.{or_right, or_true, position-more, position-new, same_position}
 
 -- an element at a place is within the list
-pub stands_within : {X : Type 0} (test : X → Bool) (xs : List X) (place : ℕ) → StandsAt test xs place → place < length xs
+pub stands_within : {X : Type 0} (test : X → Bool) (xs : List X) (place : ℕ) → IsFirstAt test xs place → place < length xs
 stands_within {X} test xs place stands = subst (λ n. n < length xs) (sym stands.at) (within xs stands.there) where
   within : (ys : List X) → list_any test ys ≡ true → position_or_len test ys < length ys
   within [] there = absurd cc
@@ -36,7 +36,7 @@ number_within table extension number has =
     subst (λ n. number < n) (length-keys_of table) (stands_within (same_extension extension) (keys_of table) number has)
 
 -- what is found is at its place
-pub stands_found : {X : Type 0} (test : X → Bool) (xs : List X) (place : ℕ) (d : X) → position test xs ≡ Some place → StandsAt test xs place
+pub stands_found : {X : Type 0} (test : X → Bool) (xs : List X) (place : ℕ) (d : X) → position test xs ≡ Some place → IsFirstAt test xs place
 stands_found test xs place d found =
     let at = position-Some test xs place d found in
     record {

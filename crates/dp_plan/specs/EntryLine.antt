@@ -17,7 +17,7 @@ use Rattle.dp_conf.specs.Words.{same_text}
 use Rattle.dp_pattern.specs.Name.{Meaning, meaning_of}
 use Rattle.dp_pattern.specs.Spelling.{spelling}
 use Rattle.dp_plan.specs.Faults.{at_line, name_at_line, plan_fault}
-use Rattle.dp_plan.specs.History.{History}
+use Rattle.dp_plan.specs.History.{PlanHistory}
 use Rattle.dp_plan.specs.declared.fault.Word.TheVariants.{Hint, CallerId, Variable, OldForm, PriorityWord}
 use Rattle.dp_plan.specs.declared.fault.PlanKind.{PlanKind}
 use Rattle.dp_plan.specs.declared.fault.PlanKind.TheVariants.{BadPriority, NoPrevious, BadLabel, BadApplication, LeftOut, TooDeep, NoExten, PriorityLimit, ShortLine}
@@ -161,7 +161,7 @@ shallow_at line text = if is_too_deep text then Err (plan_fault line TooDeep) el
 -- ---- the line
 
 -- the entry of a name with its priority and its application
-abbrev pub entry_by : History → ℕ → List ℕ → Meaning → List ℕ → List ℕ → Result Entry LoadFault
+abbrev pub entry_by : PlanHistory → ℕ → List ℕ → Meaning → List ℕ → List ℕ → Result Entry LoadFault
 entry_by history line context name priority application =
     at_line line (written_priority priority) >>= λ written.
     at_line line (number_after (history.priority context name) written.0) >>= λ number.
@@ -170,31 +170,31 @@ entry_by history line context name priority application =
     Ok (record { name = name; priority = number; label = written.1; application = called.0; arguments = arguments })
 
 -- the same, if the name may be faulty
-abbrev pub entry_of : History → ℕ → List ℕ → Result Meaning LoadFault → List ℕ → List ℕ → Result Entry LoadFault
+abbrev pub entry_of : PlanHistory → ℕ → List ℕ → Result Meaning LoadFault → List ℕ → List ℕ → Result Entry LoadFault
 entry_of history line context name priority application =
     name >>= λ meaning. entry_by history line context meaning priority application
 
 -- an `exten` line, given its name and the rest cut at the second comma
-abbrev pub exten_rest : History → ℕ → List ℕ → List ℕ → Option (List ℕ × List ℕ) → Result Entry LoadFault
+abbrev pub exten_rest : PlanHistory → ℕ → List ℕ → List ℕ → Option (List ℕ × List ℕ) → Result Entry LoadFault
 exten_rest history line context name None = Err (plan_fault line ShortLine)
 exten_rest history line context name (Some cut) =
     entry_of history line context (name_of line name) (trim cut.0) (trim cut.1)
 
 -- the same, given the value cut at the first comma
-abbrev pub exten_cut : History → ℕ → List ℕ → Option (List ℕ × List ℕ) → Result Entry LoadFault
+abbrev pub exten_cut : PlanHistory → ℕ → List ℕ → Option (List ℕ × List ℕ) → Result Entry LoadFault
 exten_cut history line context None = Err (plan_fault line ShortLine)
 exten_cut history line context (Some cut) = exten_rest history line context (trim cut.0) (cut_once (byte ",") cut.1)
 
 -- the entry that the value of an `exten` line writes
-unfoldable pub exten_entry : History → ℕ → List ℕ → List ℕ → Result Entry LoadFault
+unfoldable pub exten_entry : PlanHistory → ℕ → List ℕ → List ℕ → Result Entry LoadFault
 exten_entry history line context value = exten_cut history line context (cut_once (byte ",") value)
 
 -- a `same` line, given the value cut at its comma
-abbrev pub same_cut : History → ℕ → List ℕ → Option (List ℕ × List ℕ) → Result Entry LoadFault
+abbrev pub same_cut : PlanHistory → ℕ → List ℕ → Option (List ℕ × List ℕ) → Result Entry LoadFault
 same_cut history line context None = name_again line history.name >>= λ name. Err (plan_fault line ShortLine)
 same_cut history line context (Some cut) =
     entry_of history line context (name_again line history.name) (trim cut.0) (trim cut.1)
 
 -- the entry that the value of a `same` line writes
-unfoldable pub same_entry : History → ℕ → List ℕ → List ℕ → Result Entry LoadFault
+unfoldable pub same_entry : PlanHistory → ℕ → List ℕ → List ℕ → Result Entry LoadFault
 same_entry history line context value = same_cut history line context (cut_once (byte ",") value)

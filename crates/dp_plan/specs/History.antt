@@ -9,7 +9,7 @@ use Rattle.dp_plan.specs.declared.section.Section.TheVariants.{General}
 use Rattle.dp_plan.specs.Item.{Item, Begins, Sets, Adds, Includes, Unknown}
 
 -- the section of the line, the name of the last extension since its header, and the last priority of an extension
-pub record History : Type 0 where
+pub record PlanHistory : Type 0 where
   pub section : Section
   pub name : Option Meaning
   pub priority : List ℕ → Meaning → Option ℕ
@@ -45,7 +45,7 @@ priority_in context name (Includes line c included) = None
 priority_in context name (Unknown line) = None
 
 -- what all items say together, including those that are dropped later
-abbrev pub history_of : List Item → History
+abbrev pub history_of : List Item → PlanHistory
 history_of items = record {
   section = unwrap_or (latest section_in items) General;
   name = option_flatten (latest name_in items);

@@ -7,7 +7,7 @@ use Rattle.dp_conf.specs.Lines.{LineOf, Header, Pair}
 use Rattle.dp_conf.specs.Words.{same_word}
 use Rattle.dp_plan.specs.EntryLine.{shallow_at, exten_entry, same_entry}
 use Rattle.dp_plan.specs.Faults.{plan_fault}
-use Rattle.dp_plan.specs.History.{History, history_of}
+use Rattle.dp_plan.specs.History.{PlanHistory, history_of}
 use Rattle.dp_plan.specs.declared.entry.Entry.{Entry}
 use Rattle.dp_plan.specs.declared.fault.Word.TheVariants.{Switch, IgnorePat, IncludeTimes}
 use Rattle.dp_plan.specs.declared.fault.PlanKind.{PlanKind}
@@ -53,7 +53,7 @@ abbrev pub entry_item : List ℕ → ℕ → Result Entry LoadFault → Result I
 entry_item context line entry = entry >>= λ e. Ok (Adds line context e)
 
 -- a pair of a context
-unfoldable pub context_item : History → List ℕ → ℕ → List ℕ → List ℕ → Result Item LoadFault
+unfoldable pub context_item : PlanHistory → List ℕ → ℕ → List ℕ → List ℕ → Result Item LoadFault
 context_item history context line key value =
     if same_word key (codes "exten") then entry_item context line (exten_entry history line context value)
     else if same_word key (codes "same") then entry_item context line (same_entry history line context value)
@@ -65,13 +65,13 @@ abbrev pub just : Result Item LoadFault → Result (List Item) LoadFault
 just item = item >>= λ i. Ok (i ∷ [])
 
 -- a pair, given its section; settings have no item
-abbrev pub pair_item : History → Section → ℕ → List ℕ → List ℕ → Result (List Item) LoadFault
+abbrev pub pair_item : PlanHistory → Section → ℕ → List ℕ → List ℕ → Result (List Item) LoadFault
 pair_item history General line key value = Ok []
 pair_item history Globals line key value = just (global_item line key value)
 pair_item history (Context name) line key value = just (context_item history name line key value)
 
 -- the item of a line, or the line's fault, given what the lines before it say
-abbrev pub line_item : History → LineOf → Result (List Item) LoadFault
+abbrev pub line_item : PlanHistory → LineOf → Result (List Item) LoadFault
 line_item history (Header line name) = Ok (Begins (section_named name) ∷ [])
 line_item history (Pair line key value) = pair_item history history.section line key value
 

@@ -10,7 +10,7 @@ ghost use Rattle.dp_plan.specs.Loaded.{plan_and_notes};
 ghost use Rattle.dp_plan.specs.steps.Sifting as spec;
 
 use crate::fault::{LoadFault, LoadKind};
-use crate::made::Made;
+use crate::line_results::Made;
 use dp_conf::{FaultyLine, Line, NoMemory, TakeFault, TakeLine, beside, take_lines};
 use std::alloc::Global;
 use std::marker::Model;
@@ -33,7 +33,7 @@ impl Model for PlanFaults {
 impl PlanFaults {
     /// The value before the first line.
     fn new(alloc: Global) -> Self
-        ensures { result ≡ spec.unsifted }
+        ensures { result ≡ spec.nothing_sifted }
     {
         PlanFaults {
             made: Made::new(alloc),

@@ -4,7 +4,7 @@ ghost use Rattle.std.specs.List.{All, flat_map};
 ghost use Rattle.dp_plan.specs.Contexts.{with_entry, with_include};
 ghost use Rattle.dp_plan.specs.steps.Draft as spec;
 ghost use Rattle.dp_plan.specs.steps.Open.{section_of, last_of, IsOpenSection};
-ghost use Rattle.dp_plan.specs.steps.Table.{StandsAt, Table};
+ghost use Rattle.dp_plan.specs.steps.Table.{IsFirstAt, Table};
 ghost use Rattle.dp_plan.specs.steps.Numbers.{AreAllNumbered, with_number};
 ghost use Rattle.dp_conf.specs.Changes.{changed_at};
 ghost use Rattle.dp_conf.specs.Words.{same_text};
@@ -124,7 +124,7 @@ impl Draft {
         requires { is_named self.old.names name.now ≡ false }
         ensures ok { OnOk result (self.new ≡ spec.with_context self.old name.now) }
         ensures err { OnErr result (self.new ≡ self.old) }
-        ensures place { IfOk result (λ place. StandsAt (same_text name.now) self.new.names place) }
+        ensures place { IfOk result (λ place. IsFirstAt (same_text name.now) self.new.names place) }
     {
         self.contexts.reserve(1)?;
         self.numbers.reserve(1)?;
@@ -142,7 +142,7 @@ impl Draft {
     fn open(&mut self, alloc: Global, name: &SharedText) -> Result<usize, NoMemory>
         ensures ok { OnOk result (self.new ≡ spec.with_context self.old name.now) }
         ensures err { OnErr result (self.new ≡ self.old) }
-        ensures place { IfOk result (λ place. StandsAt (same_text name.now) self.new.names place) }
+        ensures place { IfOk result (λ place. IsFirstAt (same_text name.now) self.new.names place) }
     {
         match self.names.get_index_of(name) {
             Some(place) => Ok(place),
@@ -170,7 +170,7 @@ impl Draft {
     }
 
     /// Takes the label of an entry, if it has one, and returns whether it was taken already.
-    #[tactic(auto, using(crate::proofs::ClaimLemmas::unlabelled))]
+    #[tactic(auto, using(crate::proofs::ClaimLemmas::no_label_is_taken))]
     fn take_label(&mut self, number: u32, entry: &Entry) -> Result<bool, NoMemory>
         ensures taken { IfOk result (λ taken. taken ≡ spec.is_marked self.old (spec.label_of number entry.now)) }
         ensures marked { OnOk result (self.new ≡ spec.with_label self.old (spec.label_of number entry.now)) }

@@ -6,7 +6,7 @@ ghost use Rattle.dp_plan.specs.steps.Loading as spec;
 
 use crate::draft::Draft;
 use crate::fault::{LoadFault, LoadKind};
-use crate::made::Made;
+use crate::line_results::Made;
 use dp_conf::{FirstFault, Line, NoMemory, TakeLine, beside, take_lines};
 use std::alloc::Global;
 use std::marker::Model;
@@ -32,7 +32,7 @@ impl Model for PlanLoading {
 impl PlanLoading {
     /// The value before the first line.
     fn new(alloc: Global) -> Self
-        ensures { result ≡ Ok spec.unmade }
+        ensures { result ≡ Ok spec.nothing_made }
     {
         PlanLoading {
             made: Made::new(alloc),

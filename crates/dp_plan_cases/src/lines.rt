@@ -5,9 +5,9 @@ use std::alloc::Global;
 use std::test::Fail;
 
 /// The dialplan that a text loads as: each context as `[NAME]`, and after it the line of each of its entries.
-struct Lines;
+struct LinesOfText;
 
-impl Question for Lines {
+impl Question for LinesOfText {
     fn answer(alloc: Global, asked: &str) -> Result<String, Fail> {
         let text = bytes_of(alloc, asked)?;
         lines_of(alloc, &text)
@@ -87,9 +87,9 @@ const LINES: &str = r"
 const TWO: &[u8] = b"[m]\nexten => s,1,A\n\nexten => s,2,B\n[o]\n";
 
 /// The line of an entry of that dialplan, given the number of its context and its own number.
-struct LineOf;
+struct LineOfEntry;
 
-impl Question for LineOf {
+impl Question for LineOfEntry {
     fn answer(alloc: Global, asked: &str) -> Result<String, Fail> {
         line_of(alloc, asked)
     }
@@ -125,8 +125,8 @@ const LINE_OF: &str = r"
 ";
 
 fn check_tables(alloc: Global) -> Result<(), Fail> {
-    check::<Lines>(alloc, LINES)?;
-    check::<LineOf>(alloc, LINE_OF)
+    check::<LinesOfText>(alloc, LINES)?;
+    check::<LineOfEntry>(alloc, LINE_OF)
 }
 
 /// Entries have the lines from which they were loaded.

@@ -71,25 +71,25 @@ fn check_notes(rt: &impl Abort, notes: &[Note]) {
 
 /// A dialplan, shown without its notes, and its listing.
 #[derive(Drop)]
-struct Listed {
+struct PlanListing {
     shown: String,
     bytes: Vec<u8>,
 }
 
-fn shown_and_listed(alloc: Global, plan: &Dialplan) -> Result<Listed, NoMemory> {
+fn shown_and_listed(alloc: Global, plan: &Dialplan) -> Result<PlanListing, NoMemory> {
     let shown = shown_plan(alloc, plan)?;
     let bytes = list(alloc, plan)?;
-    Ok(Listed { shown, bytes })
+    Ok(PlanListing { shown, bytes })
 }
 
 /// The dialplan that a listing loads as, and the listing of that dialplan.
-fn listed_again(rt: &impl Abort, alloc: Global, listing: &[u8]) -> Result<Listed, Fail> {
+fn listed_again(rt: &impl Abort, alloc: Global, listing: &[u8]) -> Result<PlanListing, Fail> {
     let (plan, notes) = Dialplan::load(alloc, listing)?;
     check_notes(rt, &notes);
     Ok(shown_and_listed(alloc, &plan)?)
 }
 
-fn check_same(rt: &impl Abort, got: &Listed, want: &Listed, asked: &str) {
+fn check_same(rt: &impl Abort, got: &PlanListing, want: &PlanListing, asked: &str) {
     assert!(rt; got.shown.as_str() == want.shown.as_str(), "of {asked}");
     assert!(rt; got.bytes.as_slice() == want.bytes.as_slice(), "of {asked}");
 }

@@ -246,9 +246,9 @@ fn made_of(alloc: Global, plan: &PlanFiles) -> Result<String, Fail> {
     Ok(out)
 }
 
-struct Reports;
+struct NoticeReports;
 
-impl Question for Reports {
+impl Question for NoticeReports {
     fn answer(alloc: Global, asked: &str) -> Result<String, Fail> {
         match read(alloc, asked)? {
             Some(plan) => report_of(alloc, &plan),
@@ -279,9 +279,9 @@ impl Question for Unfollowed {
     }
 }
 
-struct Notes;
+struct PlanNotes;
 
-impl Question for Notes {
+impl Question for PlanNotes {
     fn answer(alloc: Global, asked: &str) -> Result<String, Fail> {
         match read(alloc, asked)? {
             Some(plan) => notes_of(alloc, &plan),
@@ -336,7 +336,7 @@ impl Question for Macros {
 
 #[test]
 fn reports_have_all_notices_at_their_lines(rt: HostRuntime) -> Result<(), Fail> {
-    check::<Reports>(rt.alloc(), REPORTS)
+    check::<NoticeReports>(rt.alloc(), REPORTS)
 }
 
 #[test]
@@ -351,7 +351,7 @@ fn notes_on_what_is_not_followed_are_printed_with_the_faults(rt: HostRuntime) ->
 
 #[test]
 fn notes_are_printed_without_the_faults(rt: HostRuntime) -> Result<(), Fail> {
-    check::<Notes>(rt.alloc(), NOTES)
+    check::<PlanNotes>(rt.alloc(), NOTES)
 }
 
 #[test]

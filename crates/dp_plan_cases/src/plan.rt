@@ -15,8 +15,8 @@ pub(crate) mod render;
 pub(crate) mod rows;
 
 use crate::plan::cuts::Fronts;
-use crate::plan::every_fault::EveryFault;
-use crate::plan::render::Loads;
+use crate::plan::every_fault::EveryPlanFault;
+use crate::plan::render::PlanLoads;
 use dp_case_tables::{check, check_all};
 use std::alloc::Global;
 use std::test::Fail;
@@ -68,8 +68,8 @@ pub(crate) fn tables_of_parts() -> &'static [&'static str] {
 }
 
 fn check_loads(alloc: Global) -> Result<(), Fail> {
-    check_all::<Loads>(alloc, tables_of_texts())?;
-    check_all::<Loads>(alloc, tables_of_parts())
+    check_all::<PlanLoads>(alloc, tables_of_texts())?;
+    check_all::<PlanLoads>(alloc, tables_of_parts())
 }
 
 #[test]
@@ -84,5 +84,5 @@ fn cut_texts_load_or_have_a_fault_in_their_last_line(rt: HostRuntime) -> Result<
 
 #[test]
 fn every_fault_of_a_text_is_reported(rt: HostRuntime) -> Result<(), Fail> {
-    check::<EveryFault>(rt.alloc(), every_fault::EVERY)
+    check::<EveryPlanFault>(rt.alloc(), every_fault::EVERY)
 }

@@ -44,9 +44,9 @@ fn shown_of(alloc: Global, queues: &QueueFiles) -> Result<String, Fail> {
     Ok(out)
 }
 
-struct Queues;
+struct QueueNotices;
 
-impl Question for Queues {
+impl Question for QueueNotices {
     fn answer(alloc: Global, asked: &str) -> Result<String, Fail> {
         match read(alloc, asked)? {
             Some(queues) => shown_of(alloc, &queues),
@@ -57,5 +57,5 @@ impl Question for Queues {
 
 #[test]
 fn queues_are_read_with_their_files(rt: HostRuntime) -> Result<(), Fail> {
-    check::<Queues>(rt.alloc(), QUEUES)
+    check::<QueueNotices>(rt.alloc(), QUEUES)
 }

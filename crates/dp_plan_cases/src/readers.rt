@@ -428,9 +428,9 @@ fn push_bytes(out: &mut String, alloc: Global, plan: &Dialplan) -> Result<(), No
 }
 
 /// A dialplan with all its bytes, and its notes.
-struct Bytes;
+struct AllBytes;
 
-impl Question for Bytes {
+impl Question for AllBytes {
     fn answer(alloc: Global, asked: &str) -> Result<String, Fail> {
         let text = bytes_of(alloc, asked)?;
         bytes_shown(alloc, &text)
@@ -479,7 +479,7 @@ fn dialplans_are_read_by_numbers_and_names(rt: HostRuntime) -> Result<(), Fail> 
 fn check_values(alloc: Global) -> Result<(), Fail> {
     check::<Limits>(alloc, LIMITS)?;
     check::<SameGlobals>(alloc, SAME_GLOBALS)?;
-    check::<Bytes>(alloc, HIGH_BYTES)
+    check::<AllBytes>(alloc, HIGH_BYTES)
 }
 
 /// Priorities have limits, global variables compare, and bytes above 127 are kept.

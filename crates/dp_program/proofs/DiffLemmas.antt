@@ -13,7 +13,7 @@ use Rattle.dp_diff.specs.Differences.{Difference, differences}
 use Rattle.dp_diff.specs.Printing.{text_of}
 use Rattle.dp_program.specs.Diffs.{DiffsFiles, LoadsFrom, OnBoth, OnBothOf, WritesDiff, both_plans, first_place, place_of_diff, plan_in, plan_read, status_of}
 use Rattle.dp_program.specs.Faulted.{PlaceOf, StandsIn, in_none, nowhere, place_in_file, place_of, place_of_report, place_unread, unread_fault, unread_place, without_place}
-use Rattle.dp_program.specs.Files.{Reads, Source}
+use Rattle.dp_program.specs.Files.{Reads, ByteSource}
 use Rattle.dp_program.specs.declared.faulted.Faulted.{Faulted}
 use Rattle.dp_program.specs.declared.faulted.Unread.{Unread}
 use Rattle.dp_program.proofs.ReadsLemmas.{Reads-any, Reads-weaker, by_reason}
@@ -43,14 +43,14 @@ diff_lacks old (Err fault) = Appends-nil old
 
 -- memory may run out before anything was written
 pub on_both_lacks : {X : Type 0} (Holds : Result (PlanOf × PlanOf) PbxFault → Result X PbxFault → Type 0) → ((given : Result (PlanOf × PlanOf) PbxFault) → Holds given (Err NoMemory))
-    → (files : List ℕ → Source) (before_path after_path : List ℕ) → OnBoth Holds files before_path after_path (Err (nowhere NoMemory))
+    → (files : List ℕ → ByteSource) (before_path after_path : List ℕ) → OnBoth Holds files before_path after_path (Err (nowhere NoMemory))
 on_both_lacks Holds lacks files before_path after_path =
     Reads-any (files before_path) _ (λ before. Reads-any (files after_path) _ (λ after. (
       lacks (both_plans (plan_read before) (plan_read after)),
       lacks_place before_path after_path before after,
     )))
 
-pub diffs_lack : (files : List ℕ → Source) (before_path after_path : List ℕ) (old : Option (List ℕ)) → DiffsFiles files before_path after_path old old (Err (nowhere NoMemory))
+pub diffs_lack : (files : List ℕ → ByteSource) (before_path after_path : List ℕ) (old : Option (List ℕ)) → DiffsFiles files before_path after_path old old (Err (nowhere NoMemory))
 diffs_lack files before_path after_path old = on_both_lacks (WritesDiff old old) (diff_lacks old) files before_path after_path
 
 -- ---- a dialplan that is loaded
@@ -62,14 +62,14 @@ unread_loads path unread at =
     by_reason (λ fault text. Refuses (reason_of fault) (plan_read text) × (place_of (place_unread unread fault) ≡ place_of_report path text fault))
     (λ code line. (refl, ap (λ path. unread_place path (Coded code line)) at)) (λ text. (tt, lacks_report_place path text))
 
-pub load_unread : (path : List ℕ) (source : Source) (unread : Unread) → unread.path.now ≡ path → Reads source (λ text. Refuses (reason_of unread.fault) text)
+pub load_unread : (path : List ℕ) (source : ByteSource) (unread : Unread) → unread.path.now ≡ path → Reads source (λ text. Refuses (reason_of unread.fault) text)
     → Reads source (LoadsFrom path (Err (unread_fault unread)))
 load_unread path source unread at reads =
     Reads-weaker (λ text. Refuses (reason_of unread.fault) text) (LoadsFrom path (Err (unread_fault unread)))
     (λ text refused. unread_loads path unread at unread.fault text refused) reads
 
 -- if its file was read
-pub load_read : (path : List ℕ) (source : Source) (read given asked : List ℕ) → given ≡ read → asked ≡ read → (plan : Result PlanOf PbxFault) (loaded : Result PlanOf Faulted)
+pub load_read : (path : List ℕ) (source : ByteSource) (read given asked : List ℕ) → given ≡ read → asked ≡ read → (plan : Result PlanOf PbxFault) (loaded : Result PlanOf Faulted)
     → Reads source (λ text. text ≡ Ok read) → without_place loaded ≡ plan → StandsIn (place_in_file path asked) loaded → Answers (λ plan. plan) reason_of plan (plan_in given)
     → Reads source (LoadsFrom path loaded)
 load_read path source read given asked given-is asked-is plan loaded reads same stands answers =
@@ -99,7 +99,7 @@ module _ {X : Type 0} (Holds : Result (PlanOf × PlanOf) PbxFault → Result X P
     stands ∙ (sym (lacks_report_place before_path before) ∙ lacks_place before_path after_path before after),
   )
 
-  pub both_refused_before : (files : List ℕ → Source) (before_path after_path : List ℕ) (faulted : Faulted)
+  pub both_refused_before : (files : List ℕ → ByteSource) (before_path after_path : List ℕ) (faulted : Faulted)
       → Reads (files before_path) (LoadsFrom before_path (Err faulted)) → OnBoth Holds files before_path after_path (Err faulted)
   both_refused_before files before_path after_path faulted reads =
       Reads-weaker (LoadsFrom before_path (Err faulted)) (λ before. Reads (files after_path) (OnBothOf Holds before_path after_path (Err faulted) before))
@@ -118,7 +118,7 @@ module _ {X : Type 0} (Holds : Result (PlanOf × PlanOf) PbxFault → Result X P
     stands ∙ (sym (lacks_report_place after_path after) ∙ lacks_first (plan_read after) _ _ (lacks_report_place after_path after) refl),
   )
 
-  pub both_refused_after : (files : List ℕ → Source) (before_path after_path : List ℕ) (plan : PlanOf) (faulted : Faulted)
+  pub both_refused_after : (files : List ℕ → ByteSource) (before_path after_path : List ℕ) (plan : PlanOf) (faulted : Faulted)
       → Reads (files before_path) (LoadsFrom before_path (Ok plan)) → Reads (files after_path) (LoadsFrom after_path (Err faulted))
       → OnBoth Holds files before_path after_path (Err faulted)
   both_refused_after files before_path after_path plan faulted is reads =
@@ -128,7 +128,7 @@ module _ {X : Type 0} (Holds : Result (PlanOf × PlanOf) PbxFault → Result X P
       (refused_after after_path plan (place_of faulted.place) faulted.fault after refused.0 refused.1)) reads) is
 
 -- both were loaded
-pub both_read : {X : Type 0} (Holds : Result (PlanOf × PlanOf) PbxFault → Result X PbxFault → Type 0) (files : List ℕ → Source) (before_path after_path : List ℕ) (plan later : PlanOf) (result : Result X PbxFault) (answered : Result X Faulted)
+pub both_read : {X : Type 0} (Holds : Result (PlanOf × PlanOf) PbxFault → Result X PbxFault → Type 0) (files : List ℕ → ByteSource) (before_path after_path : List ℕ) (plan later : PlanOf) (result : Result X PbxFault) (answered : Result X Faulted)
     → Reads (files before_path) (LoadsFrom before_path (Ok plan)) → Reads (files after_path) (LoadsFrom after_path (Ok later)) → without_place answered ≡ result
     → Holds (Ok (plan, later)) result → StandsIn (λ _. in_none) answered → OnBoth Holds files before_path after_path answered
 both_read Holds files before_path after_path plan later result answered is are same holds stands =
@@ -142,11 +142,11 @@ both_read Holds files before_path after_path plan later result answered is are s
 diff_faults : (old : Option (List ℕ)) (code : Code) (line : Option ℕ) → WritesDiff old old (Err (Coded code line)) (Err (Coded code line))
 diff_faults old code line = (Appends-nil old, refl)
 
-pub diff_refused_before : (files : List ℕ → Source) (before_path after_path : List ℕ) (old : Option (List ℕ)) (faulted : Faulted)
+pub diff_refused_before : (files : List ℕ → ByteSource) (before_path after_path : List ℕ) (old : Option (List ℕ)) (faulted : Faulted)
     → Reads (files before_path) (LoadsFrom before_path (Err faulted)) → DiffsFiles files before_path after_path old old (Err faulted)
 diff_refused_before files before_path after_path old faulted reads = both_refused_before (WritesDiff old old) (diff_lacks old) (diff_faults old) files before_path after_path faulted reads
 
-pub diff_refused_after : (files : List ℕ → Source) (before_path after_path : List ℕ) (old : Option (List ℕ)) (plan : PlanOf) (faulted : Faulted)
+pub diff_refused_after : (files : List ℕ → ByteSource) (before_path after_path : List ℕ) (old : Option (List ℕ)) (plan : PlanOf) (faulted : Faulted)
     → Reads (files before_path) (LoadsFrom before_path (Ok plan)) → Reads (files after_path) (LoadsFrom after_path (Err faulted))
     → DiffsFiles files before_path after_path old old (Err faulted)
 diff_refused_after files before_path after_path old plan faulted is reads = both_refused_after (WritesDiff old old) (diff_lacks old) (diff_faults old) files before_path after_path plan faulted is reads

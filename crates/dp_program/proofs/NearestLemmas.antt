@@ -17,13 +17,13 @@ insert_by : (near next : Near) (later : List Near) (b : Bool)
 insert_by near next later true before = refl
 insert_by near next later false before = ap (λ (t : List NearName). near_of next ∷ t) before
 
-pub inserted : (near : Near) (kept : List Near) → map near_of (take (place_of kept near.distance) kept ++ near ∷ drop (place_of kept near.distance) kept) ≡ with_near (near_of near) (map near_of kept)
-inserted near [] = refl
-inserted near (next ∷ later) = insert_by near next later (nat_lt near.distance next.distance) (inserted near later)
+pub insert_near : (near : Near) (kept : List Near) → map near_of (take (place_of kept near.distance) kept ++ near ∷ drop (place_of kept near.distance) kept) ≡ with_near (near_of near) (map near_of kept)
+insert_near near [] = refl
+insert_near near (next ∷ later) = insert_by near next later (nat_lt near.distance next.distance) (insert_near near later)
 
 -- the nearest names so far, with one more
 pub kept_more : (place : ℕ) (near : Near) (old new : List Near) → new ≡ take 3 (take place old ++ near ∷ drop place old) → place ≡ place_of old near.distance
     → map near_of new ≡ take 3 (with_near (near_of near) (map near_of old))
 kept_more place near old new is at =
     ap (map near_of) is ∙ (map_take 3 (take place old ++ near ∷ drop place old)
-    ∙ (ap (λ place. take 3 (map near_of (take place old ++ near ∷ drop place old))) at ∙ ap (take 3) (inserted near old)))
+    ∙ (ap (λ place. take 3 (map near_of (take place old ++ near ∷ drop place old))) at ∙ ap (take 3) (insert_near near old)))

@@ -3,11 +3,11 @@ use Rattle.std.proofs.Common.{◌≡◌, ℕ, List, [], Option, Some, None, Resu
 use Rattle.std.specs.Option.{option_map}
 use Rattle.dp_conf.specs.Answers.{Refuses, ◌>>=◌}
 use Rattle.dp_commands.specs.Faults.{reason_of}
-use Rattle.dp_commands.specs.Run.{Files, files_of}
+use Rattle.dp_commands.specs.Run.{LoadedFilesOf, files_of}
 use Rattle.dp_commands.specs.declared.fault.PbxFault.{PbxFault}
 use Rattle.dp_commands.specs.declared.fault.PbxFault.TheVariants.{Coded, NoMemory}
 use Rattle.dp_program.specs.Faulted.{StandsIn, unread_fault, unread_place, without_place}
-use Rattle.dp_program.specs.Files.{Reads, Source}
+use Rattle.dp_program.specs.Files.{Reads, ByteSource}
 use Rattle.dp_program.specs.PlanAndQueues.{OnFiles, contents_in, place_of_files, place_over}
 use Rattle.dp_program.specs.Texts.{ReadsSome, some_text}
 use Rattle.dp_program.specs.declared.faulted.Faulted.{Faulted}
@@ -37,15 +37,15 @@ some_read : (text : Result (List ℕ) PbxFault) (held : Option (List ℕ)) → s
 some_read (Ok t) held is = (t, refl, (let same : held ≡ Some t = cc in same))
 some_read (Err fault) held is = absurd cc
 
-module _ {X : Type 0} (Holds : Result Files PbxFault → Result X PbxFault → Type 0) where
+module _ {X : Type 0} (Holds : Result LoadedFilesOf PbxFault → Result X PbxFault → Type 0) where
   -- the output and result, given the results of reading the files
   abbrev OnRead : List ℕ → Option (List ℕ) → Result X Faulted → Result (List ℕ) PbxFault → Option (Result (List ℕ) PbxFault) → Type 0
   OnRead path named answered plan queues =
       Holds (contents_in plan queues) (without_place answered) × StandsIn (place_of_files path named plan queues) answered
 
   -- if the dialplan is refused
-  pub files_refused_plan : ((fault : PbxFault) (given : Result Files PbxFault) → Refuses (reason_of fault) given → Holds given (Err fault))
-      → (files : List ℕ → Source) (path : List ℕ) (named : Option (List ℕ)) (unread : Unread) → unread.path.now ≡ path
+  pub files_refused_plan : ((fault : PbxFault) (given : Result LoadedFilesOf PbxFault) → Refuses (reason_of fault) given → Holds given (Err fault))
+      → (files : List ℕ → ByteSource) (path : List ℕ) (named : Option (List ℕ)) (unread : Unread) → unread.path.now ≡ path
       → Reads (files path) (λ text. Refuses (reason_of unread.fault) text) → OnFiles Holds files path named (Err (unread_fault unread))
   files_refused_plan refuses files path named unread at reads =
       Reads-weaker (λ text. Refuses (reason_of unread.fault) text)
@@ -56,8 +56,8 @@ module _ {X : Type 0} (Holds : Result Files PbxFault → Result X PbxFault → T
       ))) reads
 
   -- if the queues are refused, after the dialplan was read
-  refused_queues : ((fault : PbxFault) (given : Result Files PbxFault) → Refuses (reason_of fault) given → Holds given (Err fault))
-      → (files : List ℕ → Source) (path read : List ℕ) (unread : Unread) (named : Option (List ℕ)) → unread.path.now ≡ unwrap_or named []
+  refused_queues : ((fault : PbxFault) (given : Result LoadedFilesOf PbxFault) → Refuses (reason_of fault) given → Holds given (Err fault))
+      → (files : List ℕ → ByteSource) (path read : List ℕ) (unread : Unread) (named : Option (List ℕ)) → unread.path.now ≡ unwrap_or named []
       → ReadsSome (option_map files named) (λ text. Refuses (reason_of unread.fault) (some_text text))
       → ReadsSome (option_map files named) (OnRead path named (Err (unread_fault unread)) (Ok read))
   refused_queues refuses files path read unread None at refused =
@@ -75,8 +75,8 @@ module _ {X : Type 0} (Holds : Result Files PbxFault → Result X PbxFault → T
             ∙ (ap (λ path. unread_place path unread.fault) at ∙ refused_second_place path queues_path read unread.fault text (some_refused unread.fault text refused)),
       )) reads
 
-  pub files_refused_queues : ((fault : PbxFault) (given : Result Files PbxFault) → Refuses (reason_of fault) given → Holds given (Err fault))
-      → (files : List ℕ → Source) (path read : List ℕ) (named : Option (List ℕ)) (unread : Unread) → unread.path.now ≡ unwrap_or named []
+  pub files_refused_queues : ((fault : PbxFault) (given : Result LoadedFilesOf PbxFault) → Refuses (reason_of fault) given → Holds given (Err fault))
+      → (files : List ℕ → ByteSource) (path read : List ℕ) (named : Option (List ℕ)) (unread : Unread) → unread.path.now ≡ unwrap_or named []
       → Reads (files path) (λ text. text ≡ Ok read) → ReadsSome (option_map files named) (λ text. Refuses (reason_of unread.fault) (some_text text))
       → OnFiles Holds files path named (Err (unread_fault unread))
   files_refused_queues refuses files path read named unread at is reads =
@@ -86,7 +86,7 @@ module _ {X : Type 0} (Holds : Result Files PbxFault → Result X PbxFault → T
       (refused_queues refuses files path read unread named at reads)) is
 
   -- if both are read
-  read_queues : (files : List ℕ → Source) (path read : List ℕ) (held : Option (List ℕ)) (answered : Result X Faulted) (named : Option (List ℕ))
+  read_queues : (files : List ℕ → ByteSource) (path read : List ℕ) (held : Option (List ℕ)) (answered : Result X Faulted) (named : Option (List ℕ))
       → Holds (files_of read held) (without_place answered) → StandsIn (place_over path named read held) answered
       → ReadsSome (option_map files named) (λ text. some_text text ≡ Ok held)
       → ReadsSome (option_map files named) (OnRead path named answered (Ok read))
@@ -102,7 +102,7 @@ module _ {X : Type 0} (Holds : Result Files PbxFault → Result X PbxFault → T
         subst (λ (held : Option (List ℕ)). StandsIn (place_over path (Some queues_path) read held) answered) t.2 stands,
       )) reads
 
-  pub files_read : (files : List ℕ → Source) (path read : List ℕ) (named held : Option (List ℕ)) (result : Result X PbxFault) (answered : Result X Faulted)
+  pub files_read : (files : List ℕ → ByteSource) (path read : List ℕ) (named held : Option (List ℕ)) (result : Result X PbxFault) (answered : Result X Faulted)
       → Reads (files path) (λ text. text ≡ Ok read) → ReadsSome (option_map files named) (λ text. some_text text ≡ Ok held)
       → without_place answered ≡ result → Holds (files_of read held) result → StandsIn (place_over path named read held) answered
       → OnFiles Holds files path named answered

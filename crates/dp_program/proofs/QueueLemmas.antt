@@ -10,12 +10,12 @@ use Rattle.dp_files.specs.Sources.{Telling}
 use Rattle.dp_notices.specs.QueueFiles.{queues_of}
 use Rattle.dp_program.specs.Dialplans.{with_text}
 use Rattle.dp_program.specs.Faulted.{in_file, nowhere, place_unread, unread_fault}
-use Rattle.dp_program.specs.Files.{Source}
+use Rattle.dp_program.specs.Files.{ByteSource}
 use Rattle.dp_program.specs.Including.{MayTellOf}
 use Rattle.dp_program.specs.QueueTexts.{OnQueues, QueuesRead, ReadsQueues, given, queues_read, unread as unread_lines}
 use Rattle.dp_program.specs.declared.faulted.Faulted.{Faulted}
 use Rattle.dp_program.specs.declared.faulted.Unread.{Unread}
-use Rattle.dp_program.specs.declared.hints.Served.{Served}
+use Rattle.dp_program.specs.declared.hints.ServedRequest.{ServedRequest}
 use Rattle.dp_program.proofs.ReadsLemmas.{by_reason}
 
 -- what holds of the result of reading holds of what the files give
@@ -23,8 +23,8 @@ pub queues_known : (path : List ℕ) (may_tell : Telling → Type 0) (read : Que
     → ReadsFolder may_tell (λ has. queues_read (queues_of has path) ≡ Ok read) → P (Ok read) → ReadsFolder may_tell (λ has. P (queues_read (queues_of has path)))
 queues_known path may_tell read P reads holds = (reads.0, reads.1, λ has agrees. subst P (sym (reads.2 has agrees)) holds)
 
-module _ (files : List ℕ → Source) (path : List ℕ) (Holds : (List ℕ → Source) → Result Served Faulted → Type 0) (old : Option (List ℕ))
-    (lacks : (files : List ℕ → Source) → Holds files (Err (nowhere NoMemory))) where
+module _ (files : List ℕ → ByteSource) (path : List ℕ) (Holds : (List ℕ → ByteSource) → Result ServedRequest Faulted → Type 0) (old : Option (List ℕ))
+    (lacks : (files : List ℕ → ByteSource) → Holds files (Err (nowhere NoMemory))) where
   -- memory may run out before a command does anything
   on_queues_lack : (read : Result QueuesRead PbxFault) → OnQueues files path Holds old old read (Err (nowhere NoMemory))
   on_queues_lack (Ok (given None)) = lacks files

@@ -10,8 +10,8 @@ use Rattle.dp_program.specs.ReachDiffs.{AreReachedBoth, ReachChanges, ReachedOf,
 use Rattle.dp_program.specs.Requests.{ReachDiffOf}
 
 -- a number is zero if it is so up to a limit
-pub counted : (n : ℕ) → (min n (2 ^ 64 - 1) == 0) ≡ (n == 0)
-counted n = grind (arith, nat_tests)
+pub zero_up_to_limit : (n : ℕ) → (min n (2 ^ 64 - 1) == 0) ≡ (n == 0)
+zero_up_to_limit n = grind (arith, nat_tests)
 
 -- memory runs out before anything is written
 pub changes_nothing : (meanings : Meanings) (question : ReachDiffOf) (explains : Bool) (old : Option (List ℕ)) (plans : PlanOf × PlanOf)

@@ -9,12 +9,12 @@ use Rattle.dp_commands.specs.declared.fault.Code.{Code}
 use Rattle.dp_commands.specs.declared.fault.Code.TheVariants.{Line, Name, Plan, QueueLine, Queue, ReadFailed, TooLong, WriteFailed, Settle, BadScript, BadBreak}
 use Rattle.dp_commands.specs.declared.fault.PbxFault.{PbxFault}
 use Rattle.dp_commands.specs.declared.fault.PbxFault.TheVariants.{Coded, NoMemory}
-use Rattle.dp_program.specs.Files.{Source, IsTextOf, Reads, is_read_fault, read_fault, source, whole_text}
+use Rattle.dp_program.specs.Files.{ByteSource, IsTextOf, Reads, is_read_fault, read_fault, source, whole_text}
 use Rattle.dp_program.specs.Faulted.{unread_or, unread_path, unread_place}
 use Rattle.dp_program.specs.Texts.{OfRun, ReadsSome, ReadsTexts, all_texts, some_text}
 
 -- what holds of a result of reading, and what follows from it
-pub Reads-weaker : {source : Source} (P Q : Result (List ℕ) PbxFault → Type 0) → ((text : Result (List ℕ) PbxFault) → P text → Q text) → Reads source P → Reads source Q
+pub Reads-weaker : {source : ByteSource} (P Q : Result (List ℕ) PbxFault → Type 0) → ((text : Result (List ℕ) PbxFault) → P text → Q text) → Reads source P → Reads source Q
 Reads-weaker P Q weaker reads = record { text = reads.text; given = reads.given; holds = weaker reads.text reads.holds }
 
 -- either the bytes as a text, or that there are too many
@@ -28,16 +28,16 @@ IsTextOf-text_by None = tt
 IsTextOf-text_by (Some bytes) = refl
 
 -- each source gives a result
-pub Reads-any : (source : Source) (P : Result (List ℕ) PbxFault → Type 0) → ((text : Result (List ℕ) PbxFault) → P text) → Reads source P
+pub Reads-any : (source : ByteSource) (P : Result (List ℕ) PbxFault → Type 0) → ((text : Result (List ℕ) PbxFault) → P text) → Reads source P
 Reads-any source P all =
     record { text = text_by source.bytes; given = inl (IsTextOf-text_by source.bytes); holds = all (text_by source.bytes) }
 
 -- the same for an optional source
-pub ReadsSome-weaker : (source : Option Source) (P Q : Option (Result (List ℕ) PbxFault) → Type 0) → ((text : Option (Result (List ℕ) PbxFault)) → P text → Q text) → ReadsSome source P → ReadsSome source Q
+pub ReadsSome-weaker : (source : Option ByteSource) (P Q : Option (Result (List ℕ) PbxFault) → Type 0) → ((text : Option (Result (List ℕ) PbxFault)) → P text → Q text) → ReadsSome source P → ReadsSome source Q
 ReadsSome-weaker None P Q weaker reads = weaker None reads
 ReadsSome-weaker (Some source) P Q weaker reads = Reads-weaker (λ text. P (Some text)) (λ text. Q (Some text)) (λ text. weaker (Some text)) reads
 
-pub ReadsSome-any : (source : Option Source) (P : Option (Result (List ℕ) PbxFault) → Type 0) → ((text : Option (Result (List ℕ) PbxFault)) → P text) → ReadsSome source P
+pub ReadsSome-any : (source : Option ByteSource) (P : Option (Result (List ℕ) PbxFault) → Type 0) → ((text : Option (Result (List ℕ) PbxFault)) → P text) → ReadsSome source P
 ReadsSome-any None P all = all None
 ReadsSome-any (Some source) P all = Reads-any source _ (λ text. all (Some text))
 
@@ -46,7 +46,7 @@ abbrev pub read_of : Result (List ℕ) PbxFault → Option (Result (List ℕ) Pb
 read_of plan queues second_plan script = record { plan = plan; queues = queues; second_plan = second_plan; script = script }
 
 -- a property of all files of a run, given the property of each
-pub ReadsTexts-of : (sources : OfRun Source)
+pub ReadsTexts-of : (sources : OfRun ByteSource)
     (P : Result (List ℕ) PbxFault → Type 0) (Q R : Option (Result (List ℕ) PbxFault) → Type 0) (S : Result (List ℕ) PbxFault → Type 0)
     (T : OfRun (Result (List ℕ) PbxFault) → Type 0)
     → ((p : Result (List ℕ) PbxFault) (q r : Option (Result (List ℕ) PbxFault)) (s : Result (List ℕ) PbxFault) → P p → Q q → R r → S s → T (read_of p q r s))
@@ -56,13 +56,13 @@ ReadsTexts-of sources P Q R S T all p_read q_read r_read s_read =
     Reads-weaker S _ (λ s s_holds. all p q r s p_holds q_holds r_holds s_holds) s_read) r_read) q_read) p_read
 
 -- a property of all files, and what follows from it
-pub ReadsTexts-weaker : (sources : OfRun Source) (P Q : OfRun (Result (List ℕ) PbxFault) → Type 0)
+pub ReadsTexts-weaker : (sources : OfRun ByteSource) (P Q : OfRun (Result (List ℕ) PbxFault) → Type 0)
     → ((read : OfRun (Result (List ℕ) PbxFault)) → P read → Q read) → ReadsTexts sources P → ReadsTexts sources Q
 ReadsTexts-weaker sources P Q weaker reads =
     Reads-weaker _ _ (λ p. ReadsSome-weaker sources.queues _ _ (λ q. ReadsSome-weaker sources.second_plan _ _ (λ r. Reads-weaker _ _ (λ s. weaker (read_of p q r s))))) reads
 
 -- the files of a run give results
-pub ReadsTexts-any : (sources : OfRun Source) (P : OfRun (Result (List ℕ) PbxFault) → Type 0) → ((read : OfRun (Result (List ℕ) PbxFault)) → P read) → ReadsTexts sources P
+pub ReadsTexts-any : (sources : OfRun ByteSource) (P : OfRun (Result (List ℕ) PbxFault) → Type 0) → ((read : OfRun (Result (List ℕ) PbxFault)) → P read) → ReadsTexts sources P
 ReadsTexts-any sources P all =
     Reads-any sources.plan _ (λ p. ReadsSome-any sources.queues _ (λ q. ReadsSome-any sources.second_plan _ (λ r.
     Reads-any sources.script _ (λ s. all (read_of p q r s)))))
@@ -101,7 +101,7 @@ unread_here : {X : Type 0} (path later : List ℕ) (fault : PbxFault) (text : Re
 unread_here path later = by_reason (λ fault text. unread_place path fault ≡ unread_place (unread_or text path later) fault) (λ code line. refl) (λ text. refl)
 
 -- if the dialplan's file is refused
-pub texts_refused_plan : (paths : OfRun (List ℕ)) (sources : OfRun Source) (path : List ℕ) (fault : PbxFault) → path ≡ paths.plan
+pub texts_refused_plan : (paths : OfRun (List ℕ)) (sources : OfRun ByteSource) (path : List ℕ) (fault : PbxFault) → path ≡ paths.plan
     → Reads sources.plan (λ text. Refuses (reason_of fault) text) → ReadsTexts sources (IsUnread paths path fault)
 texts_refused_plan paths sources path fault at reads =
     ReadsTexts-of sources (λ text. Refuses (reason_of fault) text) (λ text. Unit {0}) (λ text. Unit {0}) (λ text. Unit {0})
@@ -110,7 +110,7 @@ texts_refused_plan paths sources path fault at reads =
     reads (ReadsSome-any sources.queues _ (λ text. tt)) (ReadsSome-any sources.second_plan _ (λ text. tt)) (Reads-any sources.script _ (λ text. tt))
 
 -- if the file of the queues is refused after it
-pub texts_refused_queues : (paths : OfRun (List ℕ)) (sources : OfRun Source) (path : List ℕ) (fault : PbxFault) (read : List ℕ) → path ≡ unwrap_or paths.queues []
+pub texts_refused_queues : (paths : OfRun (List ℕ)) (sources : OfRun ByteSource) (path : List ℕ) (fault : PbxFault) (read : List ℕ) → path ≡ unwrap_or paths.queues []
     → Reads sources.plan (λ text. text ≡ Ok read) → ReadsSome sources.queues (λ text. Refuses (reason_of fault) (some_text text))
     → ReadsTexts sources (IsUnread paths path fault)
 texts_refused_queues paths sources path fault read at is reads =
@@ -122,7 +122,7 @@ texts_refused_queues paths sources path fault read at is reads =
     is reads (ReadsSome-any sources.second_plan _ (λ text. tt)) (Reads-any sources.script _ (λ text. tt))
 
 -- if the second dialplan's file is refused after both
-pub texts_refused_second : (paths : OfRun (List ℕ)) (sources : OfRun Source) (path : List ℕ) (fault : PbxFault) (read : List ℕ) (held : Option (List ℕ)) → path ≡ unwrap_or paths.second_plan []
+pub texts_refused_second : (paths : OfRun (List ℕ)) (sources : OfRun ByteSource) (path : List ℕ) (fault : PbxFault) (read : List ℕ) (held : Option (List ℕ)) → path ≡ unwrap_or paths.second_plan []
     → Reads sources.plan (λ text. text ≡ Ok read) → ReadsSome sources.queues (λ text. some_text text ≡ Ok held) → ReadsSome sources.second_plan (λ text. Refuses (reason_of fault) (some_text text))
     → ReadsTexts sources (IsUnread paths path fault)
 texts_refused_second paths sources path fault read held at is are reads =
@@ -135,7 +135,7 @@ texts_refused_second paths sources path fault read held at is are reads =
     is are reads (Reads-any sources.script _ (λ text. tt))
 
 -- and if the script's file is refused after all three
-pub texts_refused_script : (paths : OfRun (List ℕ)) (sources : OfRun Source) (path : List ℕ) (fault : PbxFault) (read : List ℕ) (held other : Option (List ℕ)) → path ≡ paths.script
+pub texts_refused_script : (paths : OfRun (List ℕ)) (sources : OfRun ByteSource) (path : List ℕ) (fault : PbxFault) (read : List ℕ) (held other : Option (List ℕ)) → path ≡ paths.script
     → Reads sources.plan (λ text. text ≡ Ok read) → ReadsSome sources.queues (λ text. some_text text ≡ Ok held) → ReadsSome sources.second_plan (λ text. some_text text ≡ Ok other)
     → Reads sources.script (λ text. Refuses (reason_of fault) text)
     → ReadsTexts sources (IsUnread paths path fault)
@@ -150,7 +150,7 @@ texts_refused_script paths sources path fault read held other at is are also rea
     is are also reads
 
 -- if all files are read
-pub texts_read : (sources : OfRun Source) (plan : List ℕ) (queues second_plan : Option (List ℕ)) (script : List ℕ)
+pub texts_read : (sources : OfRun ByteSource) (plan : List ℕ) (queues second_plan : Option (List ℕ)) (script : List ℕ)
     → Reads sources.plan (λ text. text ≡ Ok plan) → ReadsSome sources.queues (λ text. some_text text ≡ Ok queues) → ReadsSome sources.second_plan (λ text. some_text text ≡ Ok second_plan)
     → Reads sources.script (λ text. text ≡ Ok script)
     → ReadsTexts sources (λ read. (all_texts read ≡ Ok (record { plan = plan; queues = queues; second_plan = second_plan; script = script })) × Unit {0})

@@ -11,7 +11,7 @@ use Rattle.dp_queue.specs.declared.fault.QueueFault.{QueueFault}
 use Rattle.dp_queue.specs.declared.fault.QueueFault.TheVariants.{Line as queue_line, NoMemory as queue_no_memory}
 use Rattle.dp_queue.specs.declared.fault.QueueLoadKind.TheVariants.{Conf as queue_conf, Queue}
 use Rattle.dp_machine.specs.World.{opening}
-use Rattle.dp_commands.specs.Run.{Files, Run, RunContents, Writes, contents_of, files_of, plan_fault, queue_fault, queues_of, run_of, run_on}
+use Rattle.dp_commands.specs.Run.{LoadedFilesOf, Run, RunContentsOf, Writes, contents_of, files_of, plan_fault, queue_fault, queues_of, run_of, run_on}
 use Rattle.dp_commands.specs.Script.{line_in, reading_at, reading_by, script_of, turns_of}
 use Rattle.dp_commands.specs.declared.fault.PbxFault.{PbxFault}
 use Rattle.dp_commands.specs.declared.fault.PbxFault.TheVariants.{Coded, NoMemory}
@@ -61,14 +61,14 @@ script_reads second_plan text = lines_read (line_in second_plan) [] (parts_of te
 
 files_read : (plan : List ℕ) (queues : Option (List ℕ)) → has_read_failed (files_of plan queues) ≡ false
 files_read plan queues =
-    next_reads {Y = Files} (plan_fault (plan_and_notes plan)) (λ read. queues_of queues >>= λ held. Ok (record { plan = read.0; queues = held })) (plan_reads (plan_and_notes plan))
-    (λ read. next_reads {Y = Files} (queues_of queues) (λ held. Ok (record { plan = read.0; queues = held })) (queues_read queues) (λ held. refl))
+    next_reads {Y = LoadedFilesOf} (plan_fault (plan_and_notes plan)) (λ read. queues_of queues >>= λ held. Ok (record { plan = read.0; queues = held })) (plan_reads (plan_and_notes plan))
+    (λ read. next_reads {Y = LoadedFilesOf} (queues_of queues) (λ held. Ok (record { plan = read.0; queues = held })) (queues_read queues) (λ held. refl))
 
 told_reads : (plan : List ℕ) (queues second_plan : Option (List ℕ)) (script : List ℕ) → has_read_failed (contents_of plan queues second_plan script) ≡ false
 told_reads plan queues second_plan script =
-    next_reads {Y = RunContents} (files_of plan queues)
+    next_reads {Y = RunContentsOf} (files_of plan queues)
     (λ files. script_of second_plan script >>= λ lines. Ok (record { plan = files.plan; queues = files.queues; lines = lines })) (files_read plan queues)
-    (λ files. next_reads {Y = RunContents} (script_of second_plan script) (λ lines. Ok (record { plan = files.plan; queues = files.queues; lines = lines }))
+    (λ files. next_reads {Y = RunContentsOf} (script_of second_plan script) (λ lines. Ok (record { plan = files.plan; queues = files.queues; lines = lines }))
     (script_reads second_plan script) (λ lines. refl))
 
 -- reading the texts of a run has no such fault

@@ -11,7 +11,7 @@ use Rattle.dp_commands.specs.Audit.{Audited, WritesAudit}
 use Rattle.dp_commands.specs.Debug.{DebugRun, WritesDebug}
 use Rattle.dp_commands.specs.Faults.{reason_of}
 use Rattle.dp_commands.specs.Report.{Reports}
-use Rattle.dp_commands.specs.Run.{Files, Run, Writes}
+use Rattle.dp_commands.specs.Run.{LoadedFilesOf, Run, Writes}
 use Rattle.dp_commands.specs.Turns.{lines_of}
 use Rattle.dp_commands.specs.Verbose.{InForce, WritesVerbose, WritesVerboseDebug, verbose_turn}
 use Rattle.dp_commands.specs.declared.fault.Code.{Code}
@@ -23,11 +23,11 @@ use Rattle.dp_files.specs.declared.reading.ReadingFault.{ReadingFault}
 use Rattle.dp_files.specs.declared.reading.ReadingFault.TheVariants.{NotFound, TooLong as too_long, NoMemory as no_memory}
 use Rattle.dp_notices.specs.PlanFiles.{PlanFilesOf, plan_of as read_plan_of}
 use Rattle.dp_notices.specs.QueueFiles.{QueueFilesOf, queues_of}
-use Rattle.dp_program.specs.Including.{WritesCheck, both_checked, checked, place_of_both, place_of_plan, place_of_queues, queues_checked, reading_fault}
+use Rattle.dp_program.specs.Including.{WritesCheck, both_checked, check_or_fault, place_of_both, place_of_plan, place_of_queues, queues_checked, reading_fault}
 use Rattle.dp_program.specs.Checks.{both_report}
 use Rattle.dp_program.specs.Dialplans.{PlanTextOf, moment_in, with_text}
 use Rattle.dp_program.specs.Faulted.{StandsIn, in_none, nowhere, place_by, place_in_file, place_in_files, place_in_two, place_of, place_of_report, place_of_run, place_of_two, place_unread, without_place, unread_fault, unread_path, unread_place}
-use Rattle.dp_program.specs.Files.{Source, Reads}
+use Rattle.dp_program.specs.Files.{ByteSource, Reads}
 use Rattle.dp_program.specs.Graphs.{Draws, GraphsFiles}
 use Rattle.dp_program.specs.Hints.{Tells, audit_hint_of, match_hint_of, status_in}
 use Rattle.dp_program.specs.PlanAndQueues.{contents_in, place_of_files}
@@ -44,7 +44,7 @@ use Rattle.dp_program.specs.Texts.{OfRun, ReadsTexts, all_texts, sources_of}
 use Rattle.dp_program.specs.declared.dialplans.PlanUse.TheVariants.{Report, Run as to_run}
 use Rattle.dp_program.specs.declared.faulted.Faulted.{Faulted}
 use Rattle.dp_program.specs.declared.faulted.Unread.{Unread}
-use Rattle.dp_program.specs.declared.hints.Served.{Served}
+use Rattle.dp_program.specs.declared.hints.ServedRequest.{ServedRequest}
 use Rattle.dp_plan.specs.Plan.{PlanOf}
 use Rattle.dp_wide_runs.specs.Debugging.{WideDebug}
 use Rattle.dp_wide_runs.specs.Kinds.{ChoiceOf}
@@ -137,7 +137,7 @@ runs_lacks : (threads : Option ℕ) (old : Option (List ℕ)) (given : Result Ru
 runs_lacks None old given = Writes_lacks old given
 runs_lacks (Some threads) old given = shares_lacks (max 1 threads) old given
 
-pub reaches_lacks : (meanings : Meanings) (question : QuestionOf) (options : OptionsOf) (old : Option (List ℕ)) (given : Result Files PbxFault)
+pub reaches_lacks : (meanings : Meanings) (question : QuestionOf) (options : OptionsOf) (old : Option (List ℕ)) (given : Result LoadedFilesOf PbxFault)
     → Reaches meanings question options given old old (Err NoMemory)
 reaches_lacks meanings question options old (Ok files) = Appends-nil old
 reaches_lacks meanings question options old (Err fault) = Appends-nil old
@@ -257,7 +257,7 @@ refused_second_place path queues_path read =
     by_reason (λ fault queues. unread_place queues_path fault ≡ place_of_two path queues_path (Ok read) queues fault) (λ code line. refl) (lacks_two_place path queues_path (Ok read))
 
 -- if the file of a report is refused
-pub report_refused : (path : List ℕ) (file : Source) (report : List ℕ → Result (List ℕ) PbxFault) (old : Option (List ℕ)) (unread : Unread) → unread.path.now ≡ path
+pub report_refused : (path : List ℕ) (file : ByteSource) (report : List ℕ → Result (List ℕ) PbxFault) (old : Option (List ℕ)) (unread : Unread) → unread.path.now ≡ path
     → Reads file (λ text. Refuses (reason_of unread.fault) text) → ReportsOn path file report old old (Err (unread_fault unread))
 report_refused path file report old unread at reads =
     Reads-weaker (λ text. Refuses (reason_of unread.fault) text) (λ text. Reports old old (text >>= report) (Err unread.fault) × (place_of (place_unread unread unread.fault) ≡ place_of_report path text unread.fault))
@@ -266,7 +266,7 @@ report_refused path file report old unread at reads =
       unread_stands unread unread.fault ∙ (ap (λ path. unread_place path unread.fault) at ∙ refused_report_place path unread.fault text refused),
     )) reads
 
-pub audit_refused : (is_json : Bool) (path : List ℕ) (file : Source) (old : Option (List ℕ)) (unread : Unread) → unread.path.now ≡ path
+pub audit_refused : (is_json : Bool) (path : List ℕ) (file : ByteSource) (old : Option (List ℕ)) (unread : Unread) → unread.path.now ≡ path
     → Reads file (λ text. Refuses (reason_of unread.fault) text) → AuditsFile is_json path file old old (Err (unread_fault unread))
 audit_refused is_json path file old unread at reads =
     Reads-weaker (λ text. Refuses (reason_of unread.fault) text)
@@ -277,7 +277,7 @@ audit_refused is_json path file old unread at reads =
       tt,
     )) reads
 
-pub choice_refused : (is_json : Bool) (choice : ChoiceOf) (path : List ℕ) (file : Source) (old : Option (List ℕ)) (unread : Unread) → unread.path.now ≡ path
+pub choice_refused : (is_json : Bool) (choice : ChoiceOf) (path : List ℕ) (file : ByteSource) (old : Option (List ℕ)) (unread : Unread) → unread.path.now ≡ path
     → Reads file (λ text. Refuses (reason_of unread.fault) text) → AuditsFileBy is_json choice path file old old (Err (unread_fault unread))
 choice_refused is_json choice path file old unread at reads =
     Reads-weaker (λ text. Refuses (reason_of unread.fault) text)
@@ -288,7 +288,7 @@ choice_refused is_json choice path file old unread at reads =
       tt,
     )) reads
 
-pub look_up_refused : (lookup : LookupOf) (file : Source) (all : Bool) (options : OptionsOf) (old : Option (List ℕ)) (unread : Unread) → unread.path.now ≡ lookup.file
+pub look_up_refused : (lookup : LookupOf) (file : ByteSource) (all : Bool) (options : OptionsOf) (old : Option (List ℕ)) (unread : Unread) → unread.path.now ≡ lookup.file
     → Reads file (λ text. Refuses (reason_of unread.fault) text) → LooksUp lookup file all options old old (Err (unread_fault unread))
 look_up_refused lookup file all options old unread at reads =
     Reads-weaker (λ text. Refuses (reason_of unread.fault) text)
@@ -300,7 +300,7 @@ look_up_refused lookup file all options old unread at reads =
     )) reads
 
 -- if it is read: the report is on the text that was read, and that is where the fault has its place
-pub report_read : (path : List ℕ) (file : Source) (report : List ℕ → Result (List ℕ) PbxFault) (old new : Option (List ℕ)) (read given asked : List ℕ)
+pub report_read : (path : List ℕ) (file : ByteSource) (report : List ℕ → Result (List ℕ) PbxFault) (old new : Option (List ℕ)) (read given asked : List ℕ)
     → given ≡ read → asked ≡ read → (result : Result ℕ PbxFault) (answered : Result ℕ Faulted) → Reads file (λ text. text ≡ Ok read)
     → without_place answered ≡ result → Reports old new (report given) result → StandsIn (place_in_file path asked) answered
     → ReportsOn path file report old new answered
@@ -312,12 +312,12 @@ report_read path file report old new read given asked given-is asked-is result a
     )) reads
 
 -- the same, with the hints beside the result
-tells_same : (hint : Result (List ℕ) PbxFault) (given : Result Served PbxFault) (answered : Result Served Faulted) → without_place answered ≡ given → Tells hint given → Tells hint answered
+tells_same : (hint : Result (List ℕ) PbxFault) (given : Result ServedRequest PbxFault) (answered : Result ServedRequest Faulted) → without_place answered ≡ given → Tells hint given → Tells hint answered
 tells_same hint given (Ok served) same tells = subst (λ given. Tells hint given) (sym same) tells
 tells_same hint given (Err faulted) same tells = tt
 
-pub audit_read : (is_json : Bool) (path : List ℕ) (file : Source) (old new : Option (List ℕ)) (read given asked : List ℕ)
-    → given ≡ read → asked ≡ read → (result : Result Served PbxFault) (answered : Result Served Faulted) → Reads file (λ text. text ≡ Ok read)
+pub audit_read : (is_json : Bool) (path : List ℕ) (file : ByteSource) (old new : Option (List ℕ)) (read given asked : List ℕ)
+    → given ≡ read → asked ≡ read → (result : Result ServedRequest PbxFault) (answered : Result ServedRequest Faulted) → Reads file (λ text. text ≡ Ok read)
     → without_place answered ≡ result → WritesAudit old new (audit_by is_json given) (status_in result) → StandsIn (place_in_file path asked) answered
     → Tells (audit_hint_of path given) result → AuditsFile is_json path file old new answered
 audit_read is_json path file old new read given asked given-is asked-is result answered reads same audits stands tells =
@@ -329,8 +329,8 @@ audit_read is_json path file old new read given asked given-is asked-is result a
       tells_same (audit_hint_of path read) result answered same (subst (λ (text : List ℕ). Tells (audit_hint_of path text) result) given-is tells),
     )) reads
 
-pub choice_read : (is_json : Bool) (choice : ChoiceOf) (path : List ℕ) (file : Source) (old new : Option (List ℕ)) (read given asked : List ℕ)
-    → given ≡ read → asked ≡ read → (result : Result Served PbxFault) (answered : Result Served Faulted) → Reads file (λ text. text ≡ Ok read)
+pub choice_read : (is_json : Bool) (choice : ChoiceOf) (path : List ℕ) (file : ByteSource) (old new : Option (List ℕ)) (read given asked : List ℕ)
+    → given ≡ read → asked ≡ read → (result : Result ServedRequest PbxFault) (answered : Result ServedRequest Faulted) → Reads file (λ text. text ≡ Ok read)
     → without_place answered ≡ result → WritesChoiceBy is_json choice old new (plan_of given) (status_in result) → StandsIn (place_in_file path asked) answered
     → Tells (audit_hint_of path given) result → AuditsFileBy is_json choice path file old new answered
 choice_read is_json choice path file old new read given asked given-is asked-is result answered reads same audits stands tells =
@@ -342,8 +342,8 @@ choice_read is_json choice path file old new read given asked given-is asked-is 
       tells_same (audit_hint_of path read) result answered same (subst (λ (text : List ℕ). Tells (audit_hint_of path text) result) given-is tells),
     )) reads
 
-pub look_up_read : (lookup : LookupOf) (file : Source) (all : Bool) (options : OptionsOf) (old new : Option (List ℕ)) (read given asked : List ℕ)
-    → given ≡ read → asked ≡ read → (result : Result Served PbxFault) (answered : Result Served Faulted) → Reads file (λ text. text ≡ Ok read)
+pub look_up_read : (lookup : LookupOf) (file : ByteSource) (all : Bool) (options : OptionsOf) (old new : Option (List ℕ)) (read given asked : List ℕ)
+    → given ≡ read → asked ≡ read → (result : Result ServedRequest PbxFault) (answered : Result ServedRequest Faulted) → Reads file (λ text. text ≡ Ok read)
     → without_place answered ≡ result → Reports old new (look_up options.is_json lookup all given) (status_in result) → StandsIn (place_in_file lookup.file asked) answered
     → Tells (match_hint_of lookup options.explains given) result → LooksUp lookup file all options old new answered
 look_up_read lookup file all options old new read given asked given-is asked-is result answered reads same reports stands tells =
@@ -362,7 +362,7 @@ Checked path queues_path is_json explains old new answered plan queues =
     × StandsIn (place_of_two path queues_path plan queues) answered
 
 -- if the dialplan of a check of both is refused
-pub both_refused_plan : (files : List ℕ → Source) (path queues_path : List ℕ) (is_json explains : Bool) (old : Option (List ℕ)) (unread : Unread) → unread.path.now ≡ path
+pub both_refused_plan : (files : List ℕ → ByteSource) (path queues_path : List ℕ) (is_json explains : Bool) (old : Option (List ℕ)) (unread : Unread) → unread.path.now ≡ path
     → Reads (files path) (λ text. Refuses (reason_of unread.fault) text) → ChecksBoth files path queues_path is_json explains old old (Err (unread_fault unread))
 both_refused_plan files path queues_path is_json explains old unread at reads =
     Reads-weaker (λ text. Refuses (reason_of unread.fault) text) (λ plan. Reads (files queues_path) (Checked path queues_path is_json explains old old (Err (unread_fault unread)) plan))
@@ -372,7 +372,7 @@ both_refused_plan files path queues_path is_json explains old unread at reads =
     ))) reads
 
 -- if its queues are refused after the dialplan was read
-pub both_refused_queues : (files : List ℕ → Source) (path queues_path : List ℕ) (is_json explains : Bool) (old : Option (List ℕ)) (read : List ℕ) (unread : Unread) → unread.path.now ≡ queues_path
+pub both_refused_queues : (files : List ℕ → ByteSource) (path queues_path : List ℕ) (is_json explains : Bool) (old : Option (List ℕ)) (read : List ℕ) (unread : Unread) → unread.path.now ≡ queues_path
     → Reads (files path) (λ text. text ≡ Ok read) → Reads (files queues_path) (λ text. Refuses (reason_of unread.fault) text)
     → ChecksBoth files path queues_path is_json explains old old (Err (unread_fault unread))
 both_refused_queues files path queues_path is_json explains old read unread at is reads =
@@ -384,7 +384,7 @@ both_refused_queues files path queues_path is_json explains old read unread at i
     )) reads) is
 
 -- if both files are read
-pub both_read : (files : List ℕ → Source) (path queues_path : List ℕ) (is_json explains : Bool) (old new : Option (List ℕ)) (read held : List ℕ)
+pub both_read : (files : List ℕ → ByteSource) (path queues_path : List ℕ) (is_json explains : Bool) (old new : Option (List ℕ)) (read held : List ℕ)
     (result : Result ℕ PbxFault) (answered : Result ℕ Faulted) → Reads (files path) (λ text. text ≡ Ok read) → Reads (files queues_path) (λ text. text ≡ Ok held)
     → without_place answered ≡ result → Reports old new (both_report is_json explains path read held) result → StandsIn (place_in_two (path, read) (queues_path, held)) answered
     → ChecksBoth files path queues_path is_json explains old new answered
@@ -396,7 +396,7 @@ both_read files path queues_path is_json explains old new read held result answe
     (subst (λ result. Reports old new (both_report is_json explains path read held) result) (sym same) reports, stands))) are) is
 
 -- if a file of a run is refused
-pub run_refused : (paths : OfRun (List ℕ)) (sources : OfRun Source) (threads : Option ℕ) (old : Option (List ℕ)) (unread : Unread)
+pub run_refused : (paths : OfRun (List ℕ)) (sources : OfRun ByteSource) (threads : Option ℕ) (old : Option (List ℕ)) (unread : Unread)
     → ReadsTexts sources (IsUnread paths unread.path.now unread.fault) → RunsFiles paths sources threads old old (Err (unread_fault unread))
 run_refused paths sources threads old unread reads =
     ReadsTexts-weaker sources (IsUnread paths unread.path.now unread.fault)
@@ -406,7 +406,7 @@ run_refused paths sources threads old unread reads =
       unread_stands unread unread.fault ∙ (is.1 ∙ refused_place_by paths (unread_path paths read) unread.fault (all_texts read) is.0),
     )) reads
 
-pub debug_run_refused : (paths : OfRun (List ℕ)) (sources : OfRun Source) (held : List ℕ) (old : Option (List ℕ)) (unread : Unread)
+pub debug_run_refused : (paths : OfRun (List ℕ)) (sources : OfRun ByteSource) (held : List ℕ) (old : Option (List ℕ)) (unread : Unread)
     → ReadsTexts sources (IsUnread paths unread.path.now unread.fault) → DebugsFiles paths sources held old old (Err (unread_fault unread))
 debug_run_refused paths sources held old unread reads =
     ReadsTexts-weaker sources (IsUnread paths unread.path.now unread.fault)
@@ -422,7 +422,7 @@ read_refused : (is_verbose : Bool) (paths : OfRun (List ℕ)) (old : Option (Lis
 read_refused true paths old fault texts is = runs_verbosely_refused paths old fault texts is
 read_refused false paths old fault texts is = runs_refused None old run_of_texts fault texts is
 
-pub run_reported_refused : (paths : OfRun (List ℕ)) (sources : OfRun Source) (is_verbose : Bool) (old : Option (List ℕ)) (unread : Unread)
+pub run_reported_refused : (paths : OfRun (List ℕ)) (sources : OfRun ByteSource) (is_verbose : Bool) (old : Option (List ℕ)) (unread : Unread)
     → ReadsTexts sources (IsUnread paths unread.path.now unread.fault) → RunsReported paths sources is_verbose old old (Err (unread_fault unread))
 run_reported_refused paths sources is_verbose old unread reads =
     ReadsTexts-weaker sources (IsUnread paths unread.path.now unread.fault)
@@ -435,7 +435,7 @@ run_reported_refused paths sources is_verbose old unread reads =
     )) reads
 
 -- the same over the wide table
-pub run_wide_refused : (paths : OfRun (List ℕ)) (sources : OfRun Source) (old : Option (List ℕ)) (unread : Unread)
+pub run_wide_refused : (paths : OfRun (List ℕ)) (sources : OfRun ByteSource) (old : Option (List ℕ)) (unread : Unread)
     → ReadsTexts sources (IsUnread paths unread.path.now unread.fault) → RunsFilesWide paths sources old old (Err (unread_fault unread))
 run_wide_refused paths sources old unread reads =
     ReadsTexts-weaker sources (IsUnread paths unread.path.now unread.fault)
@@ -446,7 +446,7 @@ run_wide_refused paths sources old unread reads =
     )) reads
 
 -- the same for verbose runs
-pub run_wide_verbose_refused : (paths : OfRun (List ℕ)) (places : PlacesOf) (sources : OfRun Source) (old : Option (List ℕ)) (unread : Unread)
+pub run_wide_verbose_refused : (paths : OfRun (List ℕ)) (places : PlacesOf) (sources : OfRun ByteSource) (old : Option (List ℕ)) (unread : Unread)
     → ReadsTexts sources (IsUnread paths unread.path.now unread.fault) → RunsFilesWideVerbosely paths places sources old old (Err (unread_fault unread))
 run_wide_verbose_refused paths places sources old unread reads =
     ReadsTexts-weaker sources (IsUnread paths unread.path.now unread.fault)
@@ -456,7 +456,7 @@ run_wide_verbose_refused paths places sources old unread reads =
       unread_stands unread unread.fault ∙ (is.1 ∙ refused_place_by paths (unread_path paths read) unread.fault (all_texts read) is.0),
     )) reads
 
-pub debug_wide_refused : (paths : OfRun (List ℕ)) (sources : OfRun Source) (held : List ℕ) (old : Option (List ℕ)) (unread : Unread)
+pub debug_wide_refused : (paths : OfRun (List ℕ)) (sources : OfRun ByteSource) (held : List ℕ) (old : Option (List ℕ)) (unread : Unread)
     → ReadsTexts sources (IsUnread paths unread.path.now unread.fault) → DebugsFilesWide paths sources held old old (Err (unread_fault unread))
 debug_wide_refused paths sources held old unread reads =
     ReadsTexts-weaker sources (IsUnread paths unread.path.now unread.fault)
@@ -466,7 +466,7 @@ debug_wide_refused paths sources held old unread reads =
       unread_stands unread unread.fault ∙ (is.1 ∙ refused_place_by paths (unread_path paths read) unread.fault (all_texts read) is.0),
     )) reads
 
-pub debug_wide_verbose_refused : (paths : OfRun (List ℕ)) (places : PlacesOf) (sources : OfRun Source) (held : List ℕ) (old : Option (List ℕ)) (unread : Unread)
+pub debug_wide_verbose_refused : (paths : OfRun (List ℕ)) (places : PlacesOf) (sources : OfRun ByteSource) (held : List ℕ) (old : Option (List ℕ)) (unread : Unread)
     → ReadsTexts sources (IsUnread paths unread.path.now unread.fault) → DebugsFilesWideVerbosely paths places sources held old old (Err (unread_fault unread))
 debug_wide_verbose_refused paths places sources held old unread reads =
     ReadsTexts-weaker sources (IsUnread paths unread.path.now unread.fault)
@@ -476,7 +476,7 @@ debug_wide_verbose_refused paths places sources held old unread reads =
       unread_stands unread unread.fault ∙ (is.1 ∙ refused_place_by paths (unread_path paths read) unread.fault (all_texts read) is.0),
     )) reads
 
-pub debug_verbose_refused : (paths : OfRun (List ℕ)) (sources : OfRun Source) (held : List ℕ) (old : Option (List ℕ)) (unread : Unread)
+pub debug_verbose_refused : (paths : OfRun (List ℕ)) (sources : OfRun ByteSource) (held : List ℕ) (old : Option (List ℕ)) (unread : Unread)
     → ReadsTexts sources (IsUnread paths unread.path.now unread.fault) → DebugsFilesVerbosely paths sources held old old (Err (unread_fault unread))
 debug_verbose_refused paths sources held old unread reads =
     ReadsTexts-weaker sources (IsUnread paths unread.path.now unread.fault)
@@ -487,7 +487,7 @@ debug_verbose_refused paths sources held old unread reads =
     )) reads
 
 -- if all files of a run are read
-pub run_read : (paths : OfRun (List ℕ)) (sources : OfRun Source) (threads : Option ℕ) (old new : Option (List ℕ)) (texts : OfRun (List ℕ))
+pub run_read : (paths : OfRun (List ℕ)) (sources : OfRun ByteSource) (threads : Option ℕ) (old new : Option (List ℕ)) (texts : OfRun (List ℕ))
     (result : Result ℕ PbxFault) (answered : Result ℕ Faulted) → ReadsTexts sources (λ read. (all_texts read ≡ Ok texts) × Unit {0}) → without_place answered ≡ result
     → Runs threads old new (run_of_texts texts) result → StandsIn (place_in_files paths texts) answered → RunsFiles paths sources threads old new answered
 run_read paths sources threads old new texts result answered reads same runs stands =
@@ -496,7 +496,7 @@ run_read paths sources threads old new texts result answered reads same runs sta
     (λ read is. subst (λ (joined : Result (OfRun (List ℕ)) PbxFault). Runs threads old new (joined >>= run_of_texts) (without_place answered) × StandsIn (place_by paths (unread_path paths read) joined) answered) (sym is.0)
     (subst (λ result. Runs threads old new (run_of_texts texts) result) (sym same) runs, stands)) reads
 
-pub debug_run_read : (paths : OfRun (List ℕ)) (sources : OfRun Source) (held : List ℕ) (old new : Option (List ℕ)) (texts : OfRun (List ℕ))
+pub debug_run_read : (paths : OfRun (List ℕ)) (sources : OfRun ByteSource) (held : List ℕ) (old new : Option (List ℕ)) (texts : OfRun (List ℕ))
     (result : Result ℕ PbxFault) (answered : Result ℕ Faulted) → ReadsTexts sources (λ read. (all_texts read ≡ Ok texts) × Unit {0}) → without_place answered ≡ result
     → WritesDebug old new (debug_of_texts held texts) result → StandsIn (place_in_files paths texts) answered → DebugsFiles paths sources held old new answered
 debug_run_read paths sources held old new texts result answered reads same debugs stands =
@@ -506,8 +506,8 @@ debug_run_read paths sources held old new texts result answered reads same debug
     (subst (λ result. WritesDebug old new (debug_of_texts held texts) result) (sym same) debugs, stands)) reads
 
 -- the same with what the run meets that is not modelled
-pub run_reported_read : (paths : OfRun (List ℕ)) (sources : OfRun Source) (is_verbose : Bool) (old new : Option (List ℕ)) (texts : OfRun (List ℕ))
-    (result : Result Served PbxFault) (answered : Result Served Faulted) → ReadsTexts sources (λ read. (all_texts read ≡ Ok texts) × Unit {0})
+pub run_reported_read : (paths : OfRun (List ℕ)) (sources : OfRun ByteSource) (is_verbose : Bool) (old new : Option (List ℕ)) (texts : OfRun (List ℕ))
+    (result : Result ServedRequest PbxFault) (answered : Result ServedRequest Faulted) → ReadsTexts sources (λ read. (all_texts read ≡ Ok texts) × Unit {0})
     → without_place answered ≡ result → RunsRead is_verbose paths old new (Ok texts) (status_in result) → StandsIn (place_in_files paths texts) answered
     → Tells (unmodelled_of_texts texts) result → RunsReported paths sources is_verbose old new answered
 run_reported_read paths sources is_verbose old new texts result answered reads same runs stands tells =
@@ -534,7 +534,7 @@ verbose_done in_force old new (Ok ran) status writes = record {
 verbose_done in_force old new (Err fault) status writes = absurd writes
 
 -- the same over the wide table
-pub run_wide_read : (paths : OfRun (List ℕ)) (sources : OfRun Source) (old new : Option (List ℕ)) (texts : OfRun (List ℕ))
+pub run_wide_read : (paths : OfRun (List ℕ)) (sources : OfRun ByteSource) (old new : Option (List ℕ)) (texts : OfRun (List ℕ))
     (result : Result ℕ PbxFault) (answered : Result ℕ Faulted) → ReadsTexts sources (λ read. (all_texts read ≡ Ok texts) × Unit {0}) → without_place answered ≡ result
     → RunsWide old new (wide_run_of_texts texts) result → StandsIn (place_in_files paths texts) answered → RunsFilesWide paths sources old new answered
 run_wide_read paths sources old new texts result answered reads same runs stands =
@@ -544,7 +544,7 @@ run_wide_read paths sources old new texts result answered reads same runs stands
     (subst (λ result. RunsWide old new (wide_run_of_texts texts) result) (sym same) runs, stands)) reads
 
 -- the same for verbose runs
-pub run_wide_verbose_read : (paths : OfRun (List ℕ)) (places : PlacesOf) (sources : OfRun Source) (old new : Option (List ℕ)) (texts : OfRun (List ℕ))
+pub run_wide_verbose_read : (paths : OfRun (List ℕ)) (places : PlacesOf) (sources : OfRun ByteSource) (old new : Option (List ℕ)) (texts : OfRun (List ℕ))
     (result : Result ℕ PbxFault) (answered : Result ℕ Faulted) → ReadsTexts sources (λ read. (all_texts read ≡ Ok texts) × Unit {0}) → without_place answered ≡ result
     → RunsWideVerbosely (in_force_at places texts) old new (wide_run_of_texts texts) result → StandsIn (place_in_files paths texts) answered
     → RunsFilesWideVerbosely paths places sources old new answered
@@ -554,7 +554,7 @@ run_wide_verbose_read paths places sources old new texts result answered reads s
     (λ read is. subst (λ (joined : Result (OfRun (List ℕ)) PbxFault). RunsTextsWideVerbosely places old new joined (without_place answered) × StandsIn (place_by paths (unread_path paths read) joined) answered) (sym is.0)
     (subst (λ result. RunsWideVerbosely (in_force_at places texts) old new (wide_run_of_texts texts) result) (sym same) runs, stands)) reads
 
-pub debug_wide_read : (paths : OfRun (List ℕ)) (sources : OfRun Source) (held : List ℕ) (old new : Option (List ℕ)) (texts : OfRun (List ℕ))
+pub debug_wide_read : (paths : OfRun (List ℕ)) (sources : OfRun ByteSource) (held : List ℕ) (old new : Option (List ℕ)) (texts : OfRun (List ℕ))
     (result : Result ℕ PbxFault) (answered : Result ℕ Faulted) → ReadsTexts sources (λ read. (all_texts read ≡ Ok texts) × Unit {0}) → without_place answered ≡ result
     → DebugsWide old new (wide_debug_of_texts held texts) result → StandsIn (place_in_files paths texts) answered → DebugsFilesWide paths sources held old new answered
 debug_wide_read paths sources held old new texts result answered reads same debugs stands =
@@ -563,7 +563,7 @@ debug_wide_read paths sources held old new texts result answered reads same debu
     (λ read is. subst (λ (joined : Result (OfRun (List ℕ)) PbxFault). DebugsWide old new (joined >>= wide_debug_of_texts held) (without_place answered) × StandsIn (place_by paths (unread_path paths read) joined) answered) (sym is.0)
     (subst (λ result. DebugsWide old new (wide_debug_of_texts held texts) result) (sym same) debugs, stands)) reads
 
-pub debug_wide_verbose_read : (paths : OfRun (List ℕ)) (places : PlacesOf) (sources : OfRun Source) (held : List ℕ) (old new : Option (List ℕ)) (texts : OfRun (List ℕ))
+pub debug_wide_verbose_read : (paths : OfRun (List ℕ)) (places : PlacesOf) (sources : OfRun ByteSource) (held : List ℕ) (old new : Option (List ℕ)) (texts : OfRun (List ℕ))
     (result : Result ℕ PbxFault) (answered : Result ℕ Faulted) → ReadsTexts sources (λ read. (all_texts read ≡ Ok texts) × Unit {0}) → without_place answered ≡ result
     → DebugsWideVerbosely (in_force_at places texts) old new (wide_debug_of_texts held texts) result → StandsIn (place_in_files paths texts) answered
     → DebugsFilesWideVerbosely paths places sources held old new answered
@@ -573,7 +573,7 @@ debug_wide_verbose_read paths places sources held old new texts result answered 
     (λ read is. subst (λ (joined : Result (OfRun (List ℕ)) PbxFault). DebugsTextsWideVerbosely places held old new joined (without_place answered) × StandsIn (place_by paths (unread_path paths read) joined) answered) (sym is.0)
     (subst (λ result. DebugsWideVerbosely (in_force_at places texts) old new (wide_debug_of_texts held texts) result) (sym same) debugs, stands)) reads
 
-pub debug_verbose_read : (paths : OfRun (List ℕ)) (sources : OfRun Source) (held : List ℕ) (old new : Option (List ℕ)) (texts : OfRun (List ℕ))
+pub debug_verbose_read : (paths : OfRun (List ℕ)) (sources : OfRun ByteSource) (held : List ℕ) (old new : Option (List ℕ)) (texts : OfRun (List ℕ))
     (result : Result ℕ PbxFault) (answered : Result ℕ Faulted) → ReadsTexts sources (λ read. (all_texts read ≡ Ok texts) × Unit {0}) → without_place answered ≡ result
     → WritesVerboseDebug explanation_of (in_force_at_first paths texts) old new (debug_of_texts held texts) result → StandsIn (place_in_files paths texts) answered
     → DebugsFilesVerbosely paths sources held old new answered
@@ -584,17 +584,17 @@ debug_verbose_read paths sources held old new texts result answered reads same d
     (subst (λ result. WritesVerboseDebug explanation_of (in_force_at_first paths texts) old new (debug_of_texts held texts) result) (sym same) debugs, stands)) reads
 
 -- memory may run out before a run does anything
-run_lacks : (paths : OfRun (List ℕ)) (sources : OfRun Source) (threads : Option ℕ) (old : Option (List ℕ)) → RunsFiles paths sources threads old old (Err (nowhere NoMemory))
+run_lacks : (paths : OfRun (List ℕ)) (sources : OfRun ByteSource) (threads : Option ℕ) (old : Option (List ℕ)) → RunsFiles paths sources threads old old (Err (nowhere NoMemory))
 run_lacks paths sources threads old =
     ReadsTexts-any sources (λ read. Runs threads old old (all_texts read >>= run_of_texts) (Err NoMemory) × (in_none ≡ place_of_run paths read NoMemory))
     (λ read. (runs_lacks threads old (all_texts read >>= run_of_texts), lacks_place_by paths (unread_path paths read) (all_texts read)))
 
-run_wide_lacks : (paths : OfRun (List ℕ)) (sources : OfRun Source) (old : Option (List ℕ)) → RunsFilesWide paths sources old old (Err (nowhere NoMemory))
+run_wide_lacks : (paths : OfRun (List ℕ)) (sources : OfRun ByteSource) (old : Option (List ℕ)) → RunsFilesWide paths sources old old (Err (nowhere NoMemory))
 run_wide_lacks paths sources old =
     ReadsTexts-any sources (λ read. RunsWide old old (all_texts read >>= wide_run_of_texts) (Err NoMemory) × (in_none ≡ place_of_run paths read NoMemory))
     (λ read. (wide_lacks old (all_texts read >>= wide_run_of_texts), lacks_place_by paths (unread_path paths read) (all_texts read)))
 
-run_wide_by_lacks : (paths : OfRun (List ℕ)) (places : PlacesOf) (sources : OfRun Source) (held : Option (List ℕ)) (is_verbose : Bool) (old : Option (List ℕ))
+run_wide_by_lacks : (paths : OfRun (List ℕ)) (places : PlacesOf) (sources : OfRun ByteSource) (held : Option (List ℕ)) (is_verbose : Bool) (old : Option (List ℕ))
     → RunsWideBy paths places sources held is_verbose old old (Err (nowhere NoMemory))
 run_wide_by_lacks paths places sources None true old =
     ReadsTexts-any sources (λ read. RunsTextsWideVerbosely places old old (all_texts read) (Err NoMemory) × (in_none ≡ place_of_run paths read NoMemory))
@@ -607,71 +607,71 @@ run_wide_by_lacks paths places sources (Some held) false old =
     ReadsTexts-any sources (λ read. DebugsWide old old (all_texts read >>= wide_debug_of_texts held) (Err NoMemory) × (in_none ≡ place_of_run paths read NoMemory))
     (λ read. (wide_debug_lacks old (all_texts read >>= wide_debug_of_texts held), lacks_place_by paths (unread_path paths read) (all_texts read)))
 
-run_wide_asked_lacks : (paths : OfRun (List ℕ)) (places : PlacesOf) (sources : OfRun Source) (manner : RunManner) (old : Option (List ℕ))
+run_wide_asked_lacks : (paths : OfRun (List ℕ)) (places : PlacesOf) (sources : OfRun ByteSource) (manner : RunManner) (old : Option (List ℕ))
     → RunsWideAsked paths places sources manner old old (Err (nowhere NoMemory))
 run_wide_asked_lacks paths places sources manner old = run_wide_by_lacks paths places sources manner.held manner.is_verbose old
 
 -- the same with dialplans that are read with the files that they include
-pub plans_lack : (paths : OfRun (List ℕ)) (files : List ℕ → Source) (manner : RunManner) (old : Option (List ℕ)) (plan : PlanTextOf) (second : Option (List ℕ × PlanTextOf))
+pub plans_lack : (paths : OfRun (List ℕ)) (files : List ℕ → ByteSource) (manner : RunManner) (old : Option (List ℕ)) (plan : PlanTextOf) (second : Option (List ℕ × PlanTextOf))
     → RunsPlans paths files manner old old plan second (Err (nowhere NoMemory))
 plans_lack paths files manner old plan second =
     (run_wide_asked_lacks paths (places_read plan second) (sources_of (files_read paths files plan second) paths) manner old, tt)
 
-pub second_lacks : (reading : RunReading) (paths : OfRun (List ℕ)) (files : List ℕ → Source) (manner : RunManner) (old : Option (List ℕ)) (plan : PlanTextOf) (path : List ℕ)
+pub second_lacks : (reading : RunReading) (paths : OfRun (List ℕ)) (files : List ℕ → ByteSource) (manner : RunManner) (old : Option (List ℕ)) (plan : PlanTextOf) (path : List ℕ)
     → RunsSecond reading paths files manner old old plan path (Err (nowhere NoMemory))
 second_lacks reading paths files manner old plan path =
     dialplan_lacks (λ second answered. RunsPlans paths files manner old old plan (Some (path, second)) answered) path old
     (λ second. plans_lack paths files manner old plan (Some (path, second))) (to_run reading.assumed) reading.clock files
 
-beside_lacks : (reading : RunReading) (paths : OfRun (List ℕ)) (files : List ℕ → Source) (manner : RunManner) (old : Option (List ℕ)) (plan : PlanTextOf) (second : Option (List ℕ))
+beside_lacks : (reading : RunReading) (paths : OfRun (List ℕ)) (files : List ℕ → ByteSource) (manner : RunManner) (old : Option (List ℕ)) (plan : PlanTextOf) (second : Option (List ℕ))
     → RunsBeside reading paths files manner old old plan second (Err (nowhere NoMemory))
 beside_lacks reading paths files manner old plan None = plans_lack paths files manner old plan None
 beside_lacks reading paths files manner old plan (Some path) = second_lacks reading paths files manner old plan path
 
-pub plan_lacks : (reading : RunReading) (paths : OfRun (List ℕ)) (files : List ℕ → Source) (manner : RunManner) (old : Option (List ℕ)) (plan : PlanTextOf)
+pub plan_lacks : (reading : RunReading) (paths : OfRun (List ℕ)) (files : List ℕ → ByteSource) (manner : RunManner) (old : Option (List ℕ)) (plan : PlanTextOf)
     → RunsPlan reading paths files manner old old plan (Err (nowhere NoMemory))
 plan_lacks reading paths files manner old plan = beside_lacks reading paths files manner old plan paths.second_plan
 
-with_queues_lack : (reading : RunReading) (paths : OfRun (List ℕ)) (files : List ℕ → Source) (manner : RunManner) (old : Option (List ℕ)) (plan : PlanTextOf)
+with_queues_lack : (reading : RunReading) (paths : OfRun (List ℕ)) (files : List ℕ → ByteSource) (manner : RunManner) (old : Option (List ℕ)) (plan : PlanTextOf)
     (queues : Option (List ℕ)) → RunsWithQueues reading paths files manner old old plan queues (Err (nowhere NoMemory))
 with_queues_lack reading paths files manner old plan None = plan_lacks reading paths files manner old plan
 with_queues_lack reading paths files manner old plan (Some path) =
     queues_lack files path (λ files. RunsPlan reading paths files manner old old plan) old (λ files. plan_lacks reading paths files manner old plan)
 
-pub queues_plan_lacks : (reading : RunReading) (paths : OfRun (List ℕ)) (files : List ℕ → Source) (manner : RunManner) (old : Option (List ℕ)) (plan : PlanTextOf)
+pub queues_plan_lacks : (reading : RunReading) (paths : OfRun (List ℕ)) (files : List ℕ → ByteSource) (manner : RunManner) (old : Option (List ℕ)) (plan : PlanTextOf)
     → RunsQueues reading paths files manner old old plan (Err (nowhere NoMemory))
 queues_plan_lacks reading paths files manner old plan = with_queues_lack reading paths files manner old plan paths.queues
 
 -- the same, after its script is read for what it assumes
-pub assuming_lacks : (reading : RunReading) (paths : OfRun (List ℕ)) (files : List ℕ → Source) (manner : RunManner) (old : Option (List ℕ))
+pub assuming_lacks : (reading : RunReading) (paths : OfRun (List ℕ)) (files : List ℕ → ByteSource) (manner : RunManner) (old : Option (List ℕ))
     → RunsAssuming reading paths files manner old old (Err (nowhere NoMemory))
 assuming_lacks reading paths files manner old =
     dialplan_lacks (RunsQueues reading paths files manner old old) paths.plan old (queues_plan_lacks reading paths files manner old) (to_run reading.assumed) reading.clock files
 
-pub including_lacks : (clock : Option (List ℕ)) (paths : OfRun (List ℕ)) (files : List ℕ → Source) (manner : RunManner) (old : Option (List ℕ))
+pub including_lacks : (clock : Option (List ℕ)) (paths : OfRun (List ℕ)) (files : List ℕ → ByteSource) (manner : RunManner) (old : Option (List ℕ))
     → RunsIncluding clock paths files manner old old (Err (nowhere NoMemory))
 including_lacks clock paths files manner old =
     Reads-any (files paths.script) _ (λ script. assuming_lacks (reading_by clock (text_assumptions script)) paths files manner old)
 
 -- memory may run out before a report on the text of a dialplan
-pub listing_lacks : (path : List ℕ) (files : List ℕ → Source) (old : Option (List ℕ)) (plan : PlanTextOf) → ListsText path files old old plan (Err (nowhere NoMemory))
+pub listing_lacks : (path : List ℕ) (files : List ℕ → ByteSource) (old : Option (List ℕ)) (plan : PlanTextOf) → ListsText path files old old plan (Err (nowhere NoMemory))
 listing_lacks path files old plan =
     (Reads-any (with_text files path plan.text path) _ (λ text. (reports_lacks old _, lacks_report_place path text)), tt)
 
-pub matching_lacks : (lookup : LookupOf) (files : List ℕ → Source) (all : Bool) (options : OptionsOf) (old : Option (List ℕ)) (plan : PlanTextOf)
+pub matching_lacks : (lookup : LookupOf) (files : List ℕ → ByteSource) (all : Bool) (options : OptionsOf) (old : Option (List ℕ)) (plan : PlanTextOf)
     → LooksUpText lookup files all options old old plan (Err (nowhere NoMemory))
 matching_lacks lookup files all options old plan =
     Reads-any (with_text files lookup.file plan.text lookup.file) _ (λ text. (reports_lacks old _, lacks_report_place lookup.file text, tt))
 
-audit_lacks : (is_json : Bool) (choice : ChoiceOf) (path : List ℕ) (file : Source) (old : Option (List ℕ))
+audit_lacks : (is_json : Bool) (choice : ChoiceOf) (path : List ℕ) (file : ByteSource) (old : Option (List ℕ))
     → AuditsFileBy is_json choice path file old old (Err (nowhere NoMemory))
 audit_lacks is_json choice path file old = Reads-any file _ (λ text. (choices_lacks is_json choice old _, lacks_report_place path text, tt))
 
-pub auditing_lacks : (is_json : Bool) (choice : ChoiceOf) (path : List ℕ) (files : List ℕ → Source) (old : Option (List ℕ)) (plan : PlanTextOf)
+pub auditing_lacks : (is_json : Bool) (choice : ChoiceOf) (path : List ℕ) (files : List ℕ → ByteSource) (old : Option (List ℕ)) (plan : PlanTextOf)
     → AuditsText is_json choice path files old old plan (Err (nowhere NoMemory))
 auditing_lacks is_json choice path files old plan = audit_lacks is_json choice path (with_text files path plan.text path) old
 
-audit_asked_lacks : (is_wide : Bool) (options : OptionsOf) (choice : ChoiceOf) (path : List ℕ) (files : List ℕ → Source) (old : Option (List ℕ))
+audit_asked_lacks : (is_wide : Bool) (options : OptionsOf) (choice : ChoiceOf) (path : List ℕ) (files : List ℕ → ByteSource) (old : Option (List ℕ))
     → AuditsAsked is_wide options choice path files old old (Err (nowhere NoMemory))
 audit_asked_lacks true options choice path files old =
     dialplan_lacks (AuditsText options.is_json choice path files old old) path old (auditing_lacks options.is_json choice path files old) Report options.clock
@@ -683,14 +683,14 @@ read_lacks : (is_verbose : Bool) (paths : OfRun (List ℕ)) (old : Option (List 
 read_lacks true paths old texts = runs_verbosely_lacks paths old texts
 read_lacks false paths old texts = Writes_lacks old (texts >>= run_of_texts)
 
-run_asked_lacks : (paths : OfRun (List ℕ)) (sources : OfRun Source) (threads : Option ℕ) (is_verbose : Bool) (old : Option (List ℕ))
+run_asked_lacks : (paths : OfRun (List ℕ)) (sources : OfRun ByteSource) (threads : Option ℕ) (is_verbose : Bool) (old : Option (List ℕ))
     → RunsAsked paths sources threads is_verbose old old (Err (nowhere NoMemory))
 run_asked_lacks paths sources None is_verbose old =
     ReadsTexts-any sources (λ read. RunsRead is_verbose paths old old (all_texts read) (Err NoMemory) × (in_none ≡ place_of_run paths read NoMemory) × Unit {0})
     (λ read. (read_lacks is_verbose paths old (all_texts read), lacks_place_by paths (unread_path paths read) (all_texts read), tt))
 run_asked_lacks paths sources (Some threads) is_verbose old = (run_lacks paths sources (Some threads) old, tt)
 
-debug_asked_lacks : (paths : OfRun (List ℕ)) (sources : OfRun Source) (held : List ℕ) (is_verbose : Bool) (old : Option (List ℕ))
+debug_asked_lacks : (paths : OfRun (List ℕ)) (sources : OfRun ByteSource) (held : List ℕ) (is_verbose : Bool) (old : Option (List ℕ))
     → DebugsAsked paths sources held is_verbose old old (Err (nowhere NoMemory))
 debug_asked_lacks paths sources held true old =
     ReadsTexts-any sources (λ read. DebugsVerbosely paths held old old (all_texts read) (Err NoMemory) × (in_none ≡ place_of_run paths read NoMemory))
@@ -700,7 +700,7 @@ debug_asked_lacks paths sources held false old =
     (λ read. (debug_lacks old (all_texts read >>= debug_of_texts held), lacks_place_by paths (unread_path paths read) (all_texts read)))
 
 check_lacks : (is_json : Bool) (path : List ℕ) (old : Option (List ℕ)) (plan : Result PlanFilesOf ReadingFault)
-    → WritesCheck old old (checked is_json plan) (Err NoMemory) × (in_none ≡ place_of_plan path plan NoMemory)
+    → WritesCheck old old (check_or_fault is_json plan) (Err NoMemory) × (in_none ≡ place_of_plan path plan NoMemory)
 check_lacks is_json path old (Ok plan) = (Appends-nil old, refl)
 check_lacks is_json path old (Err fault) = (Appends-nil old, refl)
 
@@ -733,18 +733,18 @@ pub reach_changes_lack : (meanings : Meanings) (question : ReachDiffOf) (explain
 reach_changes_lack meanings question explains old (Ok plans) = inl (Appends-nil old)
 reach_changes_lack meanings question explains old (Err fault) = Appends-nil old
 
-pub reach_diffs_lack : (meanings : Meanings) (question : ReachDiffOf) (explains : Bool) (files : List ℕ → Source) (old : Option (List ℕ))
+pub reach_diffs_lack : (meanings : Meanings) (question : ReachDiffOf) (explains : Bool) (files : List ℕ → ByteSource) (old : Option (List ℕ))
     → ReachDiffsFiles meanings question explains files old old (Err (nowhere NoMemory))
 reach_diffs_lack meanings question explains files old =
     on_both_lacks (λ given. ReachChanges meanings question explains given old old) (reach_changes_lack meanings question explains old) files question.before question.after
 
 -- memory may run out before a picture is written
-pub draws_lack : (meanings : Meanings) (question : DrawingOf) (explains : Bool) (old : Option (List ℕ)) (given : Result Files PbxFault)
+pub draws_lack : (meanings : Meanings) (question : DrawingOf) (explains : Bool) (old : Option (List ℕ)) (given : Result LoadedFilesOf PbxFault)
     → Draws meanings question explains given old old (Err NoMemory)
 draws_lack meanings question explains old (Ok files) = inl (Appends-nil old)
 draws_lack meanings question explains old (Err fault) = Appends-nil old
 
-pub graphs_lack : (meanings : Meanings) (files : List ℕ → Source) (question : DrawingOf) (explains : Bool) (old : Option (List ℕ))
+pub graphs_lack : (meanings : Meanings) (files : List ℕ → ByteSource) (question : DrawingOf) (explains : Bool) (old : Option (List ℕ))
     → GraphsFiles meanings files question explains old old (Err (nowhere NoMemory))
 graphs_lack meanings files question explains old =
     Reads-any (files question.file) _ (λ plan. ReadsSome-any (option_map files question.queues) _ (λ queues. (
@@ -752,7 +752,7 @@ graphs_lack meanings files question explains old =
       lacks_files_place question.file question.queues plan queues,
     )))
 
-pub reaches_files_lack : (meanings : Meanings) (files : List ℕ → Source) (question : QuestionOf) (options : OptionsOf) (old : Option (List ℕ))
+pub reaches_files_lack : (meanings : Meanings) (files : List ℕ → ByteSource) (question : QuestionOf) (options : OptionsOf) (old : Option (List ℕ))
     → ReachesFiles meanings files question options old old (Err (nowhere NoMemory))
 reaches_files_lack meanings files question options old =
     Reads-any (files question.file) _ (λ plan. ReadsSome-any (option_map files question.queues) _ (λ queues. (
@@ -761,7 +761,7 @@ reaches_files_lack meanings files question options old =
     )))
 
 -- memory may run out before a request does anything
-pub Serves-lacks : (files : List ℕ → Source) (input : Source) (want : RequestOf) (options : OptionsOf) (old : Option (List ℕ)) → Serves files input want options old old (Err (nowhere NoMemory))
+pub Serves-lacks : (files : List ℕ → ByteSource) (input : ByteSource) (want : RequestOf) (options : OptionsOf) (old : Option (List ℕ)) → Serves files input want options old old (Err (nowhere NoMemory))
 Serves-lacks files input joined options old = ((Reads-any input _ (λ text. Writes_lacks old _), refl), tt)
 Serves-lacks files input (check file) options old = (Reads-any (files file) _ (λ text. (reports_lacks old _, lacks_report_place file text)), tt)
 Serves-lacks files input (check_files file) options old =

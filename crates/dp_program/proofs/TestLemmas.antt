@@ -7,17 +7,17 @@ use Rattle.dp_commands.specs.Faults.{reason_of}
 use Rattle.dp_commands.specs.declared.fault.PbxFault.{PbxFault}
 use Rattle.dp_commands.specs.declared.fault.PbxFault.TheVariants.{NoMemory}
 use Rattle.dp_program.specs.Faulted.{in_file, in_none, nowhere, place_of, place_unread, unread_fault}
-use Rattle.dp_program.specs.Files.{Source}
-use Rattle.dp_program.specs.TestSuites.{AfterRead, LosesBy, MannerOf, MayReport, ReportOf, TestsAfter, WritesMade, WritesReport, report_now}
+use Rattle.dp_program.specs.Files.{ByteSource}
+use Rattle.dp_program.specs.TestSuites.{AfterRead, LosesBy, MannerOf, MayReport, TestReportOf, TestsAfter, WritesMade, WritesReport, report_now}
 use Rattle.dp_program.specs.TestTexts.{FailsAmong, GiveAll, TestText, text_at}
 use Rattle.dp_program.specs.declared.faulted.Faulted.{Faulted}
 use Rattle.dp_program.specs.declared.faulted.Unread.{Unread}
-use Rattle.dp_program.specs.declared.hints.Served.{Served}
+use Rattle.dp_program.specs.declared.hints.ServedRequest.{ServedRequest}
 use Rattle.dp_program.specs.declared.test_reports.TestReport.{TestReport}
 use Rattle.dp_program.proofs.ReadsLemmas.{by_reason, Reads-any, Reads-weaker}
 
 -- what is written of a report that was made is written of a possible one
-pub made_written : {E : Type 0} (MayBe : ReportOf → Type 0) (made : Result TestReport E) (old new : Option (List ℕ)) (answered : Result Served Faulted)
+pub made_written : {E : Type 0} (MayBe : TestReportOf → Type 0) (made : Result TestReport E) (old new : Option (List ℕ)) (answered : Result ServedRequest Faulted)
     → IfOk made (λ report. MayBe (report_now report)) → WritesMade made old new answered → WritesReport MayBe old new answered
 made_written MayBe (Ok report) old new (Ok served) may writes =
     record { report = report_now report; may_be = may; written = writes.0; status = writes.1; told = writes.2 }
@@ -35,7 +35,7 @@ lacks_after Follows path old follows (Ok text) = follows text
 lacks_after Follows path old follows (Err fault) = (Appends-nil old, tt, refl)
 
 -- memory may run out before a report is written
-pub tests_lack : (manner : MannerOf) (files : List ℕ → Source) (texts : List TestText) (paths : List (List ℕ)) (old : Option (List ℕ))
+pub tests_lack : (manner : MannerOf) (files : List ℕ → ByteSource) (texts : List TestText) (paths : List (List ℕ)) (old : Option (List ℕ))
     → TestsAfter manner files texts paths old old (Err (nowhere NoMemory))
 tests_lack manner files texts [] old = (Appends-nil old, refl)
 tests_lack manner files texts (path ∷ more) old =
@@ -55,7 +55,7 @@ refused_after Follows path old unread at follows =
     by_reason (λ fault read. AfterRead (Follows fault) path old old (Err (fault_at unread fault)) read)
     (λ code line. (Appends-nil old, refl, ap (λ path. in_file path) at)) (lacks_after (Follows NoMemory) path old follows)
 
-pub tests_refused : (manner : MannerOf) (files : List ℕ → Source) (texts : List TestText) (paths : List (List ℕ)) (old : Option (List ℕ)) (unread : Unread)
+pub tests_refused : (manner : MannerOf) (files : List ℕ → ByteSource) (texts : List TestText) (paths : List (List ℕ)) (old : Option (List ℕ)) (unread : Unread)
     → FailsAmong files paths unread → TestsAfter manner files texts paths old old (Err (unread_fault unread))
 tests_refused manner files texts [] old unread fails = elim fails [ ]
 tests_refused manner files texts (path ∷ more) old unread (inl fails) =
@@ -68,8 +68,8 @@ tests_refused manner files texts (path ∷ more) old unread (inr later) =
     (tests_refused manner files (texts ++ text_at path later.0 ∷ []) more old unread later.2)) later.1
 
 -- if all test files are read: the report is on their texts
-pub tests_read : (manner : MannerOf) (files : List ℕ → Source) (texts : List TestText) (paths : List (List ℕ)) (read : List TestText) (old new : Option (List ℕ))
-    (answered : Result Served Faulted) → GiveAll files paths read → WritesReport (MayReport manner files (texts ++ read)) old new answered
+pub tests_read : (manner : MannerOf) (files : List ℕ → ByteSource) (texts : List TestText) (paths : List (List ℕ)) (read : List TestText) (old new : Option (List ℕ))
+    (answered : Result ServedRequest Faulted) → GiveAll files paths read → WritesReport (MayReport manner files (texts ++ read)) old new answered
     → TestsAfter manner files texts paths old new answered
 tests_read manner files texts [] [] old new answered gives writes =
     subst (λ texts. WritesReport (MayReport manner files texts) old new answered) (append-nil texts) writes

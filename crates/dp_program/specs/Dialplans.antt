@@ -3,7 +3,7 @@ use Rattle.std.specs.Prelude.{◌≡◌, ℕ, false, ◌==◌, List, [], ◌∷�
 use Rattle.std.specs.Io.KnownBytes.{Appends}
 use Rattle.std.specs.Option.{option_and_then, option_map_or}
 use Rattle.dp_conf.specs.Words.{same_text}
-use Rattle.dp_commands.specs.LinePlaces.{Places, in_files}
+use Rattle.dp_commands.specs.LinePlaces.{PlacesOfLines, in_files}
 use Rattle.dp_commands.specs.declared.fault.PbxFault.{PbxFault}
 use Rattle.dp_commands.specs.declared.fault.PbxFault.TheVariants.{Coded, NoMemory}
 use Rattle.dp_commands.specs.declared.line_places.LinePosition.{LinePosition}
@@ -18,7 +18,7 @@ use Rattle.dp_notices.specs.declared.line_notices.NotedLine.{NotedLine}
 use Rattle.dp_notices.specs.declared.printing.Shown.{Shown}
 use Rattle.dp_notices.specs.declared.printing.Shown.TheVariants.{Faults, Unfollowed}
 use Rattle.dp_program.specs.Faulted.{nowhere, place_of, unread_place}
-use Rattle.dp_program.specs.Files.{Source, source}
+use Rattle.dp_program.specs.Files.{ByteSource, source}
 use Rattle.dp_program.specs.Including.{MayTellOf, reading_fault}
 use Rattle.dp_program.specs.declared.dialplans.PlanText.{PlanText}
 use Rattle.dp_program.specs.declared.dialplans.PlanUse.{PlanUse}
@@ -26,7 +26,7 @@ use Rattle.dp_program.specs.declared.dialplans.PlanUse.TheVariants.{Report, Look
 use Rattle.dp_program.specs.declared.dialplans.ReadDialplan.{ReadDialplan}
 use Rattle.dp_program.specs.declared.dialplans.ReadDialplan.TheVariants.{Loads, Faulty}
 use Rattle.dp_program.specs.declared.faulted.Faulted.{Faulted}
-use Rattle.dp_program.specs.declared.hints.Served.{Served}
+use Rattle.dp_program.specs.declared.hints.ServedRequest.{ServedRequest}
 use Rattle.dp_wide.specs.Times.{moment_of}
 use Rattle.dp_wide.specs.declared.times.Moment.{Moment}
 
@@ -37,7 +37,7 @@ pub record PlanTextOf : Type 0 where
   pub lines : List LinePosition
 
 -- where its lines come from
-abbrev pub places_in : PlanTextOf → Places
+abbrev pub places_in : PlanTextOf → PlacesOfLines
 places_in plan = in_files plan.names plan.lines
 
 -- the position of a line of a file
@@ -111,11 +111,11 @@ read_now (Loads plan) = loads (text_now plan)
 read_now (Faulty told) = faulty told.items
 
 -- files of which the one at a path has this text
-abbrev pub with_text : (List ℕ → Source) → List ℕ → List ℕ → List ℕ → Source
+abbrev pub with_text : (List ℕ → ByteSource) → List ℕ → List ℕ → List ℕ → ByteSource
 with_text files path text other = if same_text other path then source (Some text) false else files other
 
 -- nothing is written, the notices are printed beside the result, and the status is 1, unless memory runs out
-abbrev pub TellsFaults : List ℕ → Option (List ℕ) → Option (List ℕ) → Result Served Faulted → Type 0
+abbrev pub TellsFaults : List ℕ → Option (List ℕ) → Option (List ℕ) → Result ServedRequest Faulted → Type 0
 TellsFaults told old new (Ok served) = Appends old new [] × (served.status ≡ 1) × (served.hint.items ≡ told)
 TellsFaults told old new (Err faulted) = Appends old new [] × (faulted ≡ nowhere NoMemory)
 
@@ -125,20 +125,20 @@ IsFault fault (Coded code line) = fault ≡ Coded code line
 IsFault fault NoMemory = Unit {0}
 
 -- nothing is written, and the result is the fault of the file at a path
-abbrev pub FailsToRead : List ℕ → PbxFault → Option (List ℕ) → Option (List ℕ) → Result Served Faulted → Type 0
+abbrev pub FailsToRead : List ℕ → PbxFault → Option (List ℕ) → Option (List ℕ) → Result ServedRequest Faulted → Type 0
 FailsToRead path fault old new (Ok served) = ⊥
 FailsToRead path fault old new (Err faulted) =
     Appends old new [] × IsFault fault faulted.fault × (place_of faulted.place ≡ unread_place path faulted.fault)
 
 -- the output and result of a command, given what it does with the text of a dialplan
-abbrev pub OnDialplan : (PlanTextOf → Result Served Faulted → Type 0) → List ℕ → Option (List ℕ) → Option (List ℕ) → Result DialplanRead PbxFault → Result Served Faulted → Type 0
+abbrev pub OnDialplan : (PlanTextOf → Result ServedRequest Faulted → Type 0) → List ℕ → Option (List ℕ) → Option (List ℕ) → Result DialplanRead PbxFault → Result ServedRequest Faulted → Type 0
 OnDialplan Holds path old new (Ok (loads plan)) answered = Holds plan answered
 OnDialplan Holds path old new (Ok (faulty told)) answered = TellsFaults told old new answered
 OnDialplan Holds path old new (Err fault) answered = FailsToRead path fault old new answered
 
 -- the same over the dialplan at a path and the files that it includes, given what the command reads it for and the word of `--clock`: for
 -- all files that are as they were read
-abbrev pub ReadsDialplan : PlanUse → Option (List ℕ) → (List ℕ → Source) → List ℕ → (PlanTextOf → Result Served Faulted → Type 0) → Option (List ℕ) → Option (List ℕ) → Result Served Faulted → Type 0
+abbrev pub ReadsDialplan : PlanUse → Option (List ℕ) → (List ℕ → ByteSource) → List ℕ → (PlanTextOf → Result ServedRequest Faulted → Type 0) → Option (List ℕ) → Option (List ℕ) → Result ServedRequest Faulted → Type 0
 ReadsDialplan purpose clock files path Holds old new answered =
     ReadsFolder (MayTellOf files path)
     (λ has. OnDialplan Holds path old new (dialplan_read purpose clock (plan_of (moment_in clock) has path)) answered)

@@ -13,7 +13,7 @@ use Rattle.dp_commands.specs.declared.fault.PbxFault.TheVariants.{Coded, NoMemor
 use Rattle.dp_diff.specs.Differences.{Difference, differences}
 use Rattle.dp_diff.specs.Printing.{text_of}
 use Rattle.dp_program.specs.Faulted.{PlaceOf, StandsIn, in_none, place_of_report, without_place}
-use Rattle.dp_program.specs.Files.{Reads, Source}
+use Rattle.dp_program.specs.Files.{Reads, ByteSource}
 use Rattle.dp_program.specs.declared.faulted.Faulted.{Faulted}
 
 -- the dialplan that a text holds, or the text's fault
@@ -62,12 +62,12 @@ OnBothOf Holds before_path after_path answered before after =
     × StandsIn (place_of_diff before_path after_path before after) answered
 
 -- the same for the dialplans of the files at two paths
-abbrev pub OnBoth : {X : Type 0} → (Result (PlanOf × PlanOf) PbxFault → Result X PbxFault → Type 0) → (List ℕ → Source) → List ℕ → List ℕ → Result X Faulted → Type 0
+abbrev pub OnBoth : {X : Type 0} → (Result (PlanOf × PlanOf) PbxFault → Result X PbxFault → Type 0) → (List ℕ → ByteSource) → List ℕ → List ℕ → Result X Faulted → Type 0
 OnBoth Holds files before_path after_path answered =
     Reads (files before_path) (λ before. Reads (files after_path) (OnBothOf Holds before_path after_path answered before))
 
 -- the output and result for the dialplans of the files at two paths
-abbrev pub DiffsFiles : (List ℕ → Source) → List ℕ → List ℕ → Option (List ℕ) → Option (List ℕ) → Result ℕ Faulted → Type 0
+abbrev pub DiffsFiles : (List ℕ → ByteSource) → List ℕ → List ℕ → Option (List ℕ) → Option (List ℕ) → Result ℕ Faulted → Type 0
 DiffsFiles files before_path after_path old new answered = OnBoth (WritesDiff old new) files before_path after_path answered
 
 -- a dialplan was loaded from the file at a path, given the result of reading the file; or it is the fault, in its place

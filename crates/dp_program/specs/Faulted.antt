@@ -8,8 +8,8 @@ use Rattle.dp_commands.specs.declared.fault.PbxFault.{PbxFault}
 use Rattle.dp_commands.specs.declared.fault.PbxFault.TheVariants.{Coded, NoMemory}
 use Rattle.dp_program.specs.Texts.{OfRun, all_texts, some_text}
 use Rattle.dp_program.specs.declared.faulted.Faulted.{Faulted}
-use Rattle.dp_program.specs.declared.faulted.Place.{Place}
-use Rattle.dp_program.specs.declared.faulted.Place.TheVariants.{InLine, InFile, Nowhere}
+use Rattle.dp_program.specs.declared.faulted.FaultPlace.{FaultPlace}
+use Rattle.dp_program.specs.declared.faulted.FaultPlace.TheVariants.{InLine, InFile, Nowhere}
 use Rattle.dp_program.specs.declared.faulted.Unread.{Unread}
 
 -- the place of a fault: a line of a file that was read, a file that could not be read, or no place
@@ -18,7 +18,7 @@ pub data PlaceOf : Type 0 where
   in_file : List ℕ → PlaceOf
   in_none : PlaceOf
 
-abbrev pub place_of : Place → PlaceOf
+abbrev pub place_of : FaultPlace → PlaceOf
 place_of (InLine line) = in_line line
 place_of (InFile path) = in_file path.now
 place_of Nowhere = in_none
@@ -32,7 +32,7 @@ abbrev pub unread_reason : Unread → Option PbxFault
 unread_reason unread = reason_of unread.fault
 
 -- the place of the fault of an unread file: the file, or no place if memory ran out
-abbrev pub place_unread : Unread → PbxFault → Place
+abbrev pub place_unread : Unread → PbxFault → FaultPlace
 place_unread unread (Coded code line) = InFile unread.path
 place_unread unread NoMemory = Nowhere
 

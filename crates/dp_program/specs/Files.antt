@@ -61,12 +61,12 @@ has_read_failed (Ok x) = false
 has_read_failed (Err fault) = is_failed_read fault
 
 -- what is known of a file or of the input: all its bytes, if they are known, and whether a read may fail
-pub record Source : Type 0 where
+pub record ByteSource : Type 0 where
   pub bytes : Option (List ℕ)
   pub fails : Bool
 
 -- a source with these bytes, and whether a read of it may fail
-abbrev pub source : Option (List ℕ) → Bool → Source
+abbrev pub source : Option (List ℕ) → Bool → ByteSource
 source bytes fails = record { bytes = bytes; fails = fails }
 
 -- the result of reading these bytes if no read fails: their text, or that it is too long
@@ -75,11 +75,11 @@ IsTextOf (Some bytes) text = text ≡ whole_text bytes
 IsTextOf None text = IfErr text (λ fault. fault ≡ Coded TooLong None)
 
 -- a possible result of reading a source whole; it is a failed read only if a read of the source may fail
-abbrev pub MayGive : Source → Result (List ℕ) PbxFault → Type 0
+abbrev pub MayGive : ByteSource → Result (List ℕ) PbxFault → Type 0
 MayGive source text = IsTextOf source.bytes text ⊎ ((text ≡ Err (Coded ReadFailed None)) × (source.fails ≡ true))
 
 -- a property of the result of reading a source whole
-pub record Reads (source : Source) (P : Result (List ℕ) PbxFault → Type 0) : Type 0 where
+pub record Reads (source : ByteSource) (P : Result (List ℕ) PbxFault → Type 0) : Type 0 where
   pub text : Result (List ℕ) PbxFault
   pub given : MayGive source text
   pub holds : P text

@@ -9,7 +9,7 @@ use Rattle.dp_commands.specs.Run.{plan_fault}
 use Rattle.dp_commands.specs.declared.fault.PbxFault.{PbxFault}
 use Rattle.dp_program.specs.Nearest.{nearest_of}
 use Rattle.dp_program.specs.Requests.{LookupOf}
-use Rattle.dp_program.specs.declared.hints.Served.{Served}
+use Rattle.dp_program.specs.declared.hints.ServedRequest.{ServedRequest}
 
 -- whether no context has an entry or an include
 abbrev pub is_bare : PlanOf → Bool
@@ -61,14 +61,14 @@ unfoldable pub match_hint_of : LookupOf → Bool → List ℕ → Result (List �
 match_hint_of lookup explains plan = plan_fault (plan_and_notes plan) >>= λ read. Ok (match_hint lookup explains read.0)
 
 -- a result without its hint
-abbrev pub status_in : {F : Type 0} → Result Served F → Result ℕ F
+abbrev pub status_in : {F : Type 0} → Result ServedRequest F → Result ℕ F
 status_in (Ok served) = Ok served.status
 status_in (Err fault) = Err fault
 
 -- the hint beside a result is this one
-abbrev pub Tells : {F : Type 0} → Result (List ℕ) PbxFault → Result Served F → Type 0
+abbrev pub Tells : {F : Type 0} → Result (List ℕ) PbxFault → Result ServedRequest F → Type 0
 Tells hint answered = IfOk answered (λ served. hint ≡ Ok served.hint.items)
 
 -- a result has no hint
-abbrev pub TellsNothing : {F : Type 0} → Result Served F → Type 0
+abbrev pub TellsNothing : {F : Type 0} → Result ServedRequest F → Type 0
 TellsNothing answered = IfOk answered (λ served. served.hint.items ≡ [])

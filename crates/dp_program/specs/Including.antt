@@ -13,7 +13,7 @@ use Rattle.dp_notices.specs.Checks.{both_check_text, check_text, faults_of, faul
 use Rattle.dp_notices.specs.PlanFiles.{PlanFilesOf, plan_of}
 use Rattle.dp_notices.specs.QueueFiles.{QueueFilesOf, queues_of}
 use Rattle.dp_program.specs.Faulted.{PlaceOf, StandsIn, in_none, unread_place, without_place}
-use Rattle.dp_program.specs.Files.{Source}
+use Rattle.dp_program.specs.Files.{ByteSource}
 use Rattle.dp_program.specs.JsonChecks.{both_lines, plan_lines, queues_lines}
 use Rattle.dp_program.specs.declared.faulted.Faulted.{Faulted}
 use Rattle.dp_wide.specs.declared.times.Moment.{Moment}
@@ -24,12 +24,12 @@ AreBytes (Some bytes) text = text ≡ bytes
 AreBytes None text = Unit {0}
 
 -- what a file may contain: its bytes, or nothing if a read of it may fail
-abbrev pub MayHold : Source → Option (List ℕ) → Type 0
+abbrev pub MayHold : ByteSource → Option (List ℕ) → Type 0
 MayHold source (Some text) = AreBytes source.bytes text
 MayHold source None = source.fails ≡ true
 
 -- what may be reported of the files of a system below the folder of a first one; no contract knows what a folder contains
-abbrev pub MayTellOf : (List ℕ → Source) → List ℕ → Telling → Type 0
+abbrev pub MayTellOf : (List ℕ → ByteSource) → List ℕ → Telling → Type 0
 MayTellOf sources first = MayTell (λ path text. MayHold (sources path) text) (λ _ _. Unit {0}) first
 
 -- why nothing was read, as a fault of the program
@@ -57,9 +57,9 @@ abbrev pub check_of : Bool → PlanFilesOf → CheckOf
 check_of is_json plan = record { text = plan_text is_json plan; status = check_status (faults_of plan) }
 
 -- the same, or why nothing was read
-abbrev pub checked : Bool → Result PlanFilesOf ReadingFault → Result CheckOf PbxFault
-checked is_json (Ok plan) = Ok (check_of is_json plan)
-checked is_json (Err fault) = Err (reading_fault fault)
+abbrev pub check_or_fault : Bool → Result PlanFilesOf ReadingFault → Result CheckOf PbxFault
+check_or_fault is_json (Ok plan) = Ok (check_of is_json plan)
+check_or_fault is_json (Err fault) = Err (reading_fault fault)
 
 -- the output and result of a check, given its report or the fault in its place: the whole report or, if a write fails, a prefix of it
 abbrev pub WritesCheck : Option (List ℕ) → Option (List ℕ) → Result CheckOf PbxFault → Result ℕ PbxFault → Type 0
@@ -77,10 +77,10 @@ place_of_plan path (Err unread) fault = unread_place path fault
 
 -- the output and result of a check of the dialplan of a file and of those that it includes, and the place of its fault, given whether it is
 -- JSON, and the moment by which includes with times are read, if there is one: for all files that are as they were read
-abbrev pub ChecksIncluding : Bool → Option Moment → List ℕ → (List ℕ → Source) → Option (List ℕ) → Option (List ℕ) → Result ℕ Faulted → Type 0
+abbrev pub ChecksIncluding : Bool → Option Moment → List ℕ → (List ℕ → ByteSource) → Option (List ℕ) → Option (List ℕ) → Result ℕ Faulted → Type 0
 ChecksIncluding is_json moment path sources old new answered =
     ReadsFolder (MayTellOf sources path) (λ has.
-    WritesCheck old new (checked is_json (plan_of moment has path)) (without_place answered)
+    WritesCheck old new (check_or_fault is_json (plan_of moment has path)) (without_place answered)
     × StandsIn (place_of_plan path (plan_of moment has path)) answered)
 
 -- the text of the report on queues that were read, given whether it is JSON
@@ -104,7 +104,7 @@ place_of_queues path (Err unread) fault = unread_place path fault
 
 -- the output and result of a check of the queues of a file and of those that it includes, and the place of its fault, given whether it is
 -- JSON: for all files that are as they were read
-abbrev pub ChecksQueuesIncluding : Bool → List ℕ → (List ℕ → Source) → Option (List ℕ) → Option (List ℕ) → Result ℕ Faulted → Type 0
+abbrev pub ChecksQueuesIncluding : Bool → List ℕ → (List ℕ → ByteSource) → Option (List ℕ) → Option (List ℕ) → Result ℕ Faulted → Type 0
 ChecksQueuesIncluding is_json path sources old new answered =
     ReadsFolder (MayTellOf sources path) (λ has.
     WritesCheck old new (queues_checked is_json (queues_of has path)) (without_place answered)
@@ -133,7 +133,7 @@ place_of_both path queues_path (Err unread) queues fault = unread_place path fau
 
 -- the output and result of a check of the dialplan of a file and the queues of another, and of the files that they include, given whether it
 -- is JSON: for all files that are as they were read
-abbrev pub ChecksBothIncluding : Bool → Option Moment → List ℕ → List ℕ → (List ℕ → Source) → Option (List ℕ) → Option (List ℕ) → Result ℕ Faulted → Type 0
+abbrev pub ChecksBothIncluding : Bool → Option Moment → List ℕ → List ℕ → (List ℕ → ByteSource) → Option (List ℕ) → Option (List ℕ) → Result ℕ Faulted → Type 0
 ChecksBothIncluding is_json moment path queues_path sources old new answered =
     ReadsFolder (MayTellOf sources path) (λ has. ReadsFolder (MayTellOf sources queues_path) (λ held.
     WritesCheck old new (both_checked is_json (plan_of moment has path) (queues_of held queues_path)) (without_place answered)

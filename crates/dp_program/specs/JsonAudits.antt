@@ -22,8 +22,8 @@ use Rattle.dp_wide_runs.specs.WideFindings.{AreTold}
 use Rattle.dp_wide_runs.specs.declared.wide_finding.WideFinding.{WideFinding}
 
 -- the report that has these lines and this status
-abbrev pub reported : AuditLines → Audited
-reported report = record { text = report.lines.items; status = report.status }
+abbrev pub audit_report : AuditLines → Audited
+audit_report report = record { text = report.lines.items; status = report.status }
 
 -- the report of these findings: their lines, then their number
 abbrev pub report_of : PlanOf → List Finding → Audited

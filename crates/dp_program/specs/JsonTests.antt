@@ -3,7 +3,7 @@ use Rattle.std.specs.Prelude.{ℕ, ◌+◌, ◌-◌, Bool, List, [], ◌∷◌, 
 use Rattle.std.specs.List.{flat_map}
 use Rattle.std.specs.Option.{option_map_or}
 use Rattle.dp_conf.specs.Answers.{◌>>=◌}
-use Rattle.dp_commands.specs.LinePlaces.{Places, file_name, in_file, in_files, places_of, position_of}
+use Rattle.dp_commands.specs.LinePlaces.{PlacesOfLines, file_name, in_file, in_files, places_of, position_of}
 use Rattle.dp_commands.specs.Run.{plan_fault}
 use Rattle.dp_commands.specs.Verbose.{lines_in}
 use Rattle.dp_commands.specs.declared.fault.PbxFault.{PbxFault}
@@ -17,7 +17,7 @@ use Rattle.dp_plan.specs.declared.entry.EntryId.{EntryId}
 use Rattle.dp_program.specs.declared.test_results.PlanRun.{PlanRun}
 use Rattle.dp_test_runs.specs.Coverage.{has_run, ids_of, never_run}
 use Rattle.dp_test_runs.specs.declared.tap.Point.{Point}
-use Rattle.dp_test_runs.specs.declared.tap.Report.{Report}
+use Rattle.dp_test_runs.specs.declared.tap.FailureReport.{FailureReport}
 
 -- ---- tests
 
@@ -28,14 +28,14 @@ passed_object number name =
     ∷ text_field (codes "name") name ∷ []
 
 -- the object of one that failed: its place, what was expected, what came of it, and the last entries that ran, with line feeds between them
-abbrev pub failed_object : ℕ → List ℕ → Report → List Field
+abbrev pub failed_object : ℕ → List ℕ → FailureReport → List Field
 failed_object number name report =
     type_field (codes "test") ∷ number_field (codes "number") number ∷ text_field (codes "kind") (codes "Failed")
     ∷ text_field (codes "name") name ∷ text_field (codes "at") report.at ∷ text_field (codes "expected") report.expected
     ∷ text_field (codes "got") report.got ∷ text_field (codes "trace") (trace_text report.trace) ∷ []
 
 -- the object of a test, given its report if it failed
-abbrev pub object_by : ℕ → List ℕ → Option Report → List Field
+abbrev pub object_by : ℕ → List ℕ → Option FailureReport → List Field
 object_by number name None = passed_object number name
 object_by number name (Some report) = failed_object number name report
 
@@ -70,7 +70,7 @@ abbrev pub line_of_position : List (List ℕ) → LinePosition → FileLineOf
 line_of_position files position = file_line (file_name files position.file) (Some position.line)
 
 -- the line of a file from which a line of a dialplan's text comes
-abbrev pub source_line : Places → Option ℕ → FileLineOf
+abbrev pub source_line : PlacesOfLines → Option ℕ → FileLineOf
 source_line (in_file name) line = file_line name line
 source_line (in_files files lines) line = option_map_or (line_of_position files) (position_of lines line) (file_line [] None)
 
@@ -78,11 +78,11 @@ source_line (in_files files lines) line = option_map_or (line_of_position files)
 abbrev pub never_from : FileLineOf → PlanOf → EntryId → List ℕ
 never_from from plan id = object_text (never_object from.file from.line plan id)
 
-abbrev pub never_line : Places → List (List ℕ) → PlanOf → EntryId → List ℕ
+abbrev pub never_line : PlacesOfLines → List (List ℕ) → PlanOf → EntryId → List ℕ
 never_line places lines plan id = never_from (source_line places (line_at lines id)) plan id
 
 -- the coverage of the dialplan at a path by the entries that tests ran: how many there are, then each that is not among them
-unfoldable pub coverage_of : List ℕ → Places → List (List ℕ) → PlanOf → List EntryId → List ℕ
+unfoldable pub coverage_of : List ℕ → PlacesOfLines → List (List ℕ) → PlanOf → List EntryId → List ℕ
 coverage_of path places lines plan ran =
     object_text (covered_object path (length (filter (has_run ran) (ids_of plan))) (length (ids_of plan)))
     ++ flat_map (never_line places lines plan) (never_run plan ran)

@@ -2,10 +2,10 @@
 use Rattle.std.specs.Prelude.{ℕ, List, Option, Some, None, Result}
 use Rattle.std.specs.Option.{option_map}
 use Rattle.dp_conf.specs.Answers.{◌>>=◌}
-use Rattle.dp_commands.specs.Run.{Files, files_of}
+use Rattle.dp_commands.specs.Run.{LoadedFilesOf, files_of}
 use Rattle.dp_commands.specs.declared.fault.PbxFault.{PbxFault}
 use Rattle.dp_program.specs.Faulted.{PlaceOf, StandsIn, place_in_file, place_in_two, place_of_report, place_of_two, without_place}
-use Rattle.dp_program.specs.Files.{Reads, Source}
+use Rattle.dp_program.specs.Files.{Reads, ByteSource}
 use Rattle.dp_program.specs.Texts.{ReadsSome, some_text}
 use Rattle.dp_program.specs.declared.faulted.Faulted.{Faulted}
 
@@ -22,11 +22,11 @@ place_over path (Some queues_path) plan None fault = place_in_file path plan fau
 place_over path (Some queues_path) plan (Some queues) fault = place_in_two (path, plan) (queues_path, queues) fault
 
 -- the contents of the files that were read, or the first fault
-abbrev pub contents_in : Result (List ℕ) PbxFault → Option (Result (List ℕ) PbxFault) → Result Files PbxFault
+abbrev pub contents_in : Result (List ℕ) PbxFault → Option (Result (List ℕ) PbxFault) → Result LoadedFilesOf PbxFault
 contents_in plan queues = plan >>= λ plan. some_text queues >>= λ queues. files_of plan queues
 
 -- the result of a request, given what it does with the contents of the files at these paths, and the place of its fault
-abbrev pub OnFiles : {X : Type 0} → (Result Files PbxFault → Result X PbxFault → Type 0) → (List ℕ → Source) → List ℕ → Option (List ℕ) → Result X Faulted → Type 0
+abbrev pub OnFiles : {X : Type 0} → (Result LoadedFilesOf PbxFault → Result X PbxFault → Type 0) → (List ℕ → ByteSource) → List ℕ → Option (List ℕ) → Result X Faulted → Type 0
 OnFiles Holds files path queues_path answered =
     Reads (files path) (λ plan. ReadsSome (option_map files queues_path) (λ queues.
     Holds (contents_in plan queues) (without_place answered) × StandsIn (place_of_files path queues_path plan queues) answered))

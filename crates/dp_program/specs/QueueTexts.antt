@@ -8,10 +8,10 @@ use Rattle.dp_files.specs.declared.reading.ReadingFault.{ReadingFault}
 use Rattle.dp_notices.specs.QueueFiles.{QueueFilesOf, queue_notices_text, queues_of}
 use Rattle.dp_notices.specs.declared.printing.Shown.TheVariants.{All}
 use Rattle.dp_program.specs.Dialplans.{FailsToRead, TellsFaults, with_text}
-use Rattle.dp_program.specs.Files.{Source}
+use Rattle.dp_program.specs.Files.{ByteSource}
 use Rattle.dp_program.specs.Including.{MayTellOf, reading_fault}
 use Rattle.dp_program.specs.declared.faulted.Faulted.{Faulted}
-use Rattle.dp_program.specs.declared.hints.Served.{Served}
+use Rattle.dp_program.specs.declared.hints.ServedRequest.{ServedRequest}
 use Rattle.dp_program.specs.declared.queue_texts.ReadQueues.{ReadQueues}
 use Rattle.dp_program.specs.declared.queue_texts.ReadQueues.TheVariants.{Given, Unread}
 
@@ -39,13 +39,13 @@ queues_now (Given queues) = given (option_map (λ text. text.items) queues)
 queues_now (Unread line) = unread line.items
 
 -- the output and result of a command, given what it does with files in which the one at a path has the text of the queues
-abbrev pub OnQueues : (List ℕ → Source) → List ℕ → ((List ℕ → Source) → Result Served Faulted → Type 0) → Option (List ℕ) → Option (List ℕ) → Result QueuesRead PbxFault → Result Served Faulted → Type 0
+abbrev pub OnQueues : (List ℕ → ByteSource) → List ℕ → ((List ℕ → ByteSource) → Result ServedRequest Faulted → Type 0) → Option (List ℕ) → Option (List ℕ) → Result QueuesRead PbxFault → Result ServedRequest Faulted → Type 0
 OnQueues files path Holds old new (Ok (given None)) answered = Holds files answered
 OnQueues files path Holds old new (Ok (given (Some text))) answered = Holds (with_text files path text) answered
 OnQueues files path Holds old new (Ok (unread told)) answered = TellsFaults told old new answered
 OnQueues files path Holds old new (Err fault) answered = FailsToRead path fault old new answered
 
 -- the same over the queues at a path and the files that they include: for all files that are as they were read
-abbrev pub ReadsQueues : (List ℕ → Source) → List ℕ → ((List ℕ → Source) → Result Served Faulted → Type 0) → Option (List ℕ) → Option (List ℕ) → Result Served Faulted → Type 0
+abbrev pub ReadsQueues : (List ℕ → ByteSource) → List ℕ → ((List ℕ → ByteSource) → Result ServedRequest Faulted → Type 0) → Option (List ℕ) → Option (List ℕ) → Result ServedRequest Faulted → Type 0
 ReadsQueues files path Holds old new answered =
     ReadsFolder (MayTellOf files path) (λ has. OnQueues files path Holds old new (queues_read (queues_of has path)) answered)

@@ -12,14 +12,14 @@ use Rattle.dp_diff.specs.Reaches.{ReachOf, has_entry_of, reach_count, reach_text
 use Rattle.dp_plan.specs.Plan.{PlanOf}
 use Rattle.dp_plan.specs.declared.entry.EntryId.{EntryId}
 use Rattle.dp_program.specs.Diffs.{OnBoth}
-use Rattle.dp_program.specs.Files.{Source}
+use Rattle.dp_program.specs.Files.{ByteSource}
 use Rattle.dp_program.specs.Graphs.{ask_from}
 use Rattle.dp_program.specs.Meanings.{wide_meanings}
 use Rattle.dp_program.specs.PlanQuestions.{OverBothIncluded, Serving}
 use Rattle.dp_program.specs.Reaches.{told_of_name}
 use Rattle.dp_program.specs.Requests.{ReachDiffOf}
 use Rattle.dp_program.specs.declared.faulted.Faulted.{Faulted}
-use Rattle.dp_program.specs.declared.hints.Served.{Served}
+use Rattle.dp_program.specs.declared.hints.ServedRequest.{ServedRequest}
 
 -- ---- what is reached
 
@@ -64,7 +64,7 @@ abbrev pub status_of : ℕ → List ℕ → ℕ
 status_of count hint = if (count == 0) && (length hint == 0) then 0 else 1
 
 -- all lines were written
-pub record ChangesWhole (meanings : Meanings) (question : ReachDiffOf) (explains : Bool) (plans : PlanOf × PlanOf) (old new : Option (List ℕ)) (served : Served) : Type 0 where
+pub record ChangesWhole (meanings : Meanings) (question : ReachDiffOf) (explains : Bool) (plans : PlanOf × PlanOf) (old new : Option (List ℕ)) (served : ServedRequest) : Type 0 where
   pub reached : ReachedOf
   pub right : AreReachedBoth meanings plans (asked_of question) reached
   pub written : Appends old new (changes_text plans reached)
@@ -78,7 +78,7 @@ pub record ChangesFront (meanings : Meanings) (question : ReachDiffOf) (plans : 
   pub written : AppendsFront old new (changes_text plans reached)
 
 -- the output and result, given both dialplans or the first fault
-abbrev pub ReachChanges : Meanings → ReachDiffOf → Bool → Result (PlanOf × PlanOf) PbxFault → Option (List ℕ) → Option (List ℕ) → Result Served PbxFault → Type 0
+abbrev pub ReachChanges : Meanings → ReachDiffOf → Bool → Result (PlanOf × PlanOf) PbxFault → Option (List ℕ) → Option (List ℕ) → Result ServedRequest PbxFault → Type 0
 ReachChanges meanings question explains (Ok plans) old new (Ok served) = ChangesWhole meanings question explains plans old new served
 ReachChanges meanings question explains (Ok plans) old new (Err (Coded code line)) =
     ChangesFront meanings question plans old new × (code ≡ WriteFailed) × (line ≡ None)
@@ -93,7 +93,7 @@ ReachDiffsFiles meanings question explains files old new answered =
     OnBoth (λ given. ReachChanges meanings question explains given old new) files question.before question.after answered
 
 -- the same for these files and those that they include, over the wide table
-abbrev pub ReachDiffsIncluding : Option (List ℕ) → (List ℕ → Source) → ReachDiffOf → Bool → Option (List ℕ) → Option (List ℕ) → Result Served Faulted → Type 0
+abbrev pub ReachDiffsIncluding : Option (List ℕ) → (List ℕ → ByteSource) → ReachDiffOf → Bool → Option (List ℕ) → Option (List ℕ) → Result ServedRequest Faulted → Type 0
 ReachDiffsIncluding clock files question explains old new answered =
     OverBothIncluded (ReachDiffsFiles wide_meanings question explains) clock files question.before question.after old new answered
 

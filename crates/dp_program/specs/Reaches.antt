@@ -12,11 +12,11 @@ use Rattle.dp_conf.specs.Fronts.{AppendsFront}
 use Rattle.dp_conf.specs.Levels.{arguments_of}
 use Rattle.dp_plan.specs.Lookup.{number_of}
 use Rattle.dp_plan.specs.Plan.{PlanOf}
-use Rattle.dp_commands.specs.Run.{Files}
+use Rattle.dp_commands.specs.Run.{LoadedFilesOf}
 use Rattle.dp_commands.specs.declared.fault.Code.TheVariants.{WriteFailed}
 use Rattle.dp_commands.specs.declared.fault.PbxFault.{PbxFault}
 use Rattle.dp_commands.specs.declared.fault.PbxFault.TheVariants.{Coded, NoMemory}
-use Rattle.dp_program.specs.Files.{Source}
+use Rattle.dp_program.specs.Files.{ByteSource}
 use Rattle.dp_program.specs.Hints.{bare_line, is_bare, lacking, name_told}
 use Rattle.dp_program.specs.Meanings.{wide_meanings}
 use Rattle.dp_program.specs.PlanAndQueues.{OnFiles}
@@ -26,7 +26,7 @@ use Rattle.dp_program.specs.Requests.{OptionsOf, QuestionOf}
 use Rattle.dp_queue.specs.declared.settings.Settings.{Settings}
 use Rattle.dp_program.specs.ScriptAssumptions.{look_up_use}
 use Rattle.dp_program.specs.declared.faulted.Faulted.{Faulted}
-use Rattle.dp_program.specs.declared.hints.Served.{Served}
+use Rattle.dp_program.specs.declared.hints.ServedRequest.{ServedRequest}
 
 -- the hint on the name of a context in a file
 abbrev pub told_of_name : List ℕ → Bool → PlanOf → List ℕ → List ℕ
@@ -41,7 +41,7 @@ hint_of file ask explains plan =
     ++ flat_map (told_of_name file explains plan) (option_map_or arguments_of ask.starts [])
 
 -- the settings of the queues of files
-abbrev pub settings_of : Files → List Settings
+abbrev pub settings_of : LoadedFilesOf → List Settings
 settings_of files = map (λ queue. queue.settings) files.queues.queues
 
 -- the report of an answer as JSON; the report for names that the dialplan lacks is empty
@@ -50,29 +50,29 @@ json_report plan ask None = nothing_told
 json_report plan ask (Some answer) = record { text = reach_text plan ask answer; status = answer.status }
 
 -- the report is that of a correct answer
-pub record IsJson (meanings : Meanings) (files : Files) (ask : AskOf) (report : ReportOf) : Type 0 where
+pub record IsJson (meanings : Meanings) (files : LoadedFilesOf) (ask : AskOf) (report : ReportOf) : Type 0 where
   pub answer : Option ReachAnswer
   pub right : IsAnswerTo meanings files.plan (settings_of files) ask answer
   pub told : report ≡ json_report files.plan ask answer
 
 -- the report is correct, as text or as JSON
-abbrev pub IsReported : Bool → Meanings → Files → AskOf → ReportOf → Type 0
+abbrev pub IsReported : Bool → Meanings → LoadedFilesOf → AskOf → ReportOf → Type 0
 IsReported false meanings files ask report = IsReport meanings files.plan (settings_of files) ask report
 IsReported true meanings files ask report = IsJson meanings files ask report
 
 -- the report on these files is correct, with these hints
-pub record IsAnswered (meanings : Meanings) (question : QuestionOf) (options : OptionsOf) (files : Files) (text : List ℕ) (status : ℕ) (hint : List ℕ) : Type 0 where
+pub record IsAnswered (meanings : Meanings) (question : QuestionOf) (options : OptionsOf) (files : LoadedFilesOf) (text : List ℕ) (status : ℕ) (hint : List ℕ) : Type 0 where
   pub report : IsReported options.is_json meanings files question.ask (record { text = text; status = status })
   pub told : hint ≡ hint_of question.file question.ask options.explains files.plan
 
 -- the whole of a correct report was written
-pub record WritesReport (meanings : Meanings) (question : QuestionOf) (options : OptionsOf) (files : Files) (old new : Option (List ℕ)) (served : Served) : Type 0 where
+pub record WritesReachReport (meanings : Meanings) (question : QuestionOf) (options : OptionsOf) (files : LoadedFilesOf) (old new : Option (List ℕ)) (served : ServedRequest) : Type 0 where
   pub text : List ℕ
   pub answered : IsAnswered meanings question options files text served.status served.hint.items
   pub written : Appends old new text
 
 -- a write of a correct report failed
-pub record WritesFront (meanings : Meanings) (question : QuestionOf) (options : OptionsOf) (files : Files) (old new : Option (List ℕ)) : Type 0 where
+pub record WritesFront (meanings : Meanings) (question : QuestionOf) (options : OptionsOf) (files : LoadedFilesOf) (old new : Option (List ℕ)) : Type 0 where
   pub text : List ℕ
   pub status : ℕ
   pub hint : List ℕ
@@ -80,8 +80,8 @@ pub record WritesFront (meanings : Meanings) (question : QuestionOf) (options : 
   pub written : AppendsFront old new text
 
 -- the output and result of a question, given its files or the first fault of their texts
-abbrev pub Reaches : Meanings → QuestionOf → OptionsOf → Result Files PbxFault → Option (List ℕ) → Option (List ℕ) → Result Served PbxFault → Type 0
-Reaches meanings question options (Ok files) old new (Ok served) = WritesReport meanings question options files old new served
+abbrev pub Reaches : Meanings → QuestionOf → OptionsOf → Result LoadedFilesOf PbxFault → Option (List ℕ) → Option (List ℕ) → Result ServedRequest PbxFault → Type 0
+Reaches meanings question options (Ok files) old new (Ok served) = WritesReachReport meanings question options files old new served
 Reaches meanings question options (Ok files) old new (Err (Coded code line)) =
     WritesFront meanings question options files old new × (code ≡ WriteFailed) × (line ≡ None)
 Reaches meanings question options (Ok files) old new (Err NoMemory) = Appends old new []
@@ -90,11 +90,11 @@ Reaches meanings question options (Err fault) old new (Err (Coded code line)) = 
 Reaches meanings question options (Err fault) old new (Err NoMemory) = Appends old new []
 
 -- the output and result of a question on the files at its paths, and the place of its fault
-abbrev pub ReachesFiles : Meanings → (List ℕ → Source) → QuestionOf → OptionsOf → Option (List ℕ) → Option (List ℕ) → Result Served Faulted → Type 0
+abbrev pub ReachesFiles : Meanings → (List ℕ → ByteSource) → QuestionOf → OptionsOf → Option (List ℕ) → Option (List ℕ) → Result ServedRequest Faulted → Type 0
 ReachesFiles meanings files question options old new answered =
     OnFiles (λ given. Reaches meanings question options given old new) files question.file question.queues answered
 
 -- the same for the dialplan and the queues at these paths and the files that they include, over the wide table
-abbrev pub ReachesIncluding : (List ℕ → Source) → QuestionOf → OptionsOf → Option (List ℕ) → Option (List ℕ) → Result Served Faulted → Type 0
+abbrev pub ReachesIncluding : (List ℕ → ByteSource) → QuestionOf → OptionsOf → Option (List ℕ) → Option (List ℕ) → Result ServedRequest Faulted → Type 0
 ReachesIncluding files question options old new answered =
     OverIncluded (λ files. ReachesFiles wide_meanings files question options) (look_up_use options) options.clock files question.file question.queues old new answered

@@ -8,7 +8,7 @@ use Rattle.dp_commands.specs.declared.fault.PbxFault.TheVariants.{Coded, NoMemor
 use Rattle.dp_program.specs.Entries.{said_of}
 use Rattle.dp_program.specs.Faulted.{PlaceOf, in_line, in_file, in_none, place_of}
 use Rattle.dp_program.specs.declared.faulted.Faulted.{Faulted}
-use Rattle.dp_program.specs.declared.hints.Served.{Served}
+use Rattle.dp_program.specs.declared.hints.ServedRequest.{ServedRequest}
 
 -- the status of a result: that of an answer, and 1 for a fault
 abbrev pub status_after : {F : Type 0} → Result ℕ F → ℕ
@@ -36,6 +36,6 @@ fault_text false faulted = fault_line faulted.fault
 fault_text true faulted = fault_line faulted.fault ++ explanation faulted.fault (place_of faulted.place)
 
 -- the text printed with a status: the hints beside an answer, or the text of a fault
-abbrev pub Prints : Option (List ℕ) → Option (List ℕ) → Bool → Result Served Faulted → Type 0
+abbrev pub Prints : Option (List ℕ) → Option (List ℕ) → Bool → Result ServedRequest Faulted → Type 0
 Prints old new explains (Ok served) = Appends old new served.hint.items
 Prints old new explains (Err faulted) = Appends old new (fault_text explains faulted)

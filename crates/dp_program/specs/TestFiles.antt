@@ -14,18 +14,18 @@ use Rattle.dp_files.specs.declared.reading.ReadingFault.{ReadingFault}
 use Rattle.dp_notices.specs.PlanFiles.{plan_of}
 use Rattle.dp_notices.specs.QueueFiles.{QueueFilesOf, queues_of}
 use Rattle.dp_program.specs.Dialplans.{DialplanRead, PlanTextOf, dialplan_read, faulty, loads, places_in, text_now}
-use Rattle.dp_program.specs.Files.{Source}
+use Rattle.dp_program.specs.Files.{ByteSource}
 use Rattle.dp_program.specs.Including.{MayTellOf, reading_fault}
 use Rattle.dp_program.specs.QueueTexts.{QueuesRead, given, queues_or_notices, unread}
 use Rattle.dp_program.specs.declared.dialplans.PlanUse.TheVariants.{LookUp}
 use Rattle.dp_program.specs.ScriptAssumptions.{test_assumptions}
-use Rattle.dp_program.specs.declared.test_inputs.NamedLine.{NamedLine}
+use Rattle.dp_program.specs.declared.test_inputs.FileMention.{FileMention}
 use Rattle.dp_program.specs.declared.test_inputs.PlanReading.{PlanReading}
 use Rattle.dp_program.specs.declared.test_inputs.ReadInputs.{ReadInputs}
 use Rattle.dp_program.specs.declared.test_inputs.ReadInputs.TheVariants.{Ready, Lacking}
 use Rattle.dp_program.specs.declared.test_inputs.Reloads.{Reloads}
 use Rattle.dp_program.specs.declared.test_inputs.TestInputs.{TestInputs}
-use Rattle.dp_test_runs.specs.declared.named_text.NamedText.{NamedText}
+use Rattle.dp_test_runs.specs.declared.named_text.NamedFileText.{NamedFileText}
 use Rattle.dp_test_runs.specs.declared.points.TestedFile.{TestedFile}
 use Rattle.dp_tests.specs.Faults.{kind_name}
 use Rattle.dp_tests.specs.declared.fault.TestFault.{TestFault}
@@ -60,7 +60,7 @@ pub record NamedOf : Type 0 where
 abbrev pub named_by : ℕ → List ℕ → NamedOf
 named_by line name = record { line = line; name = name }
 
-abbrev pub named_now : NamedLine → NamedOf
+abbrev pub named_now : FileMention → NamedOf
 named_now named = named_by named.line named.name.now
 
 -- the file that a line of the head names
@@ -96,12 +96,12 @@ plan_or_lines path named (Ok read) = read
 plan_or_lines path named (Err fault) = faulty (unread_text path named fault)
 
 -- the dialplan at a path may be read so: for all files that are as they were read
-abbrev pub IsPlanAt : (List ℕ → Source) → PlanReading → List ℕ → NamedOf → List ℕ → DialplanRead → Type 0
+abbrev pub IsPlanAt : (List ℕ → ByteSource) → PlanReading → List ℕ → NamedOf → List ℕ → DialplanRead → Type 0
 IsPlanAt files reading path named at read =
     ReadsFolder (MayTellOf files at) (λ has. read ≡ plan_or_lines path named (dialplan_read (LookUp reading.assumed) None (plan_of reading.clock has at)))
 
 -- the same for the dialplan that a line names; a path that is not UTF-8 is not read
-abbrev pub IsPlanRead : (List ℕ → Source) → PlanReading → List ℕ → NamedOf → DialplanRead → Type 0
+abbrev pub IsPlanRead : (List ℕ → ByteSource) → PlanReading → List ℕ → NamedOf → DialplanRead → Type 0
 IsPlanRead files reading path named read =
     MatchBool (is_utf8 (path_to path named)) (IsPlanAt files reading path named (path_to path named) read)
     (read ≡ faulty (unread_line path named ReadFailed))
@@ -112,18 +112,18 @@ queues_or_lines path named (Ok queues) = queues_or_notices queues
 queues_or_lines path named (Err fault) = unread (unread_text path named (reading_fault fault))
 
 -- the queues at a path may be read so: for all files that are as they were read
-abbrev pub QueuesComeFrom : (List ℕ → Source) → List ℕ → NamedOf → List ℕ → QueuesRead → Type 0
+abbrev pub QueuesComeFrom : (List ℕ → ByteSource) → List ℕ → NamedOf → List ℕ → QueuesRead → Type 0
 QueuesComeFrom files path named at read =
     ReadsFolder (MayTellOf files at) (λ has. read ≡ queues_or_lines path named (queues_of has at))
 
 -- the same for the queues that a line names; a path that is not UTF-8 is not read
-abbrev pub AreQueuesAt : (List ℕ → Source) → List ℕ → NamedOf → QueuesRead → Type 0
+abbrev pub AreQueuesAt : (List ℕ → ByteSource) → List ℕ → NamedOf → QueuesRead → Type 0
 AreQueuesAt files path named read =
     MatchBool (is_utf8 (path_to path named)) (QueuesComeFrom files path named (path_to path named) read)
     (read ≡ unread (unread_line path named ReadFailed))
 
 -- the same, if a line of the head names queues; without it there are none
-abbrev pub AreQueuesRead : (List ℕ → Source) → List ℕ → Option HeadLine → QueuesRead → Type 0
+abbrev pub AreQueuesRead : (List ℕ → ByteSource) → List ℕ → Option HeadLine → QueuesRead → Type 0
 AreQueuesRead files path None read = read ≡ given None
 AreQueuesRead files path (Some head) read = AreQueuesAt files path (named_in head) read
 
@@ -146,7 +146,7 @@ reloads_of file = flat_map reload_in file.setup ++ flat_map reloads_in file.test
 
 -- the texts of the dialplans that were read, with the names of their files, and the lines about what is wrong with the others
 pub record ReloadsOf : Type 0 where
-  pub texts : List NamedText
+  pub texts : List NamedFileText
   pub lines : List ℕ
 
 abbrev pub no_reloads : ReloadsOf
@@ -163,7 +163,7 @@ with_reload named reloads (loads plan) = with_plan named.name reloads plan
 with_reload named reloads (faulty lines) = record { texts = reloads.texts; lines = reloads.lines ++ lines }
 
 -- the dialplans that some lines name may be read so, one after another
-abbrev pub AreReloads : (List ℕ → Source) → PlanReading → List ℕ → List NamedOf → ReloadsOf → ReloadsOf → Type 0
+abbrev pub AreReloads : (List ℕ → ByteSource) → PlanReading → List ℕ → List NamedOf → ReloadsOf → ReloadsOf → Type 0
 AreReloads files reading path [] before after = after ≡ before
 AreReloads files reading path (named ∷ more) before after =
     (read : DialplanRead) × IsPlanRead files reading path named read × AreReloads files reading path more (with_reload named before read) after
@@ -172,7 +172,7 @@ AreReloads files reading path (named ∷ more) before after =
 pub record InputsOf : Type 0 where
   pub plan : PlanTextOf
   pub queues : Option (List ℕ)
-  pub reloaded : List NamedText
+  pub reloaded : List NamedFileText
 
 -- these texts, or the lines about everything that is wrong with them
 pub data InputsRead : Type 0 where
@@ -209,7 +209,7 @@ inputs_now (Ready inputs) = ready (inputs_of inputs)
 inputs_now (Lacking lines) = lacking lines.items
 
 -- the files that a test file names may be read so
-pub record AreInputs (files : List ℕ → Source) (path : List ℕ) (file : TestFile) (read : InputsRead) : Type 0 where
+pub record AreInputs (files : List ℕ → ByteSource) (path : List ℕ) (file : TestFile) (read : InputsRead) : Type 0 where
   pub plan : DialplanRead
   pub queues : QueuesRead
   pub reloads : ReloadsOf

@@ -20,12 +20,12 @@ use Rattle.dp_graph.specs.Shading.{ByTests}
 use Rattle.dp_plan.specs.declared.entry.EntryId.{EntryId}
 use Rattle.dp_program.specs.Dialplans.{FailsToRead}
 use Rattle.dp_program.specs.Faulted.{in_none, nowhere, place_of}
-use Rattle.dp_program.specs.Files.{Reads, Source}
+use Rattle.dp_program.specs.Files.{Reads, ByteSource}
 use Rattle.dp_program.specs.Graphs.{exits_of}
 use Rattle.dp_program.specs.TestFiles.{AreInputs, InputsOf, InputsRead, IsTested, fault_lines, fault_of_texts, inputs_of, lacking, ready}
 use Rattle.dp_program.specs.TestTexts.{TestText, text_at}
 use Rattle.dp_program.specs.declared.faulted.Faulted.{Faulted}
-use Rattle.dp_program.specs.declared.hints.Served.{Served}
+use Rattle.dp_program.specs.declared.hints.ServedRequest.{ServedRequest}
 use Rattle.dp_program.specs.declared.test_reports.TestManner.{TestManner}
 use Rattle.dp_program.specs.declared.test_reports.TestReport.{TestReport}
 use Rattle.dp_program.specs.declared.test_results.PlanRun.{PlanRun}
@@ -75,21 +75,21 @@ with_inputs source file suite (ready inputs) = with_ready (ready_by source file 
 with_inputs source file suite (lacking lines) = with_lines lines suite
 
 -- one more file may be added so: the files that it names are read
-pub record AddsFile (files : List ℕ → Source) (source : TestText) (file : TestFile) (before after : SuiteOf) : Type 0 where
+pub record AddsFile (files : List ℕ → ByteSource) (source : TestText) (file : TestFile) (before after : SuiteOf) : Type 0 where
   pub read : InputsRead
   pub inputs : AreInputs files source.path file read
   pub added : after ≡ with_inputs source file before read
 
 -- the same, given what its text says or the faults of the text
-abbrev pub AddsRead : (List ℕ → Source) → TestText → SuiteOf → SuiteOf → Result TestFile (List TestFault) → Type 0
+abbrev pub AddsRead : (List ℕ → ByteSource) → TestText → SuiteOf → SuiteOf → Result TestFile (List TestFault) → Type 0
 AddsRead files source before after (Ok file) = AddsFile files source file before after
 AddsRead files source before after (Err faults) = after ≡ with_lines (fault_lines source.path faults) before
 
-abbrev pub AddsText : (List ℕ → Source) → TestText → SuiteOf → SuiteOf → Type 0
+abbrev pub AddsText : (List ℕ → ByteSource) → TestText → SuiteOf → SuiteOf → Type 0
 AddsText files source before after = AddsRead files source before after (file_of source.text)
 
 -- test files may be read so, one after another
-abbrev pub AreRead : (List ℕ → Source) → List TestText → SuiteOf → SuiteOf → Type 0
+abbrev pub AreRead : (List ℕ → ByteSource) → List TestText → SuiteOf → SuiteOf → Type 0
 AreRead files [] before after = after ≡ before
 AreRead files (source ∷ more) before after = (next : SuiteOf) × AddsText files source before next × AreRead files more next after
 
@@ -141,7 +141,7 @@ abbrev pub IsReady : TestedFile → ReadyOf → Type 0
 IsReady tested tests = IsTested tested tests.source.path tests.source.text tests.file tests.inputs
 
 -- the results with what the tests of one more file came to when they ran
-pub record Adds (tests : ReadyOf) (before after : ResultsOf) : Type 0 where
+pub record AddsResults (tests : ReadyOf) (before after : ResultsOf) : Type 0 where
   pub tested : TestedFile
   pub is_ready : IsReady tested tests
   pub added : after ≡ with_outcome tested before (points_of tested)
@@ -149,7 +149,7 @@ pub record Adds (tests : ReadyOf) (before after : ResultsOf) : Type 0 where
 -- the tests of files may run so, one file after another
 abbrev pub Run : List ReadyOf → ResultsOf → ResultsOf → Type 0
 Run [] before after = after ≡ before
-Run (tests ∷ more) before after = (next : ResultsOf) × Adds tests before next × Run more next after
+Run (tests ∷ more) before after = (next : ResultsOf) × AddsResults tests before next × Run more next after
 
 -- the result of a call
 abbrev pub results_now : Results → ResultsOf
@@ -220,13 +220,13 @@ other_line drawn run = if same_plan drawn run then [] else other_text run.tested
 -- ---- the report
 
 -- what is written, what is told beside it, and the status
-pub record ReportOf : Type 0 where
+pub record TestReportOf : Type 0 where
   pub written : List ℕ
   pub told : List ℕ
   pub status : ℕ
 
 -- the result of a call
-abbrev pub report_now : TestReport → ReportOf
+abbrev pub report_now : TestReport → TestReportOf
 report_now report = record { written = report.written; told = report.told.items; status = report.status }
 
 -- what is asked for besides the results: the trace of each test, the coverage of the dialplans, JSON in place of text, and a picture in
@@ -244,7 +244,7 @@ abbrev pub manner_of : Bool → Bool → Bool → Bool → MannerOf
 manner_of traces covers draws is_json = record { traces = traces; covers = covers; is_json = is_json; draws = draws }
 
 -- no results, because of what these lines say
-abbrev pub refuses : List ℕ → ReportOf
+abbrev pub refuses : List ℕ → TestReportOf
 refuses lines = record { written = []; told = lines; status = 1 }
 
 -- the results of tests; JSON has no traces
@@ -252,41 +252,41 @@ abbrev pub results_text : MannerOf → List Point → List ℕ
 results_text manner points = if manner.is_json then tests_json points else tap_text manner.traces points
 
 -- the points of tests, with what is added to them; the status is 1 if a test failed
-abbrev pub passes : MannerOf → List Point → List ℕ → ReportOf
+abbrev pub passes : MannerOf → List Point → List ℕ → TestReportOf
 passes manner points added = record { written = results_text manner points ++ added; told = []; status = if has_failed points then 1 else 0 }
 
 -- a picture, with the lines beside it
-abbrev pub drawn : List ℕ → List ℕ → ReportOf
-drawn picture told = record { written = picture; told = told; status = if length told == 0 then 0 else 1 }
+abbrev pub picture_report : List ℕ → List ℕ → TestReportOf
+picture_report picture told = record { written = picture; told = told; status = if length told == 0 then 0 else 1 }
 
 -- the picture of the dialplan of the first test file
-abbrev pub drawn_by : List PlanRun → List PlanRun → ReportOf
+abbrev pub drawn_by : List PlanRun → List PlanRun → TestReportOf
 drawn_by runs [] = record { written = []; told = []; status = 0 }
-drawn_by runs (plan ∷ more) = drawn (picture_by runs plan) (flat_map (other_line plan) runs)
+drawn_by runs (plan ∷ more) = picture_report (picture_by runs plan) (flat_map (other_line plan) runs)
 
 -- the report on tests
-abbrev pub report_of : MannerOf → List Point → List PlanRun → ReportOf
+abbrev pub report_of : MannerOf → List Point → List PlanRun → TestReportOf
 report_of manner points plans =
     if manner.draws then drawn_by plans plans else passes manner points (coverage_asked manner.is_json manner.covers plans)
 
 -- the report on results, given the lines about texts that tests cannot run on
-abbrev pub report_by : MannerOf → ResultsOf → List ℕ → ReportOf
+abbrev pub report_by : MannerOf → ResultsOf → List ℕ → TestReportOf
 report_by manner results [] = report_of manner results.points results.plans
 report_by manner results lines = refuses lines
 
 -- the report on files whose tests can run
-pub record ReportsReady (manner : MannerOf) (tests : List ReadyOf) (report : ReportOf) : Type 0 where
+pub record ReportsReady (manner : MannerOf) (tests : List ReadyOf) (report : TestReportOf) : Type 0 where
   pub results : ResultsOf
   pub ran : Run tests no_results results
   pub reported : report ≡ report_by manner results results.lines
 
 -- the report on test files, given the lines about everything that is wrong: with any, no test runs
-abbrev pub ReportsSuite : MannerOf → List ReadyOf → ReportOf → List ℕ → Type 0
+abbrev pub ReportsSuite : MannerOf → List ReadyOf → TestReportOf → List ℕ → Type 0
 ReportsSuite manner tests report [] = ReportsReady manner tests report
 ReportsSuite manner tests report lines = report ≡ refuses lines
 
 -- a possible report on test files
-pub record MayReport (manner : MannerOf) (files : List ℕ → Source) (texts : List TestText) (report : ReportOf) : Type 0 where
+pub record MayReport (manner : MannerOf) (files : List ℕ → ByteSource) (texts : List TestText) (report : TestReportOf) : Type 0 where
   pub suite : SuiteOf
   pub read : AreRead files texts no_files suite
   pub reported : ReportsSuite manner suite.ready report suite.lines
@@ -294,7 +294,7 @@ pub record MayReport (manner : MannerOf) (files : List ℕ → Source) (texts : 
 -- ---- the output and the result
 
 -- a report that was made is written, or a write fails; or memory ran out before
-abbrev pub WritesMade : {E : Type 0} → Result TestReport E → Option (List ℕ) → Option (List ℕ) → Result Served Faulted → Type 0
+abbrev pub WritesMade : {E : Type 0} → Result TestReport E → Option (List ℕ) → Option (List ℕ) → Result ServedRequest Faulted → Type 0
 WritesMade (Ok report) old new (Ok served) =
     Appends old new report.written × (served.status ≡ report.status) × (served.hint.items ≡ report.told.items)
 WritesMade (Ok report) old new (Err faulted) = AppendsFront old new report.written × (faulted ≡ nowhere (Coded WriteFailed None))
@@ -302,45 +302,45 @@ WritesMade (Err refused) old new (Ok served) = ⊥
 WritesMade (Err refused) old new (Err faulted) = Appends old new [] × (faulted ≡ nowhere NoMemory)
 
 -- a report is written, or a write fails
-abbrev pub WritesBytes : ReportOf → Option (List ℕ) → Option (List ℕ) → Result Served PbxFault → Type 0
+abbrev pub WritesBytes : TestReportOf → Option (List ℕ) → Option (List ℕ) → Result ServedRequest PbxFault → Type 0
 WritesBytes report old new (Ok served) = Appends old new report.written × (served.status ≡ report.status) × (served.hint.items ≡ report.told)
 WritesBytes report old new (Err fault) = AppendsFront old new report.written × (fault ≡ Coded WriteFailed None)
 
 -- the report is written, or memory runs out before, or a write fails
-pub record Gives (MayBe : ReportOf → Type 0) (old new : Option (List ℕ)) (served : Served) : Type 0 where
-  pub report : ReportOf
+pub record Gives (MayBe : TestReportOf → Type 0) (old new : Option (List ℕ)) (served : ServedRequest) : Type 0 where
+  pub report : TestReportOf
   pub may_be : MayBe report
   pub written : Appends old new report.written
   pub status : served.status ≡ report.status
   pub told : served.hint.items ≡ report.told
 
-pub record Loses (MayBe : ReportOf → Type 0) (old new : Option (List ℕ)) (code : Code) (line : Option ℕ) : Type 0 where
-  pub report : ReportOf
+pub record Loses (MayBe : TestReportOf → Type 0) (old new : Option (List ℕ)) (code : Code) (line : Option ℕ) : Type 0 where
+  pub report : TestReportOf
   pub may_be : MayBe report
   pub written : AppendsFront old new report.written
   pub code_is : code ≡ WriteFailed
   pub line_is : line ≡ None
 
-abbrev pub LosesBy : (ReportOf → Type 0) → Option (List ℕ) → Option (List ℕ) → PbxFault → Type 0
+abbrev pub LosesBy : (TestReportOf → Type 0) → Option (List ℕ) → Option (List ℕ) → PbxFault → Type 0
 LosesBy MayBe old new (Coded code line) = Loses MayBe old new code line
 LosesBy MayBe old new NoMemory = Appends old new []
 
-abbrev pub WritesReport : (ReportOf → Type 0) → Option (List ℕ) → Option (List ℕ) → Result Served Faulted → Type 0
+abbrev pub WritesReport : (TestReportOf → Type 0) → Option (List ℕ) → Option (List ℕ) → Result ServedRequest Faulted → Type 0
 WritesReport MayBe old new (Ok served) = Gives MayBe old new served
 WritesReport MayBe old new (Err faulted) = LosesBy MayBe old new faulted.fault × (place_of faulted.place ≡ in_none)
 
 -- the output and result once the test file at a path was read, given what follows from its text; else nothing is done
-abbrev pub AfterRead : (List ℕ → Type 0) → List ℕ → Option (List ℕ) → Option (List ℕ) → Result Served Faulted → Result (List ℕ) PbxFault → Type 0
+abbrev pub AfterRead : (List ℕ → Type 0) → List ℕ → Option (List ℕ) → Option (List ℕ) → Result ServedRequest Faulted → Result (List ℕ) PbxFault → Type 0
 AfterRead Follows path old new answered (Ok text) = Follows text
 AfterRead Follows path old new answered (Err fault) = FailsToRead path fault old new answered
 
 -- the output and result of the tests of the files at these paths, given the texts of the files before them
-abbrev pub TestsAfter : MannerOf → (List ℕ → Source) → List TestText → List (List ℕ) → Option (List ℕ) → Option (List ℕ) → Result Served Faulted → Type 0
+abbrev pub TestsAfter : MannerOf → (List ℕ → ByteSource) → List TestText → List (List ℕ) → Option (List ℕ) → Option (List ℕ) → Result ServedRequest Faulted → Type 0
 TestsAfter manner files texts [] old new answered = WritesReport (MayReport manner files texts) old new answered
 TestsAfter manner files texts (path ∷ more) old new answered =
     Reads (files path)
     (AfterRead (λ text. TestsAfter manner files (texts ++ text_at path text ∷ []) more old new answered) path old new answered)
 
 -- the output and result of the tests of the files at these paths
-abbrev pub TestsFiles : MannerOf → (List ℕ → Source) → List (List ℕ) → Option (List ℕ) → Option (List ℕ) → Result Served Faulted → Type 0
+abbrev pub TestsFiles : MannerOf → (List ℕ → ByteSource) → List (List ℕ) → Option (List ℕ) → Option (List ℕ) → Result ServedRequest Faulted → Type 0
 TestsFiles manner files paths old new answered = TestsAfter manner files [] paths old new answered

@@ -3,7 +3,7 @@ use Rattle.std.specs.Prelude.{ℕ, List, Option, Some, None, Result, Ok}
 use Rattle.std.specs.Option.{option_map}
 use Rattle.dp_conf.specs.Answers.{◌>>=◌}
 use Rattle.dp_commands.specs.declared.fault.PbxFault.{PbxFault}
-use Rattle.dp_program.specs.Files.{Source, Reads}
+use Rattle.dp_program.specs.Files.{ByteSource, Reads}
 use Rattle.dp_program.specs.declared.request.RunFiles.{RunFiles}
 use Rattle.dp_program.specs.declared.texts.Texts.{Texts}
 
@@ -24,7 +24,7 @@ paths_of run = record {
 }
 
 -- what is known of the files at the paths
-abbrev pub sources_of : (List ℕ → Source) → OfRun (List ℕ) → OfRun Source
+abbrev pub sources_of : (List ℕ → ByteSource) → OfRun (List ℕ) → OfRun ByteSource
 sources_of files paths = record {
   plan = files paths.plan;
   queues = option_map files paths.queues;
@@ -53,12 +53,12 @@ all_texts read =
     Ok (record { plan = plan; queues = queues; second_plan = second_plan; script = script })
 
 -- a property of the result of reading an optional source
-abbrev pub ReadsSome : Option Source → (Option (Result (List ℕ) PbxFault) → Type 0) → Type 0
+abbrev pub ReadsSome : Option ByteSource → (Option (Result (List ℕ) PbxFault) → Type 0) → Type 0
 ReadsSome None P = P None
 ReadsSome (Some source) P = Reads source (λ text. P (Some text))
 
 -- a property of the results of reading each file of a run
-abbrev pub ReadsTexts : OfRun Source → (OfRun (Result (List ℕ) PbxFault) → Type 0) → Type 0
+abbrev pub ReadsTexts : OfRun ByteSource → (OfRun (Result (List ℕ) PbxFault) → Type 0) → Type 0
 ReadsTexts sources P =
     Reads sources.plan (λ plan. ReadsSome sources.queues (λ queues. ReadsSome sources.second_plan (λ second_plan. Reads sources.script (λ script.
     P (record { plan = plan; queues = queues; second_plan = second_plan; script = script })))))

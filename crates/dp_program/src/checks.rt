@@ -13,7 +13,7 @@ use crate::files::ReadFiles;
 use crate::json_checks::check_json;
 use crate::options::Options;
 use crate::request::CheckFiles;
-use crate::texts::{FileText, read_text};
+use crate::texts::{TextWithPath, read_text};
 use dp_commands::{PbxFault, check, check_explained};
 use dp_conf::WriteTold;
 use dp_json::push_queue_count;
@@ -123,7 +123,7 @@ pub(crate) fn serve_check_queues<'a, F: ReadFiles, W: WriteTold>(
 #[tactic(auto, using(crate::proofs::ChecksLemmas::line_refused, crate::proofs::ChecksLemmas::line_written, crate::proofs::ChecksLemmas::line_failed))]
 fn check_before<W: WriteTold>(
     alloc: Global,
-    plan: &FileText<'_>,
+    plan: &TextWithPath<'_>,
     options: Options<'_>,
     line: &[u8],
     output: &mut W,
@@ -153,8 +153,8 @@ fn first_fault(alloc: Global, plan: &[u8], later: PbxFault) -> PbxFault
 #[tactic(auto, using(crate::proofs::ChecksLemmas::both_refused, crate::proofs::ChecksLemmas::both_written))]
 fn check_both<W: WriteTold>(
     alloc: Global,
-    plan: &FileText<'_>,
-    queues: &FileText<'_>,
+    plan: &TextWithPath<'_>,
+    queues: &TextWithPath<'_>,
     options: Options<'_>,
     output: &mut W,
 ) -> Result<u8, PbxFault>
@@ -182,11 +182,11 @@ pub(crate) fn serve_check_both<'a, F: ReadFiles, W: WriteTold>(
 {
     let plan = read_text(files, alloc, paths.plan)?;
     let queues = read_text(files, alloc, paths.queues)?;
-    let plan = FileText {
+    let plan = TextWithPath {
         path: paths.plan,
         text: plan,
     };
-    let queues = FileText {
+    let queues = TextWithPath {
         path: paths.queues,
         text: queues,
     };

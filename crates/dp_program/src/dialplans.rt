@@ -15,7 +15,7 @@ ghost use Rattle.dp_program.specs.Including.{MayTellOf};
 
 use crate::faulted::Unread;
 use crate::files::ReadFiles;
-use crate::hints::Served;
+use crate::hints::ServedRequest;
 use crate::including::reading_fault;
 use crate::made_files::MadeFiles;
 use crate::system_paths::SystemPaths;
@@ -292,11 +292,11 @@ pub(crate) fn read_dialplan<'a, F: ReadFiles>(
 }
 
 /// The result of a command that does nothing because of these notices: they are printed beside it, and the status is 1.
-pub(crate) fn faulty(told: Vec<u8>) -> Served
+pub(crate) fn faulty(told: Vec<u8>) -> ServedRequest
     ensures status { result.status ≡ 1 }
     ensures hint { result.hint.items ≡ told.items }
 {
-    Served {
+    ServedRequest {
         status: 1,
         hint: told,
     }

@@ -10,7 +10,7 @@ ghost use Rattle.dp_program.specs.Serves as serves;
 
 use crate::faulted::{Faulted, placed_nowhere, with_place};
 use crate::files::ReadFiles;
-use crate::hints::{Served, without_hint};
+use crate::hints::{ServedRequest, without_hint};
 use crate::plan_pairs::{AskingBoth, answer_both_including};
 use crate::plan_questions::PlanQuestion;
 use crate::request::DiffFiles;
@@ -94,7 +94,7 @@ impl<'a> PlanQuestion<'a> for Comparison<'_, 'a> {
         files: &F,
         alloc: Global,
         output: &mut W,
-    ) -> Result<Served, Faulted<'a>> {
+    ) -> Result<ServedRequest, Faulted<'a>> {
         without_hint(alloc, serve_diff(files, alloc, self.paths, output))
     }
 
@@ -108,7 +108,7 @@ pub(crate) fn serve_diff_including<'a, F: ReadFiles, W: WriteTold>(
     paths: &DiffFiles<'a>,
     clock: Option<&str>,
     output: &mut W,
-) -> Result<Served, Faulted<'a>>
+) -> Result<ServedRequest, Faulted<'a>>
     ensures serves { serves.DiffsIncluding (option_map (λ word. word.now) clock.entry) (F.source_at files.now) paths.now.before.now paths.now.after.now
         (W.contents output.old) (W.contents output.new) result }
     ensures told { W.has_failed output.new ≡ (W.has_failed output.old || is_write_failed (without_place result)) }

@@ -508,7 +508,7 @@ impl FaultNumber {
     }
 
     /// The fault with this name, or None if no fault has it, or more than one. The case of each letter matters.
-    pub fn named(name: &str) -> Option<Self>
+    pub fn by_name(name: &str) -> Option<Self>
         ensures { result ≡ fault_named name.now }
     {
         let number = found_number(name.as_bytes())?;

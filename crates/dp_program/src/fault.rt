@@ -11,8 +11,8 @@ ghost use Rattle.dp_program.specs.Hints.{status_in};
 ghost use Rattle.dp_program.specs.Status as spec;
 
 use crate::entries::{kind_of, sentence_of};
-use crate::faulted::{Faulted, Place};
-use crate::hints::Served;
+use crate::faulted::{FaultPlace, Faulted};
+use crate::hints::ServedRequest;
 use dp_commands::{Code, FileLine, PbxFault};
 use dp_conf::{WriteFailed, WriteTold};
 use dp_plan::{PlanKind, Word};
@@ -88,7 +88,7 @@ fn print_shown<E: WriteTold>(errors: &mut E, line: &FileLine<'_>) -> Result<(), 
     ensures told { E.has_failed errors.new ≡ (E.has_failed errors.old || is_err result) }
 {
     errors.write_told(b"  ")?;
-    errors.write_told(line.shown())?;
+    errors.write_told(line.shown_part())?;
     errors.write_told(b"\n")
 }
 
@@ -112,15 +112,15 @@ fn print_file<E: WriteTold>(errors: &mut E, path: &str) -> Result<(), WriteFaile
 }
 
 /// Prints the place of a fault.
-fn print_place<E: WriteTold>(errors: &mut E, place: &Place<'_>) -> Result<(), WriteFailed>
+fn print_place<E: WriteTold>(errors: &mut E, place: &FaultPlace<'_>) -> Result<(), WriteFailed>
     ensures ok { OnOk result (Appends (E.contents errors.old) (E.contents errors.new)
         (spec.place_text (place_of place.now))) }
     ensures told { E.has_failed errors.new ≡ (E.has_failed errors.old || is_err result) }
 {
     match place {
-        Place::InLine(line) => print_line(errors, line),
-        Place::InFile(path) => print_file(errors, path),
-        Place::Nowhere => Ok(()),
+        FaultPlace::InLine(line) => print_line(errors, line),
+        FaultPlace::InFile(path) => print_file(errors, path),
+        FaultPlace::Nowhere => Ok(()),
     }
 }
 
@@ -201,7 +201,7 @@ fn print_faulted<E: WriteTold>(
 pub fn finish<E: WriteTold>(
     errors: &mut E,
     explains: bool,
-    answered: Result<Served, Faulted<'_>>,
+    answered: Result<ServedRequest, Faulted<'_>>,
 ) -> u8
     ensures status { result ≡ spec.status_after (status_in answered.entry) }
     ensures prints { E.has_failed errors.new ≡ false

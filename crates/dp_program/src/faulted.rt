@@ -5,12 +5,12 @@ ghost use Rattle.dp_program.specs.Faulted as spec;
 ghost use Rattle.dp_program.specs.Texts.{paths_of, texts_of};
 
 use crate::request::RunFiles;
-use crate::texts::{FileText, Texts};
+use crate::texts::{TextWithPath, Texts};
 use dp_commands::{Code, FileLine, PbxFault};
 
 /// The place of a fault.
 #[derive(Debug, Drop)]
-pub enum Place<'a> {
+pub enum FaultPlace<'a> {
     /// In a line of a file that was read.
     InLine(FileLine<'a>),
     /// In the file at this path, which could not be read.
@@ -23,7 +23,7 @@ pub enum Place<'a> {
 #[derive(Debug, Drop)]
 pub struct Faulted<'a> {
     pub fault: PbxFault,
-    pub place: Place<'a>,
+    pub place: FaultPlace<'a>,
 }
 
 impl<'a> From<PbxFault> for Faulted<'a> {
@@ -35,7 +35,7 @@ impl<'a> From<PbxFault> for Faulted<'a> {
     fn from(fault: PbxFault) -> Self {
         Faulted {
             fault,
-            place: Place::Nowhere,
+            place: FaultPlace::Nowhere,
         }
     }
 }
@@ -48,12 +48,12 @@ pub(crate) struct Unread<'a> {
 }
 
 /// The place of the fault of a file that could not be read.
-fn place_unread<'a>(unread: Unread<'a>) -> Place<'a>
+fn place_unread<'a>(unread: Unread<'a>) -> FaultPlace<'a>
     ensures { result ≡ spec.place_unread unread.entry unread.entry.fault }
 {
     match unread.fault {
-        PbxFault::Coded { code: _, line: _ } => Place::InFile(unread.path),
-        PbxFault::NoMemory => Place::Nowhere,
+        PbxFault::Coded { code: _, line: _ } => FaultPlace::InFile(unread.path),
+        PbxFault::NoMemory => FaultPlace::Nowhere,
     }
 }
 
@@ -72,19 +72,19 @@ impl<'a> From<Unread<'a>> for Faulted<'a> {
 }
 
 /// The place of a fault in the text of a file.
-fn place_in_file<'a>(path: &'a str, text: &[u8], fault: PbxFault) -> Place<'a>
+fn place_in_file<'a>(path: &'a str, text: &[u8], fault: PbxFault) -> FaultPlace<'a>
     ensures { spec.place_of result ≡ spec.place_in_file path.now text.now fault }
 {
     match fault {
         PbxFault::Coded {
             code: _,
             line: Some(number),
-        } => Place::InLine(FileLine::at(path, text, number)),
+        } => FaultPlace::InLine(FileLine::at(path, text, number)),
         PbxFault::Coded {
             code: _,
             line: None,
-        } => Place::Nowhere,
-        PbxFault::NoMemory => Place::Nowhere,
+        } => FaultPlace::Nowhere,
+        PbxFault::NoMemory => FaultPlace::Nowhere,
     }
 }
 
@@ -107,22 +107,22 @@ pub(crate) fn with_place<'a, T>(
 }
 
 /// The place of a fault in an optional file.
-fn place_in_named<'a>(path: Option<&'a str>, text: Option<&[u8]>, fault: PbxFault) -> Place<'a>
+fn place_in_named<'a>(path: Option<&'a str>, text: Option<&[u8]>, fault: PbxFault) -> FaultPlace<'a>
     ensures { spec.place_of result ≡ spec.place_in (spec.named_file (option_map (λ path. path.now) path.entry)
         (option_map (λ text. text.now) text.entry)) fault }
 {
     match (path, text) {
         (Some(path), Some(text)) => place_in_file(path, text, fault),
-        _ => Place::Nowhere,
+        _ => FaultPlace::Nowhere,
     }
 }
 
 /// The place of a fault in the texts of a run.
-fn place_in_files<'a>(run: &RunFiles<'a>, texts: &Texts, fault: PbxFault) -> Place<'a>
+fn place_in_files<'a>(run: &RunFiles<'a>, texts: &Texts, fault: PbxFault) -> FaultPlace<'a>
     ensures { spec.place_of result ≡ spec.place_in_files (paths_of run.now) (texts_of texts.now) fault }
 {
     let PbxFault::Coded { code, line: _ } = fault else {
-        return Place::Nowhere;
+        return FaultPlace::Nowhere;
     };
     match code {
         Code::Line(_) | Code::Name(_) | Code::Plan(_) => {
@@ -133,7 +133,7 @@ fn place_in_files<'a>(run: &RunFiles<'a>, texts: &Texts, fault: PbxFault) -> Pla
         }
         Code::BadScript => place_in_file(run.script, &texts.script, fault),
         Code::ReadFailed | Code::TooLong | Code::WriteFailed | Code::Settle(_) | Code::BadBreak =>
-            Place::Nowhere,
+            FaultPlace::Nowhere,
     }
 }
 
@@ -156,12 +156,16 @@ pub(crate) fn placed_in_run<'a, T>(
 }
 
 /// The place of a fault in the texts of a dialplan and of queues.
-fn place_in_two<'a>(plan: &FileText<'a>, queues: &FileText<'a>, fault: PbxFault) -> Place<'a>
+fn place_in_two<'a>(
+    plan: &TextWithPath<'a>,
+    queues: &TextWithPath<'a>,
+    fault: PbxFault,
+) -> FaultPlace<'a>
     ensures { spec.place_of result ≡ spec.place_in_two (plan.now.path.now, plan.now.text.items)
         (queues.now.path.now, queues.now.text.items) fault }
 {
     let PbxFault::Coded { code, line: _ } = fault else {
-        return Place::Nowhere;
+        return FaultPlace::Nowhere;
     };
     match code {
         Code::Line(_) | Code::Name(_) | Code::Plan(_) => {
@@ -173,14 +177,14 @@ fn place_in_two<'a>(plan: &FileText<'a>, queues: &FileText<'a>, fault: PbxFault)
         | Code::WriteFailed
         | Code::Settle(_)
         | Code::BadScript
-        | Code::BadBreak => Place::Nowhere,
+        | Code::BadBreak => FaultPlace::Nowhere,
     }
 }
 
 /// A result for the texts of a dialplan and of queues, with the place of its fault.
 pub(crate) fn placed_in_two<'a, T>(
-    plan: &FileText<'a>,
-    queues: &FileText<'a>,
+    plan: &TextWithPath<'a>,
+    queues: &TextWithPath<'a>,
     answered: Result<T, PbxFault>,
 ) -> Result<T, Faulted<'a>>
     ensures same { spec.without_place result ≡ answered }

@@ -3,7 +3,7 @@ ghost use Rattle.std.specs.Prelude.{◌≡◌, ◌||◌, List, ℕ, IfErr, None,
 ghost use Rattle.std.specs.IoError.{error_kind};
 ghost use Rattle.dp_conf.specs.Answers.{Answers};
 ghost use Rattle.dp_commands.specs.Faults.{reason_of};
-ghost use Rattle.dp_program.specs.Files.{Reads, Source, has_read_failed, is_read_fault, opening_fault, source};
+ghost use Rattle.dp_program.specs.Files.{Reads, ByteSource, has_read_failed, is_read_fault, opening_fault, source};
 
 use dp_commands::{Code, PbxFault};
 use dp_conf::{ReadTold, Told, read_whole};
@@ -17,7 +17,7 @@ use std::{fs, io};
 /// Files that are read whole.
 pub trait ReadFiles {
     // What is known of the file at a path.
-    ghost source_at: { Self → List ℕ → Source };
+    ghost source_at: { Self → List ℕ → ByteSource };
 
     /// All bytes of a file.
     fn read_file(&self, alloc: Global, path: &str) -> Result<Vec<u8>, PbxFault>

@@ -17,7 +17,7 @@ ghost use Rattle.dp_program.specs.Requests.{drawing_of, options_of};
 use crate::dialplans::PlanUse;
 use crate::faulted::Faulted;
 use crate::files::ReadFiles;
-use crate::hints::{HintedPlan, Served, push_told};
+use crate::hints::{HintedPlan, ServedRequest, push_told};
 use crate::options::Options;
 use crate::plan_and_queues::{PlanAndQueues, PlanPaths, files_in, placed_over};
 use crate::plan_questions::{Asking, PlanQuestion, answer_including};
@@ -26,7 +26,7 @@ use crate::request::GraphQuestion;
 use crate::texts::{read_named, read_text};
 use dp_answer::{Ask, reached_entries};
 use dp_closed::DutyTable;
-use dp_commands::{Code, Files, PbxFault};
+use dp_commands::{Code, LoadedFiles, PbxFault};
 use dp_conf::WriteTold;
 use dp_graph::{GraphFault, QueueExit, Shading, write_graph};
 use dp_plan::{Dialplan, EntryId, NoMemory, Text};
@@ -80,7 +80,7 @@ fn shading_of(filled: Option<&IndexSet<EntryId>>) -> Shading<'_>
 #[tactic(auto, using(crate::proofs::DiffLemmas::nothing_written), unfolding(crate::specs::Graphs::graph_text))]
 fn write_picture<W: WriteTold>(
     alloc: Global,
-    files: &Files,
+    files: &LoadedFiles,
     filled: Option<&IndexSet<EntryId>>,
     output: &mut W,
 ) -> Result<u8, PbxFault>
@@ -130,7 +130,7 @@ pub(crate) fn ask_from<'a>(context: &'a str, facts: Option<&'a str>) -> Ask<'a>
 /// The entries that a call with this question may run.
 fn filled_by<T: DutyTable>(
     alloc: Global,
-    files: &Files,
+    files: &LoadedFiles,
     ask: &Ask<'_>,
 ) -> Result<IndexSet<EntryId>, NoMemory>
     ensures { IfOk result (λ filled. spec.Fills (with_functions T.rows T.Functions.table) (record { plan = files.now.plan; queues = files.now.queues })
@@ -145,7 +145,7 @@ fn filled_by<T: DutyTable>(
 /// The entries that are filled, if a context is named.
 fn filled_of<T: DutyTable>(
     alloc: Global,
-    files: &Files,
+    files: &LoadedFiles,
     question: &GraphQuestion<'_>,
 ) -> Result<Option<IndexSet<EntryId>>, NoMemory>
     ensures { IfOk result (λ filled. spec.IsFilled (with_functions T.rows T.Functions.table) (record { plan = files.now.plan; queues = files.now.queues })
@@ -185,9 +185,9 @@ fn draw_files<T: DutyTable, W: WriteTold>(
     alloc: Global,
     question: &GraphQuestion<'_>,
     explains: bool,
-    files: &Files,
+    files: &LoadedFiles,
     output: &mut W,
-) -> Result<Served, PbxFault>
+) -> Result<ServedRequest, PbxFault>
     ensures draws { spec.Draws (with_functions T.rows T.Functions.table) (drawing_of question.now) explains (Ok (record { plan = files.now.plan; queues = files.now.queues }))
         (W.contents output.old) (W.contents output.new) result }
     ensures told { W.has_failed output.new ≡ (W.has_failed output.old || is_write_failed result) }
@@ -196,7 +196,7 @@ fn draw_files<T: DutyTable, W: WriteTold>(
     let filled = filled_of::<T>(alloc, files, question)?;
     let status = if hint.is_empty() { 0 } else { 1 };
     write_picture(alloc, files, filled.as_ref(), output)?;
-    Ok(Served { status, hint })
+    Ok(ServedRequest { status, hint })
 }
 
 /// Writes the picture of the dialplan and of the queues that texts hold.
@@ -207,7 +207,7 @@ fn draw_texts<T: DutyTable, W: WriteTold>(
     explains: bool,
     texts: &PlanAndQueues,
     output: &mut W,
-) -> Result<Served, PbxFault>
+) -> Result<ServedRequest, PbxFault>
     ensures draws { spec.Draws (with_functions T.rows T.Functions.table) (drawing_of question.now) explains
         (files_of texts.now.plan.items (option_map (λ text. text.items) texts.now.queues)) (W.contents output.old) (W.contents output.new) result }
     ensures told { W.has_failed output.new ≡ (W.has_failed output.old || is_write_failed result) }
@@ -224,7 +224,7 @@ fn serve_graph_over<'a, T: DutyTable, F: ReadFiles, W: WriteTold>(
     question: &GraphQuestion<'a>,
     explains: bool,
     output: &mut W,
-) -> Result<Served, Faulted<'a>>
+) -> Result<ServedRequest, Faulted<'a>>
     ensures serves { spec.GraphsFiles (with_functions T.rows T.Functions.table) (F.source_at files.now) (drawing_of question.now) explains
         (W.contents output.old) (W.contents output.new) result }
     ensures told { W.has_failed output.new ≡ (W.has_failed output.old || is_write_failed (without_place result)) }
@@ -247,7 +247,7 @@ pub(crate) fn serve_graph<'a, F: ReadFiles, W: WriteTold>(
     question: &GraphQuestion<'a>,
     explains: bool,
     output: &mut W,
-) -> Result<Served, Faulted<'a>>
+) -> Result<ServedRequest, Faulted<'a>>
     ensures serves { spec.GraphsFiles standard_meanings (F.source_at files.now) (drawing_of question.now) explains (W.contents output.old)
         (W.contents output.new) result }
     ensures told { W.has_failed output.new ≡ (W.has_failed output.old || is_write_failed (without_place result)) }
@@ -270,7 +270,7 @@ impl<'a> PlanQuestion<'a> for WideDrawing<'_, 'a> {
         files: &F,
         alloc: Global,
         output: &mut W,
-    ) -> Result<Served, Faulted<'a>> {
+    ) -> Result<ServedRequest, Faulted<'a>> {
         serve_graph_over::<WideDuties, F, W>(files, alloc, self.question, self.explains, output)
     }
 
@@ -285,7 +285,7 @@ pub(crate) fn serve_graph_including<'a, F: ReadFiles, W: WriteTold>(
     question: &GraphQuestion<'a>,
     options: Options<'_>,
     output: &mut W,
-) -> Result<Served, Faulted<'a>>
+) -> Result<ServedRequest, Faulted<'a>>
     ensures serves { spec.GraphsIncluding (options_of options.entry).clock (F.source_at files.now) (drawing_of question.now)
         (options_of options.entry).explains (W.contents output.old) (W.contents output.new) result }
     ensures told { W.has_failed output.new ≡ (W.has_failed output.old || is_write_failed (without_place result)) }

@@ -17,7 +17,7 @@ use std::alloc::Global;
 
 /// The result of a request that has no fault.
 #[derive(Debug, Drop)]
-pub struct Served {
+pub struct ServedRequest {
     /// The status.
     pub status: u8,
     /// The hint beside the output; it may be empty.
@@ -28,14 +28,14 @@ pub struct Served {
 pub(crate) fn without_hint<'a>(
     alloc: Global,
     answered: Result<u8, Faulted<'a>>,
-) -> Result<Served, Faulted<'a>>
+) -> Result<ServedRequest, Faulted<'a>>
     ensures same { spec.status_in result ≡ answered.entry }
     ensures nothing { spec.TellsNothing result }
     ensures told { is_write_failed (without_place result) ≡ is_write_failed (without_place answered.entry) }
     ensures heard { has_read_failed (without_place result) ≡ has_read_failed (without_place answered.entry) }
 {
     match answered {
-        Ok(status) => Ok(Served {
+        Ok(status) => Ok(ServedRequest {
             status,
             hint: Vec::new(alloc),
         }),

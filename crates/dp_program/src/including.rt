@@ -93,7 +93,7 @@ fn check_read<'a, W: WriteTold>(
     output: &mut W,
 ) -> Result<u8, Faulted<'a>>
     ensures writes { (plan : Result PlanFilesOf Reading) → Answers plan_now first_fault read plan
-        → spec.WritesCheck (W.contents output.old) (W.contents output.new) (spec.checked is_json plan) (without_place result)
+        → spec.WritesCheck (W.contents output.old) (W.contents output.new) (spec.check_or_fault is_json plan) (without_place result)
         × StandsIn (spec.place_of_plan file.now plan) result }
     ensures told { W.has_failed output.new ≡ (W.has_failed output.old || is_write_failed (without_place result)) }
 {

@@ -12,8 +12,8 @@ use crate::assumptions::look_up_use;
 use crate::dialplans::{PlanText, PlanUse, ReadDialplan, faulty, read_dialplan};
 use crate::faulted::Faulted;
 use crate::files::ReadFiles;
-use crate::hints::{Served, without_hint};
-use crate::reports::{Manner, serve_list, serve_match};
+use crate::hints::{ServedRequest, without_hint};
+use crate::reports::{LookUpManner, serve_list, serve_match};
 use crate::request::Lookup;
 use crate::wide_audits::{ChosenAudit, serve_audit_by};
 use dp_conf::WriteTold;
@@ -26,7 +26,7 @@ fn list_text<'a, F: ReadFiles, W: WriteTold>(
     file: &'a str,
     plan: &PlanText,
     output: &mut W,
-) -> Result<Served, Faulted<'a>>
+) -> Result<ServedRequest, Faulted<'a>>
     ensures serves { spec.ListsText file.now (F.source_at files.now) (W.contents output.old) (W.contents output.new) (text_now plan.now) result }
     ensures told { W.has_failed output.new ≡ (W.has_failed output.old || is_write_failed (without_place result)) }
 {
@@ -41,7 +41,7 @@ pub(crate) fn serve_list_including<'a, F: ReadFiles, W: WriteTold>(
     file: &'a str,
     clock: Option<&str>,
     output: &mut W,
-) -> Result<Served, Faulted<'a>>
+) -> Result<ServedRequest, Faulted<'a>>
     ensures serves { spec.ListsIncluding (option_map (λ word. word.now) clock.entry) file.now (F.source_at files.now) (W.contents output.old)
         (W.contents output.new) result }
     ensures told { W.has_failed output.new ≡ (W.has_failed output.old || is_write_failed (without_place result)) }
@@ -58,9 +58,9 @@ pub(crate) fn serve_match_including<'a, F: ReadFiles, W: WriteTold>(
     files: &F,
     alloc: Global,
     lookup: &Lookup<'a>,
-    manner: Manner<'_>,
+    manner: LookUpManner<'_>,
     output: &mut W,
-) -> Result<Served, Faulted<'a>>
+) -> Result<ServedRequest, Faulted<'a>>
     ensures serves { spec.LooksUpIncluding (lookup_of lookup.now) (F.source_at files.now)
         manner.entry.all (options_of manner.entry.options) (W.contents output.old) (W.contents output.new) result }
     ensures told { W.has_failed output.new ≡ (W.has_failed output.old || is_write_failed (without_place result)) }
@@ -87,7 +87,7 @@ pub(crate) fn serve_audit_including<'a, F: ReadFiles, W: WriteTold>(
     alloc: Global,
     asked: ChosenAudit<'a, '_>,
     output: &mut W,
-) -> Result<Served, Faulted<'a>>
+) -> Result<ServedRequest, Faulted<'a>>
     ensures serves { spec.AuditsIncluding (options_of asked.entry.options) (choice_of asked.entry.choice) asked.entry.file.now
         (F.source_at files.now) (W.contents output.old) (W.contents output.new) result }
     ensures told { W.has_failed output.new ≡ (W.has_failed output.old || is_write_failed (without_place result)) }

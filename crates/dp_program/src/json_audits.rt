@@ -11,7 +11,7 @@ ghost use Rattle.dp_wide_runs.specs.Kinds.{choice_of};
 ghost use Rattle.dp_wide_runs.specs.WideAudits.{plan_of};
 
 use dp_app::AppTable;
-use dp_audit::{Finding, Names};
+use dp_audit::{AppNames, Finding};
 use dp_commands::{PbxFault, read_plan};
 use dp_conf::WriteTold;
 use dp_json::{push_finding_count, push_findings, push_wide_findings};
@@ -23,7 +23,7 @@ use std::alloc::Global;
 /// The names of the applications of this program.
 struct TableNames;
 
-impl Names for TableNames {
+impl AppNames for TableNames {
     ghost use Rattle.dp_app.specs.Rows.{has_row};
     ghost use Rattle.dp_table.specs.Standard.{standard_rows};
 
@@ -43,7 +43,7 @@ struct AuditLines {
 
 /// The report of the findings in a dialplan.
 fn report_of(alloc: Global, plan: &Dialplan, findings: &[Finding]) -> Result<AuditLines, NoMemory>
-    ensures { IfOk result (λ report. spec.reported report ≡ spec.report_of plan.now findings.now) }
+    ensures { IfOk result (λ report. spec.audit_report report ≡ spec.report_of plan.now findings.now) }
 {
     let mut lines = Vec::new(alloc);
     push_findings(&mut lines, plan, findings)?;
@@ -56,7 +56,7 @@ fn report_of(alloc: Global, plan: &Dialplan, findings: &[Finding]) -> Result<Aud
 
 /// The report of an audit of a dialplan.
 fn report(alloc: Global, plan: &Dialplan) -> Result<AuditLines, NoMemory>
-    ensures { IfOk result (λ report. spec.reported report ≡ spec.report_of plan.now (findings_of (has_row standard_rows) plan.now)) }
+    ensures { IfOk result (λ report. spec.audit_report report ≡ spec.report_of plan.now (findings_of (has_row standard_rows) plan.now)) }
 {
     let findings = dp_audit::audit::<TableNames>(alloc, plan)?;
     report_of(alloc, plan, &findings)
@@ -65,7 +65,7 @@ fn report(alloc: Global, plan: &Dialplan) -> Result<AuditLines, NoMemory>
 /// The report of an audit of a dialplan's text, or the text's fault.
 #[tactic(auto, unfolding(crate::specs::JsonAudits::audit_json_of))]
 fn audit_report(alloc: Global, text: &[u8]) -> Result<AuditLines, PbxFault>
-    ensures report { Answers spec.reported reason_of result (spec.audit_json_of text.now) }
+    ensures report { Answers spec.audit_report reason_of result (spec.audit_json_of text.now) }
     ensures quiet { is_write_failed result ≡ false }
 {
     let read = read_plan(alloc, text)?;
@@ -93,7 +93,7 @@ fn wide_report_of(
     plan: &Dialplan,
     findings: &[WideFinding],
 ) -> Result<AuditLines, NoMemory>
-    ensures { IfOk result (λ report. spec.reported report ≡ spec.wide_report_of plan.now findings.now) }
+    ensures { IfOk result (λ report. spec.audit_report report ≡ spec.wide_report_of plan.now findings.now) }
 {
     let mut lines = Vec::new(alloc);
     push_wide_findings(&mut lines, plan, findings)?;
@@ -110,7 +110,7 @@ fn wide_report(
     plan: &Dialplan,
     choice: AuditChoice<'_>,
 ) -> Result<AuditLines, NoMemory>
-    ensures { IfOk result (λ report. spec.IsJsonAudit (choice_of choice.entry) plan.now (spec.reported report)) }
+    ensures { IfOk result (λ report. spec.IsJsonAudit (choice_of choice.entry) plan.now (spec.audit_report report)) }
 {
     let findings = find_told(alloc, plan, choice)?;
     wide_report_of(alloc, plan, &findings)

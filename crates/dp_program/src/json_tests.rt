@@ -11,11 +11,11 @@ use crate::test_results::PlanRun;
 use dp_commands::{LinePlaces, PbxFault};
 use dp_json::{TestFailure, TestPoint, push_covered, push_never, push_test, push_test_count};
 use dp_plan::{Dialplan, EntryId, LoadedPlan, NoMemory};
-use dp_test_runs::{Point, Report, cover_entries};
+use dp_test_runs::{FailureReport, Point, cover_entries};
 use std::alloc::Global;
 
 /// The report of a test that failed.
-fn failure_of(report: &Report) -> TestFailure<'_>
+fn failure_of(report: &FailureReport) -> TestFailure<'_>
     ensures at { result.at.now ≡ report.now.at }
     ensures expected { result.expected.now ≡ report.now.expected }
     ensures got { result.got.now ≡ report.now.got }
@@ -36,7 +36,7 @@ fn push_failed(
     out: &mut Vec<u8>,
     number: usize,
     name: &[u8],
-    report: &Report,
+    report: &FailureReport,
 ) -> Result<(), NoMemory>
     ensures { OnOk result (out.new.items ≡ out.old.items ++ object_text (spec.failed_object number name.now report.now)) }
 {

@@ -48,9 +48,9 @@ pub use dp_commands::{Code, FileLine, PbxFault};
 pub use dp_wide_runs::{AuditChoice, KindChoice, are_kinds};
 pub use entries::{FaultNumber, entries_are_headed};
 pub use fault::{finish, print_fault};
-pub use faulted::{Faulted, Place};
+pub use faulted::{FaultPlace, Faulted};
 pub use files::ReadFiles;
-pub use hints::Served;
+pub use hints::ServedRequest;
 pub use options::Options;
 pub use program::serve;
 pub use request::{

@@ -8,8 +8,8 @@ ghost use Rattle.dp_program.specs.Faulted.{StandsIn, without_place};
 ghost use Rattle.dp_program.specs.PlanAndQueues as spec;
 
 use crate::faulted::{Faulted, placed_in_two, with_place};
-use crate::texts::FileText;
-use dp_commands::{Files, PbxFault, read_files};
+use crate::texts::TextWithPath;
+use dp_commands::{LoadedFiles, PbxFault, read_files};
 use std::alloc::Global;
 
 /// The files of a dialplan and of its queues, by their paths.
@@ -29,7 +29,7 @@ pub(crate) struct PlanAndQueues {
 }
 
 /// The contents of these texts, or their first fault.
-pub(crate) fn files_in(alloc: Global, texts: &PlanAndQueues) -> Result<Files, PbxFault>
+pub(crate) fn files_in(alloc: Global, texts: &PlanAndQueues) -> Result<LoadedFiles, PbxFault>
     ensures files { Answers (λ files. record { plan = files.plan; queues = files.queues }) reason_of result
         (files_of texts.now.plan.items (option_map (λ text. text.items) texts.now.queues)) }
     ensures quiet { is_write_failed result ≡ false }
@@ -54,10 +54,10 @@ pub(crate) fn placed_over<'a, T>(
     let Some(queues) = queues else {
         return with_place(paths.plan, &plan, answered);
     };
-    let plan = FileText {
+    let plan = TextWithPath {
         path: paths.plan,
         text: plan,
     };
-    let queues = FileText { path, text: queues };
+    let queues = TextWithPath { path, text: queues };
     placed_in_two(&plan, &queues, answered)
 }

@@ -8,7 +8,7 @@ use crate::test_reports::TestManner;
 use crate::test_results::PlanRun;
 use dp_commands::PbxFault;
 use dp_plan::{EntryId, NoMemory};
-use dp_test_runs::{CoveredPlan, Items, coverage_text};
+use dp_test_runs::{CoveredPlan, RunItems, coverage_text};
 use std::alloc::Global;
 
 /// Whether two test files are on the same dialplan: on the same text of a file at the same path.
@@ -31,7 +31,7 @@ fn is_told(told: &[PlanRun<'_>], run: &PlanRun<'_>) -> bool
 }
 
 /// Adds entries.
-fn push_each(entered: &mut Items<EntryId>, ids: &[EntryId]) -> Result<(), NoMemory>
+fn push_each(entered: &mut RunItems<EntryId>, ids: &[EntryId]) -> Result<(), NoMemory>
     ensures { OnOk result (entered.new ≡ entered.old ++ ids.now) }
 {
     for id in ids {
@@ -42,7 +42,7 @@ fn push_each(entered: &mut Items<EntryId>, ids: &[EntryId]) -> Result<(), NoMemo
 
 /// Adds the entries of a dialplan that the tests of one file ran, if it is on this dialplan.
 fn push_entered(
-    entered: &mut Items<EntryId>,
+    entered: &mut RunItems<EntryId>,
     plan: &PlanRun<'_>,
     run: &PlanRun<'_>,
 ) -> Result<(), NoMemory>
@@ -59,10 +59,10 @@ pub(crate) fn entered_on(
     alloc: Global,
     runs: &[PlanRun<'_>],
     plan: &PlanRun<'_>,
-) -> Result<Items<EntryId>, NoMemory>
+) -> Result<RunItems<EntryId>, NoMemory>
     ensures { IfOk result (λ entered. entered ≡ flat_map (spec.entered_by plan.now) runs.now) }
 {
-    let mut entered = Items::none(alloc);
+    let mut entered = RunItems::none(alloc);
     for run in runs {
         push_entered(&mut entered, plan, run)?;
     }

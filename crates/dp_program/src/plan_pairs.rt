@@ -8,7 +8,7 @@ ghost use Rattle.dp_program.specs.PlanQuestions as spec;
 use crate::dialplans::PlanUse;
 use crate::faulted::Faulted;
 use crate::files::ReadFiles;
-use crate::hints::Served;
+use crate::hints::ServedRequest;
 use crate::plan_and_queues::PlanPaths;
 use crate::plan_questions::{Asking, PlanQuestion, answer_including};
 use crate::request::DiffFiles;
@@ -31,7 +31,7 @@ impl<'a, Q: PlanQuestion<'a>> PlanQuestion<'a> for OnMadePlan<'_, 'a, Q> {
         files: &F,
         alloc: Global,
         output: &mut W,
-    ) -> Result<Served, Faulted<'a>> {
+    ) -> Result<ServedRequest, Faulted<'a>> {
         let asking = Asking {
             question: self.question,
             paths: PlanPaths {
@@ -66,7 +66,7 @@ pub(crate) fn answer_both_including<'a, Q: PlanQuestion<'a>, F: ReadFiles, W: Wr
     alloc: Global,
     asked: &AskingBoth<'_, 'a, Q>,
     output: &mut W,
-) -> Result<Served, Faulted<'a>>
+) -> Result<ServedRequest, Faulted<'a>>
     ensures serves { spec.OverBothIncluded (Q.serves asked.now.question.now) (option_map (λ word. word.now) asked.now.clock)
         (F.source_at files.now) asked.now.files.before.now asked.now.files.after.now (W.contents output.old) (W.contents output.new) result }
     ensures told { W.has_failed output.new ≡ (W.has_failed output.old || is_write_failed (without_place result)) }

@@ -5,13 +5,13 @@ ghost use Rattle.dp_commands.specs.Faults.{is_write_failed};
 ghost use Rattle.dp_commands.specs.declared.fault.PbxFault.TheVariants as faults;
 ghost use Rattle.dp_program.specs.Dialplans.{text_now};
 ghost use Rattle.dp_program.specs.Faulted.{nowhere, without_place};
-ghost use Rattle.dp_program.specs.Files.{Source};
+ghost use Rattle.dp_program.specs.Files.{ByteSource};
 ghost use Rattle.dp_program.specs.PlanQuestions as spec;
 
 use crate::dialplans::{PlanText, PlanUse, ReadDialplan, faulty, read_dialplan};
 use crate::faulted::Faulted;
 use crate::files::ReadFiles;
-use crate::hints::Served;
+use crate::hints::ServedRequest;
 use crate::made_files::MadeFiles;
 use crate::plan_and_queues::PlanPaths;
 use crate::queue_texts::{ReadQueues, read_queue_text};
@@ -29,13 +29,13 @@ pub(crate) trait PlanQuestion<'a> {
         files: &F,
         alloc: Global,
         output: &mut W,
-    ) -> Result<Served, Faulted<'a>>
+    ) -> Result<ServedRequest, Faulted<'a>>
         ensures serves { serves self.now (F.source_at files.now) (W.contents output.old) (W.contents output.new) result }
         ensures told { W.has_failed output.new ≡ (W.has_failed output.old || is_write_failed (without_place result)) };
 
     /// States that memory may run out before anything is done. It does nothing.
     fn may_lack_memory(&self)
-        ensures { (files : List ℕ → Source) (old : Option (List ℕ)) → serves self.now files old old (Err (nowhere faults.NoMemory)) };
+        ensures { (files : List ℕ → ByteSource) (old : Option (List ℕ)) → serves self.now files old old (Err (nowhere faults.NoMemory)) };
 }
 
 /// How a question is asked of files that include others.
@@ -58,7 +58,7 @@ fn answer_plan<'a, Q: PlanQuestion<'a>, F: ReadFiles, W: WriteTold>(
     asking: &Asking<'_, 'a, Q>,
     plan: &PlanText,
     output: &mut W,
-) -> Result<Served, Faulted<'a>>
+) -> Result<ServedRequest, Faulted<'a>>
     ensures serves { spec.OverPlan (Q.serves asking.now.question.now) (F.source_at files.now) asking.now.paths.plan.now
         (W.contents output.old) (W.contents output.new) (text_now plan.now) result }
     ensures told { W.has_failed output.new ≡ (W.has_failed output.old || is_write_failed (without_place result)) }
@@ -81,7 +81,7 @@ fn answer_after_queues<'a, Q: PlanQuestion<'a>, F: ReadFiles, W: WriteTold>(
     asking: &Asking<'_, 'a, Q>,
     queued: QueuedPlan<'_, 'a>,
     output: &mut W,
-) -> Result<Served, Faulted<'a>>
+) -> Result<ServedRequest, Faulted<'a>>
     ensures serves { spec.AfterQueues (Q.serves asking.now.question.now) (F.source_at files.now) asking.now.paths.plan.now
         (W.contents output.old) (W.contents output.new) (text_now queued.entry.plan.now) queued.entry.queues.now result }
     ensures told { W.has_failed output.new ≡ (W.has_failed output.old || is_write_failed (without_place result)) }
@@ -111,7 +111,7 @@ fn answer_with_queues<'a, Q: PlanQuestion<'a>, F: ReadFiles, W: WriteTold>(
     asking: &Asking<'_, 'a, Q>,
     plan: &PlanText,
     output: &mut W,
-) -> Result<Served, Faulted<'a>>
+) -> Result<ServedRequest, Faulted<'a>>
     ensures serves { spec.WithQueues (Q.serves asking.now.question.now) (F.source_at files.now) asking.now.paths.plan.now
         (W.contents output.old) (W.contents output.new) (text_now plan.now) (option_map (λ path. path.now) asking.now.paths.queues) result }
     ensures told { W.has_failed output.new ≡ (W.has_failed output.old || is_write_failed (without_place result)) }
@@ -131,7 +131,7 @@ pub(crate) fn answer_including<'a, Q: PlanQuestion<'a>, F: ReadFiles, W: WriteTo
     alloc: Global,
     asking: &Asking<'_, 'a, Q>,
     output: &mut W,
-) -> Result<Served, Faulted<'a>>
+) -> Result<ServedRequest, Faulted<'a>>
     ensures serves { spec.OverIncluded (Q.serves asking.now.question.now) asking.now.purpose (option_map (λ word. word.now) asking.now.clock)
         (F.source_at files.now) asking.now.paths.plan.now (option_map (λ path. path.now) asking.now.paths.queues)
         (W.contents output.old) (W.contents output.new) result }

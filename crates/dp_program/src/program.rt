@@ -11,7 +11,7 @@ use crate::diffs::{serve_diff, serve_diff_including};
 use crate::faulted::Faulted;
 use crate::files::ReadFiles;
 use crate::graphs::{serve_graph, serve_graph_including};
-use crate::hints::{Served, without_hint};
+use crate::hints::{ServedRequest, without_hint};
 use crate::including::{
     serve_check_both_including, serve_check_including, serve_check_queues_including,
 };
@@ -22,13 +22,13 @@ use crate::options::Options;
 use crate::reach_diffs::{serve_reach_diff, serve_reach_diff_including};
 use crate::reaches::{serve_reach, serve_reach_including};
 use crate::reported_runs::{ReportedRun, serve_run_reported};
-use crate::reports::{Manner, serve_audit, serve_explain, serve_list, serve_match};
+use crate::reports::{LookUpManner, serve_audit, serve_explain, serve_list, serve_match};
 use crate::request::Request;
 use crate::runs::{ThreadRun, serve_debug, serve_joined, serve_run_in_threads};
 use crate::test_reports::{TestManner, serve_tests};
 use crate::verbose_runs::serve_debug_verbose;
 use crate::wide_audits::{ChosenAudit, serve_audit_by};
-use crate::wide_runs::{WideRun, serve_run_including};
+use crate::wide_runs::{WideRunOf, serve_run_including};
 use dp_conf::{ReadTold, WriteTold};
 use dp_notices::Assumptions;
 use std::alloc::Global;
@@ -49,7 +49,7 @@ pub fn serve<'a, F: ReadFiles, I: ReadTold, W: WriteTold, R: Threads + Wait + Sy
     options: Options<'a>,
     input: &mut I,
     output: &mut W,
-) -> Result<Served, Faulted<'a>>
+) -> Result<ServedRequest, Faulted<'a>>
     ensures serves { spec.Serves (F.source_at files.now) (source (I.remaining input.old) (I.has_failed input.new))
         (request_asked request.now) (options_of options.entry)
         (W.contents output.old) (W.contents output.new) result }
@@ -117,11 +117,11 @@ pub fn serve<'a, F: ReadFiles, I: ReadTold, W: WriteTold, R: Threads + Wait + Sy
             serve_audit_by(files, alloc, asked, output)
         }
         Request::Match { lookup, all } => {
-            let manner = Manner { all: *all, options };
+            let manner = LookUpManner { all: *all, options };
             serve_match(files, alloc, lookup, manner, output)
         }
         Request::MatchIncluding { lookup, all } => {
-            let manner = Manner { all: *all, options };
+            let manner = LookUpManner { all: *all, options };
             serve_match_including(files, alloc, lookup, manner, output)
         }
         Request::Explain { fault } => without_hint(alloc, serve_explain(*fault, output)),
@@ -151,7 +151,7 @@ pub fn serve<'a, F: ReadFiles, I: ReadTold, W: WriteTold, R: Threads + Wait + Sy
             files: run,
             is_verbose,
         } => {
-            let asked = WideRun {
+            let asked = WideRunOf {
                 files: run,
                 is_verbose: *is_verbose,
                 held: None,
@@ -175,7 +175,7 @@ pub fn serve<'a, F: ReadFiles, I: ReadTold, W: WriteTold, R: Threads + Wait + Sy
             held,
             is_verbose,
         } => {
-            let asked = WideRun {
+            let asked = WideRunOf {
                 files: run,
                 is_verbose: *is_verbose,
                 held: Some(*held),

@@ -14,7 +14,7 @@ use crate::diffs::load_file;
 use crate::faulted::{Faulted, placed_nowhere};
 use crate::files::ReadFiles;
 use crate::graphs::ask_from;
-use crate::hints::{HintedPlan, Served, push_told};
+use crate::hints::{HintedPlan, ServedRequest, push_told};
 use crate::options::Options;
 use crate::plan_pairs::{AskingBoth, answer_both_including};
 use crate::plan_questions::PlanQuestion;
@@ -23,7 +23,7 @@ use dp_answer::{Ask, reached_entries};
 use dp_closed::DutyTable;
 use dp_commands::{Code, PbxFault};
 use dp_conf::WriteTold;
-use dp_diff::{DiffFault, Reach, write_reach_changes};
+use dp_diff::{DiffFault, PlanReach, write_reach_changes};
 use dp_plan::{Dialplan, EntryId, NoMemory};
 use dp_queue::Queues;
 use dp_table::StandardApps;
@@ -60,7 +60,7 @@ fn reached_in<T: DutyTable>(
 }
 
 /// Writes the lines on what a call reaches only before the change or only after it, and returns whether there are none.
-#[tactic(auto, using(crate::proofs::ReachDiffLemmas::counted))]
+#[tactic(auto, using(crate::proofs::ReachDiffLemmas::zero_up_to_limit))]
 fn write_changes<W: WriteTold>(
     alloc: Global,
     plans: BothPlans<'_>,
@@ -71,11 +71,11 @@ fn write_changes<W: WriteTold>(
         (spec.reached_by reached.now.before.items reached.now.after.items) result }
     ensures told { W.has_failed output.new ≡ (W.has_failed output.old || is_write_failed result) }
 {
-    let before = Reach {
+    let before = PlanReach {
         plan: plans.before,
         entries: &reached.before,
     };
-    let after = Reach {
+    let after = PlanReach {
         plan: plans.after,
         entries: &reached.after,
     };
@@ -123,7 +123,7 @@ fn answer_plans<T: DutyTable, W: WriteTold>(
     explains: bool,
     plans: BothPlans<'_>,
     output: &mut W,
-) -> Result<Served, PbxFault>
+) -> Result<ServedRequest, PbxFault>
     ensures writes { spec.ReachChanges (with_functions T.rows T.Functions.table) (reach_diff_of question.now) explains (Ok (plans.entry.before.now, plans.entry.after.now))
         (W.contents output.old) (W.contents output.new) result }
     ensures told { W.has_failed output.new ≡ (W.has_failed output.old || is_write_failed result) }
@@ -132,7 +132,7 @@ fn answer_plans<T: DutyTable, W: WriteTold>(
     let reached = reached_in::<T>(alloc, plans, &ask_from(question.from, question.facts))?;
     let is_same = write_changes(alloc, plans, &reached, output)?;
     let status = if is_same && hint.is_empty() { 0 } else { 1 };
-    Ok(Served { status, hint })
+    Ok(ServedRequest { status, hint })
 }
 
 /// Writes what a call from a context reaches in only one of the dialplans of two files, given the table by which calls run.
@@ -142,7 +142,7 @@ fn serve_reach_diff_over<'a, T: DutyTable, F: ReadFiles, W: WriteTold>(
     question: &ReachDiffQuestion<'a>,
     explains: bool,
     output: &mut W,
-) -> Result<Served, Faulted<'a>>
+) -> Result<ServedRequest, Faulted<'a>>
     ensures serves { spec.ReachDiffsFiles (with_functions T.rows T.Functions.table) (reach_diff_of question.now) explains (F.source_at files.now)
         (W.contents output.old) (W.contents output.new) result }
     ensures told { W.has_failed output.new ≡ (W.has_failed output.old || is_write_failed (without_place result)) }
@@ -163,7 +163,7 @@ pub(crate) fn serve_reach_diff<'a, F: ReadFiles, W: WriteTold>(
     question: &ReachDiffQuestion<'a>,
     explains: bool,
     output: &mut W,
-) -> Result<Served, Faulted<'a>>
+) -> Result<ServedRequest, Faulted<'a>>
     ensures serves { spec.ReachDiffsFiles standard_meanings (reach_diff_of question.now) explains (F.source_at files.now)
         (W.contents output.old) (W.contents output.new) result }
     ensures told { W.has_failed output.new ≡ (W.has_failed output.old || is_write_failed (without_place result)) }
@@ -186,7 +186,7 @@ impl<'a> PlanQuestion<'a> for WideReachDiff<'_, 'a> {
         files: &F,
         alloc: Global,
         output: &mut W,
-    ) -> Result<Served, Faulted<'a>> {
+    ) -> Result<ServedRequest, Faulted<'a>> {
         serve_reach_diff_over::<WideDuties, F, W>(
             files,
             alloc,
@@ -207,7 +207,7 @@ pub(crate) fn serve_reach_diff_including<'a, F: ReadFiles, W: WriteTold>(
     question: &ReachDiffQuestion<'a>,
     options: Options<'_>,
     output: &mut W,
-) -> Result<Served, Faulted<'a>>
+) -> Result<ServedRequest, Faulted<'a>>
     ensures serves { spec.ReachDiffsIncluding (options_of options.entry).clock (F.source_at files.now) (reach_diff_of question.now)
         (options_of options.entry).explains (W.contents output.old) (W.contents output.new) result }
     ensures told { W.has_failed output.new ≡ (W.has_failed output.old || is_write_failed (without_place result)) }

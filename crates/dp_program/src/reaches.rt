@@ -17,7 +17,7 @@ ghost use Rattle.dp_program.specs.Requests.{options_of, question_of};
 use crate::assumptions::look_up_use;
 use crate::faulted::Faulted;
 use crate::files::ReadFiles;
-use crate::hints::{HintedPlan, Served, is_bare, lacking, push_bare_line, push_told};
+use crate::hints::{HintedPlan, ServedRequest, is_bare, lacking, push_bare_line, push_told};
 use crate::options::Options;
 use crate::plan_and_queues::{PlanAndQueues, PlanPaths, files_in, placed_over};
 use crate::plan_questions::{Asking, PlanQuestion, answer_including};
@@ -25,7 +25,7 @@ use crate::request::ReachQuestion;
 use crate::texts::{read_named, read_text};
 use dp_answer::{Ask, ReachAnswer, Report, answer_on, report_on};
 use dp_closed::DutyTable;
-use dp_commands::{Files, PbxFault};
+use dp_commands::{LoadedFiles, PbxFault};
 use dp_conf::{WriteTold, split_args};
 use dp_json::push_reach;
 use dp_plan::NoMemory;
@@ -129,7 +129,7 @@ fn hint_of(alloc: Global, ask: &Ask<'_>, told: HintedPlan<'_>) -> Result<Vec<u8>
 /// The report of an answer as JSON. The report for names that the dialplan lacks is empty.
 fn report_of_answer(
     alloc: Global,
-    files: &Files,
+    files: &LoadedFiles,
     ask: &Ask<'_>,
     answer: &Option<ReachAnswer>,
 ) -> Result<Report, NoMemory>
@@ -152,7 +152,7 @@ fn report_of_answer(
 /// The report on a dialplan and queues as JSON.
 fn report_json<T: DutyTable>(
     alloc: Global,
-    files: &Files,
+    files: &LoadedFiles,
     ask: &Ask<'_>,
 ) -> Result<Report, NoMemory>
     ensures { IfOk result (λ report. spec.IsJson (with_functions T.rows T.Functions.table) (record { plan = files.now.plan; queues = files.now.queues })
@@ -167,7 +167,7 @@ fn report_json<T: DutyTable>(
 fn report_by<T: DutyTable>(
     alloc: Global,
     is_json: bool,
-    files: &Files,
+    files: &LoadedFiles,
     ask: &Ask<'_>,
 ) -> Result<Report, NoMemory>
     ensures { IfOk result (λ report. spec.IsReported is_json (with_functions T.rows T.Functions.table)
@@ -192,7 +192,7 @@ fn hinted_report<T: DutyTable>(
     alloc: Global,
     question: &ReachQuestion<'_>,
     options: Options<'_>,
-    files: &Files,
+    files: &LoadedFiles,
 ) -> Result<HintedReport, NoMemory>
     ensures { IfOk result (λ answered. spec.IsAnswered (with_functions T.rows T.Functions.table) (question_of question.now) (options_of options.entry) (record { plan = files.now.plan; queues = files.now.queues })
         answered.report.text.items answered.report.status answered.hint.items) }
@@ -216,7 +216,7 @@ fn reach_told<T: DutyTable, W: WriteTold>(
     options: Options<'_>,
     texts: &PlanAndQueues,
     output: &mut W,
-) -> Result<Served, PbxFault>
+) -> Result<ServedRequest, PbxFault>
     ensures reaches { spec.Reaches (with_functions T.rows T.Functions.table) (question_of question.now) (options_of options.entry)
         (files_of texts.now.plan.items (option_map (λ text. text.items) texts.now.queues)) (W.contents output.old) (W.contents output.new) result }
     ensures told { W.has_failed output.new ≡ (W.has_failed output.old || is_write_failed result) }
@@ -225,7 +225,7 @@ fn reach_told<T: DutyTable, W: WriteTold>(
     let answered = hinted_report::<T>(alloc, question, options, &files)?;
     output.write_told(&answered.report.text)?;
     let HintedReport { report, hint } = answered;
-    Ok(Served {
+    Ok(ServedRequest {
         status: report.status,
         hint,
     })
@@ -238,7 +238,7 @@ fn serve_reach_over<'a, T: DutyTable, F: ReadFiles, W: WriteTold>(
     question: &ReachQuestion<'a>,
     options: Options<'_>,
     output: &mut W,
-) -> Result<Served, Faulted<'a>>
+) -> Result<ServedRequest, Faulted<'a>>
     ensures serves { ReachesFiles (with_functions T.rows T.Functions.table) (F.source_at files.now) (question_of question.now) (options_of options.entry)
         (W.contents output.old) (W.contents output.new) result }
     ensures told { W.has_failed output.new ≡ (W.has_failed output.old || is_write_failed (without_place result)) }
@@ -261,7 +261,7 @@ pub(crate) fn serve_reach<'a, F: ReadFiles, W: WriteTold>(
     question: &ReachQuestion<'a>,
     options: Options<'_>,
     output: &mut W,
-) -> Result<Served, Faulted<'a>>
+) -> Result<ServedRequest, Faulted<'a>>
     ensures serves { ReachesFiles standard_meanings (F.source_at files.now) (question_of question.now) (options_of options.entry) (W.contents output.old)
         (W.contents output.new) result }
     ensures told { W.has_failed output.new ≡ (W.has_failed output.old || is_write_failed (without_place result)) }
@@ -284,7 +284,7 @@ impl<'a> PlanQuestion<'a> for WideReach<'_, 'a> {
         files: &F,
         alloc: Global,
         output: &mut W,
-    ) -> Result<Served, Faulted<'a>> {
+    ) -> Result<ServedRequest, Faulted<'a>> {
         serve_reach_over::<WideDuties, F, W>(files, alloc, self.question, self.options, output)
     }
 
@@ -299,7 +299,7 @@ pub(crate) fn serve_reach_including<'a, F: ReadFiles, W: WriteTold>(
     question: &ReachQuestion<'a>,
     options: Options<'_>,
     output: &mut W,
-) -> Result<Served, Faulted<'a>>
+) -> Result<ServedRequest, Faulted<'a>>
     ensures serves { spec.ReachesIncluding (F.source_at files.now) (question_of question.now)
         (options_of options.entry) (W.contents output.old) (W.contents output.new) result }
     ensures told { W.has_failed output.new ≡ (W.has_failed output.old || is_write_failed (without_place result)) }

@@ -9,7 +9,7 @@ ghost use Rattle.dp_program.specs.Texts.{paths_of, sources_of, texts_of};
 
 use crate::faulted::{Faulted, placed_in_run};
 use crate::files::ReadFiles;
-use crate::hints::Served;
+use crate::hints::ServedRequest;
 use crate::request::RunFiles;
 use crate::texts::{Texts, read_texts};
 use crate::verbose_runs::run_verbosely;
@@ -27,7 +27,7 @@ pub(crate) struct ReportedRun<'r, 'a> {
 }
 
 /// The lines of what a run meets that is not modelled. Its texts have no fault, so it fails only if memory runs out.
-fn unmodelled(alloc: Global, texts: &Texts) -> Result<Vec<u8>, NoMemory>
+fn unmodelled_hint(alloc: Global, texts: &Texts) -> Result<Vec<u8>, NoMemory>
     ensures { IfOk result (λ lines. Ok lines.items ≡ spec.unmodelled_of_texts (texts_of texts.now)) }
 {
     match unmodelled_lines(alloc, texts.lend()) {
@@ -42,15 +42,15 @@ fn run_verbosely_reported<W: WriteTold>(
     files: &RunFiles<'_>,
     texts: &Texts,
     output: &mut W,
-) -> Result<Served, PbxFault>
+) -> Result<ServedRequest, PbxFault>
     ensures runs { spec.RunsRead true (paths_of files.now) (W.contents output.old) (W.contents output.new)
         (Ok (texts_of texts.now)) (status_in result) }
     ensures tells { Tells (spec.unmodelled_of_texts (texts_of texts.now)) result }
     ensures told { W.has_failed output.new ≡ (W.has_failed output.old || is_write_failed result) }
 {
     let status = run_verbosely(alloc, files, texts, output)?;
-    let hint = unmodelled(alloc, texts)?;
-    Ok(Served { status, hint })
+    let hint = unmodelled_hint(alloc, texts)?;
+    Ok(ServedRequest { status, hint })
 }
 
 /// The same with only the lines of the turns.
@@ -58,13 +58,13 @@ fn run_plainly_reported<W: WriteTold>(
     alloc: Global,
     texts: &Texts,
     output: &mut W,
-) -> Result<Served, PbxFault>
+) -> Result<ServedRequest, PbxFault>
     ensures runs { Writes (W.contents output.old) (W.contents output.new) (spec.run_of_texts (texts_of texts.now)) (status_in result) }
     ensures tells { Tells (spec.unmodelled_of_texts (texts_of texts.now)) result }
     ensures told { W.has_failed output.new ≡ (W.has_failed output.old || is_write_failed result) }
 {
     let report = run_reported(alloc, texts.lend(), output)?;
-    Ok(Served {
+    Ok(ServedRequest {
         status: report.status,
         hint: report.lines,
     })
@@ -76,7 +76,7 @@ fn run_texts<W: WriteTold>(
     run: ReportedRun<'_, '_>,
     texts: &Texts,
     output: &mut W,
-) -> Result<Served, PbxFault>
+) -> Result<ServedRequest, PbxFault>
     ensures runs { spec.RunsRead run.entry.is_verbose (paths_of run.entry.files.now) (W.contents output.old) (W.contents output.new)
         (Ok (texts_of texts.now)) (status_in result) }
     ensures tells { Tells (spec.unmodelled_of_texts (texts_of texts.now)) result }
@@ -95,7 +95,7 @@ pub(crate) fn serve_run_reported<'a, F: ReadFiles, W: WriteTold>(
     alloc: Global,
     run: ReportedRun<'_, 'a>,
     output: &mut W,
-) -> Result<Served, Faulted<'a>>
+) -> Result<ServedRequest, Faulted<'a>>
     ensures serves { spec.RunsReported (paths_of run.entry.files.now) (sources_of (F.source_at files.now) (paths_of run.entry.files.now))
         run.entry.is_verbose (W.contents output.old) (W.contents output.new) result }
     ensures told { W.has_failed output.new ≡ (W.has_failed output.old || is_write_failed (without_place result)) }

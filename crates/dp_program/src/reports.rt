@@ -12,7 +12,7 @@ ghost use Rattle.dp_program.specs.Serves as spec;
 use crate::entries::FaultNumber;
 use crate::faulted::{Faulted, placed_nowhere, with_place};
 use crate::files::ReadFiles;
-use crate::hints::{Served, audit_hint, match_hint};
+use crate::hints::{ServedRequest, audit_hint, match_hint};
 use crate::json_audits::audit_json;
 use crate::json_matches::match_json;
 use crate::options::Options;
@@ -47,14 +47,14 @@ fn audit_told<W: WriteTold>(
     plan: &[u8],
     is_json: bool,
     output: &mut W,
-) -> Result<Served, PbxFault>
+) -> Result<ServedRequest, PbxFault>
     ensures audits { WritesAudit (W.contents output.old) (W.contents output.new) (spec.audit_by is_json plan.now) (status_in result) }
     ensures tells { Tells (audit_hint_of file.now plan.now) result }
     ensures told { W.has_failed output.new ≡ (W.has_failed output.old || is_write_failed result) }
 {
     let hint = audit_hint(alloc, file, plan)?;
     let status = audit_by(alloc, plan, is_json, output)?;
-    Ok(Served { status, hint })
+    Ok(ServedRequest { status, hint })
 }
 
 /// Audits the dialplan of a file.
@@ -64,7 +64,7 @@ pub(crate) fn serve_audit<'a, F: ReadFiles, W: WriteTold>(
     file: &'a str,
     is_json: bool,
     output: &mut W,
-) -> Result<Served, Faulted<'a>>
+) -> Result<ServedRequest, Faulted<'a>>
     ensures serves { spec.AuditsFile is_json file.now (F.source_at files.now file.now) (W.contents output.old)
         (W.contents output.new) result }
     ensures told { W.has_failed output.new ≡ (W.has_failed output.old || is_write_failed (without_place result)) }
@@ -91,7 +91,7 @@ pub(crate) fn serve_list<'a, F: ReadFiles, W: WriteTold>(
 /// How to look up an entry: whether to report all extensions that match, and the options of the request. If it explains, it suggests names
 /// for one that does not exist.
 #[derive(Clone, Copy)]
-pub(crate) struct Manner<'w> {
+pub(crate) struct LookUpManner<'w> {
     pub(crate) all: bool,
     pub(crate) options: Options<'w>,
 }
@@ -122,7 +122,7 @@ fn look_up<W: WriteTold>(
     alloc: Global,
     plan: &[u8],
     lookup: &Lookup<'_>,
-    manner: Manner<'_>,
+    manner: LookUpManner<'_>,
     output: &mut W,
 ) -> Result<u8, PbxFault>
     ensures reports { Reports (W.contents output.old) (W.contents output.new)
@@ -142,9 +142,9 @@ fn look_up_told<W: WriteTold>(
     alloc: Global,
     plan: &[u8],
     lookup: &Lookup<'_>,
-    manner: Manner<'_>,
+    manner: LookUpManner<'_>,
     output: &mut W,
-) -> Result<Served, PbxFault>
+) -> Result<ServedRequest, PbxFault>
     ensures reports { Reports (W.contents output.old) (W.contents output.new)
         (spec.look_up manner.entry.options.is_json (lookup_of lookup.now) manner.entry.all plan.now) (status_in result) }
     ensures tells { Tells (match_hint_of (lookup_of lookup.now) manner.entry.options.explains plan.now) result }
@@ -152,7 +152,7 @@ fn look_up_told<W: WriteTold>(
 {
     let hint = match_hint(alloc, lookup, manner.options.explains, plan)?;
     let status = look_up(alloc, plan, lookup, manner, output)?;
-    Ok(Served { status, hint })
+    Ok(ServedRequest { status, hint })
 }
 
 /// Looks up an entry in the dialplan of a file.
@@ -160,9 +160,9 @@ pub(crate) fn serve_match<'a, F: ReadFiles, W: WriteTold>(
     files: &F,
     alloc: Global,
     lookup: &Lookup<'a>,
-    manner: Manner<'_>,
+    manner: LookUpManner<'_>,
     output: &mut W,
-) -> Result<Served, Faulted<'a>>
+) -> Result<ServedRequest, Faulted<'a>>
     ensures serves { spec.LooksUp (lookup_of lookup.now) (F.source_at files.now lookup.now.file.now) manner.entry.all
         (options_of manner.entry.options) (W.contents output.old) (W.contents output.new) result }
     ensures told { W.has_failed output.new ≡ (W.has_failed output.old || is_write_failed (without_place result)) }

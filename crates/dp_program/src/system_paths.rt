@@ -2,7 +2,7 @@
 ghost use Rattle.std.specs.Prelude.{IfOk};
 ghost use Rattle.dp_files.specs.FolderFiles.{MayRead};
 ghost use Rattle.dp_files.specs.Sources.{text_now};
-ghost use Rattle.dp_program.specs.Files.{Source};
+ghost use Rattle.dp_program.specs.Files.{ByteSource};
 ghost use Rattle.dp_program.specs.Including.{AreBytes, MayHold};
 
 use crate::files::ReadFiles;
@@ -20,7 +20,7 @@ pub(crate) struct SystemPaths<'a, F: ReadFiles> {
 
 /// The bytes of a file, if it has no more than allowed.
 fn text_of(bytes: Vec<u8>) -> FileText
-    ensures { (source : Source) → AreBytes source.bytes bytes.items → MayRead (MayHold source) (text_now result) }
+    ensures { (source : ByteSource) → AreBytes source.bytes bytes.items → MayRead (MayHold source) (text_now result) }
 {
     if bytes.len() > MOST_BYTES {
         return FileText::TooLong;

@@ -23,7 +23,7 @@ use dp_commands::Code;
 use dp_files::{ReadingFault, path_of, text_path};
 use dp_notices::{Assumptions, PlanFiles, QueueFiles, read_folder_plan, read_folder_queues};
 use dp_plan::{NoMemory, SharedText, Text};
-use dp_test_runs::{Items, NamedText};
+use dp_test_runs::{NamedFileText, RunItems};
 use dp_tests::{Act, HeadLine, Test, TestFile, TestLine};
 use dp_wide::{Moment, read_moment};
 use itoa::Buffer;
@@ -55,16 +55,16 @@ pub(crate) fn push_code(out: &mut Vec<u8>, code: Code) -> Result<(), NoMemory>
 
 /// The name of a file, and the line of the test file that names it.
 #[derive(Clone, Copy)]
-struct NamedLine<'a> {
+struct FileMention<'a> {
     line: usize,
     name: &'a [u8],
 }
 
 /// The file that a line of the head names.
-fn named_in(head: &HeadLine) -> NamedLine<'_>
+fn named_in(head: &HeadLine) -> FileMention<'_>
     ensures { spec.named_now result ≡ spec.named_in head.now }
 {
-    NamedLine {
+    FileMention {
         line: head.line,
         name: head.text.bytes(),
     }
@@ -74,7 +74,7 @@ fn named_in(head: &HeadLine) -> NamedLine<'_>
 #[derive(Clone, Copy)]
 struct NamedFile<'a> {
     path: &'a str,
-    named: NamedLine<'a>,
+    named: FileMention<'a>,
 }
 
 impl<'a> NamedFile<'a> {
@@ -252,12 +252,12 @@ fn read_queues<F: ReadFiles>(
 }
 
 /// Adds the file that a line names, if it is a `reload` line.
-fn push_reload<'a>(named: &mut Vec<NamedLine<'a>>, line: &'a TestLine) -> Result<(), NoMemory>
+fn push_reload<'a>(named: &mut Vec<FileMention<'a>>, line: &'a TestLine) -> Result<(), NoMemory>
     ensures { OnOk result (map spec.named_now named.new.items ≡ map spec.named_now named.old.items ++ spec.reload_in line.now) }
 {
     match &line.act {
         Act::Reload(name) => {
-            named.push(NamedLine {
+            named.push(FileMention {
                 line: line.line,
                 name: name.bytes(),
             })?;
@@ -268,7 +268,7 @@ fn push_reload<'a>(named: &mut Vec<NamedLine<'a>>, line: &'a TestLine) -> Result
 }
 
 /// Adds the files that the `reload` lines among some lines name.
-fn push_reloads<'a>(named: &mut Vec<NamedLine<'a>>, lines: &'a [TestLine]) -> Result<(), NoMemory>
+fn push_reloads<'a>(named: &mut Vec<FileMention<'a>>, lines: &'a [TestLine]) -> Result<(), NoMemory>
     ensures { OnOk result (map spec.named_now named.new.items ≡ map spec.named_now named.old.items ++ flat_map spec.reload_in lines.now) }
 {
     for line in lines {
@@ -278,7 +278,7 @@ fn push_reloads<'a>(named: &mut Vec<NamedLine<'a>>, lines: &'a [TestLine]) -> Re
 }
 
 /// Adds the files that the `reload` lines of tests name.
-fn push_reloads_of<'a>(named: &mut Vec<NamedLine<'a>>, tests: &'a [Test]) -> Result<(), NoMemory>
+fn push_reloads_of<'a>(named: &mut Vec<FileMention<'a>>, tests: &'a [Test]) -> Result<(), NoMemory>
     ensures { OnOk result (map spec.named_now named.new.items ≡ map spec.named_now named.old.items ++ flat_map spec.reloads_in tests.now) }
 {
     for test in tests {
@@ -288,7 +288,7 @@ fn push_reloads_of<'a>(named: &mut Vec<NamedLine<'a>>, tests: &'a [Test]) -> Res
 }
 
 /// The files that the `reload` lines of a test file name.
-fn reloads_of(alloc: Global, file: &TestFile) -> Result<Vec<NamedLine<'_>>, NoMemory>
+fn reloads_of(alloc: Global, file: &TestFile) -> Result<Vec<FileMention<'_>>, NoMemory>
     ensures { IfOk result (λ named. map spec.named_now named.items ≡ spec.reloads_of file.now) }
 {
     let mut named = Vec::new(alloc);
@@ -300,7 +300,7 @@ fn reloads_of(alloc: Global, file: &TestFile) -> Result<Vec<NamedLine<'_>>, NoMe
 /// The texts of the dialplans that `reload` lines name, and the lines about what is wrong with those that were not read.
 #[derive(Drop)]
 struct Reloads {
-    texts: Items<NamedText>,
+    texts: RunItems<NamedFileText>,
     lines: Vec<u8>,
 }
 
@@ -320,14 +320,14 @@ fn push_plan(
     } = plan;
     let text = SharedText::new(alloc, Text::new(text))?;
     let name = Text::copy_of(alloc, name)?;
-    reloads.texts.push(NamedText { name, text })
+    reloads.texts.push(NamedFileText { name, text })
 }
 
 /// Adds a dialplan that was read, or the lines about what is wrong with it.
 fn push_read(
     alloc: Global,
     reloads: &mut Reloads,
-    named: NamedLine<'_>,
+    named: FileMention<'_>,
     read: ReadDialplan,
 ) -> Result<(), NoMemory>
     ensures { OnOk result (spec.reloads_now reloads.new ≡ spec.with_reload (spec.named_now named.entry) (spec.reloads_now reloads.old) (read_now read)) }
@@ -344,13 +344,13 @@ fn read_reloads<F: ReadFiles>(
     alloc: Global,
     path: &str,
     reading: PlanReading,
-    lines: &[NamedLine<'_>],
+    lines: &[FileMention<'_>],
 ) -> Result<Reloads, NoMemory>
     ensures { IfOk result (λ reloads. spec.AreReloads (F.source_at files.now) reading path.now (map spec.named_now lines.now) spec.no_reloads
         (spec.reloads_now reloads)) }
 {
     let mut reloads = Reloads {
-        texts: Items::none(alloc),
+        texts: RunItems::none(alloc),
         lines: Vec::new(alloc),
     };
     for named in lines {
@@ -369,7 +369,7 @@ fn read_reloads<F: ReadFiles>(
 pub(crate) struct TestInputs {
     pub(crate) plan: PlanText,
     pub(crate) queues: Option<Vec<u8>>,
-    pub(crate) reloaded: Items<NamedText>,
+    pub(crate) reloaded: RunItems<NamedFileText>,
 }
 
 /// The texts that the tests of a file run on, or the lines about everything that is wrong with them.

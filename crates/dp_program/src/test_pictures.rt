@@ -15,14 +15,14 @@ use crate::graphs::{add_entries, push_exits};
 use crate::plan_coverage::{entered_on, is_same_plan};
 use crate::test_reports::TestReport;
 use crate::test_results::PlanRun;
-use dp_commands::{Files, PbxFault, read_files};
+use dp_commands::{LoadedFiles, PbxFault, read_files};
 use dp_graph::{Shading, picture_text};
 use dp_plan::{EntryId, NoMemory, Text};
 use indexmap::IndexSet;
 use std::alloc::Global;
 
 /// The picture of a dialplan, with the ways out of its queues, by the entries that tests ran.
-fn draw(alloc: Global, files: &Files, ran: &[EntryId]) -> Result<Vec<u8>, NoMemory>
+fn draw(alloc: Global, files: &LoadedFiles, ran: &[EntryId]) -> Result<Vec<u8>, NoMemory>
     ensures { IfOk result (λ text. text.items
         ≡ text_of (picture_of files.now.plan (ByTests (insert_all same_id [] ran.now)) (exits_of files.now.queues.queues))) }
 {
@@ -102,7 +102,7 @@ fn report_drawn(
     plan: &PlanRun<'_>,
 ) -> Result<TestReport, NoMemory>
     ensures { IfOk result (λ report. spec.report_now report
-        ≡ spec.drawn (spec.picture_by runs.now plan.now) (flat_map (spec.other_line plan.now) runs.now)) }
+        ≡ spec.picture_report (spec.picture_by runs.now plan.now) (flat_map (spec.other_line plan.now) runs.now)) }
 {
     let written = picture_by(alloc, runs, plan)?;
     let mut told = Vec::new(alloc);

@@ -8,13 +8,13 @@ ghost use Rattle.dp_test_runs.specs.Tap.{tap_text as results_in_tap};
 
 use crate::faulted::Faulted;
 use crate::files::ReadFiles;
-use crate::hints::Served;
+use crate::hints::ServedRequest;
 use crate::json_tests::tests_json;
 use crate::plan_coverage::push_coverage_asked;
 use crate::test_pictures::report_picture;
 use crate::test_results::{PlanRun, Results, run_suite};
 use crate::test_suites::{ReadyTests, Suite, read_suite};
-use crate::texts::{FileText, read_all};
+use crate::texts::{TextWithPath, read_all};
 use dp_commands::PbxFault;
 use dp_conf::WriteTold;
 use dp_plan::{NoMemory, Text};
@@ -155,7 +155,7 @@ fn report_texts<F: ReadFiles>(
     files: &F,
     alloc: Global,
     manner: TestManner,
-    sources: &[FileText<'_>],
+    sources: &[TextWithPath<'_>],
 ) -> Result<TestReport, NoMemory>
     ensures { IfOk result (λ report. spec.MayReport (spec.manner_now manner) (F.source_at files.now) (map text_in sources.now) (spec.report_now report)) }
 {
@@ -165,7 +165,7 @@ fn report_texts<F: ReadFiles>(
 }
 
 /// Writes a report.
-fn write_report<W: WriteTold>(report: TestReport, output: &mut W) -> Result<Served, PbxFault>
+fn write_report<W: WriteTold>(report: TestReport, output: &mut W) -> Result<ServedRequest, PbxFault>
     ensures writes { spec.WritesBytes (spec.report_now report) (W.contents output.old) (W.contents output.new) result }
     ensures told { W.has_failed output.new ≡ (W.has_failed output.old || is_write_failed result) }
 {
@@ -175,14 +175,14 @@ fn write_report<W: WriteTold>(report: TestReport, output: &mut W) -> Result<Serv
         told,
         status,
     } = report;
-    Ok(Served { status, hint: told })
+    Ok(ServedRequest { status, hint: told })
 }
 
 /// Writes a report that was made, unless memory ran out.
 fn write_made<'a, W: WriteTold>(
     made: Result<TestReport, NoMemory>,
     output: &mut W,
-) -> Result<Served, Faulted<'a>>
+) -> Result<ServedRequest, Faulted<'a>>
     ensures writes { spec.WritesMade made (W.contents output.old) (W.contents output.new) result }
     ensures told { W.has_failed output.new ≡ (W.has_failed output.old || is_write_failed (without_place result)) }
 {
@@ -204,7 +204,7 @@ pub(crate) fn serve_tests<'a, F: ReadFiles, W: WriteTold>(
     manner: TestManner,
     paths: &[&'a str],
     output: &mut W,
-) -> Result<Served, Faulted<'a>>
+) -> Result<ServedRequest, Faulted<'a>>
     ensures serves { spec.TestsFiles (spec.manner_now manner) (F.source_at files.now) (map (λ path. path.now) paths.now)
         (W.contents output.old) (W.contents output.new) result }
     ensures told { W.has_failed output.new ≡ (W.has_failed output.old || is_write_failed (without_place result)) }

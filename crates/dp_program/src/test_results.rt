@@ -13,7 +13,7 @@ use crate::test_suites::ReadyTests;
 use dp_commands::{Code, PbxFault};
 use dp_files::path_of;
 use dp_plan::{EntryId, NoMemory, Text};
-use dp_test_runs::{Items, Point, TestedFile, add_entered, run_tests};
+use dp_test_runs::{Point, RunItems, TestedFile, add_entered, run_tests};
 use dp_tests::{HeadLine, TestFile};
 use std::alloc::Global;
 
@@ -22,14 +22,14 @@ use std::alloc::Global;
 pub(crate) struct PlanRun<'a> {
     pub(crate) tested: TestedFile<'a>,
     pub(crate) path: Text,
-    pub(crate) entered: Items<EntryId>,
+    pub(crate) entered: RunItems<EntryId>,
 }
 
 /// What the tests of files came to: their points, the entries of its dialplan that the tests of each file ran, and the lines about texts
 /// that tests cannot run on.
 #[derive(Drop)]
 pub(crate) struct Results<'a> {
-    pub(crate) points: Items<Point>,
+    pub(crate) points: RunItems<Point>,
     pub(crate) plans: Vec<PlanRun<'a>>,
     pub(crate) lines: Vec<u8>,
 }
@@ -112,7 +112,7 @@ fn plan_run<'a>(
     ensures { IfOk result (λ run. run ≡ spec.plan_run tested.entry points.now) }
 {
     let path = path_of(alloc, tested.path, tested.file.dialplan.text.bytes())?;
-    let mut entered = Items::none(alloc);
+    let mut entered = RunItems::none(alloc);
     add_entered(&mut entered, points)?;
     Ok(PlanRun {
         tested,
@@ -126,7 +126,7 @@ fn push_points<'a>(
     alloc: Global,
     results: &mut Results<'a>,
     tested: TestedFile<'a>,
-    points: Items<Point>,
+    points: RunItems<Point>,
 ) -> Result<(), NoMemory>
     ensures { OnOk result (spec.results_now results.new ≡ spec.with_points tested.entry points (spec.results_now results.old)) }
 {
@@ -140,7 +140,7 @@ fn push_outcome<'a>(
     alloc: Global,
     results: &mut Results<'a>,
     tested: TestedFile<'a>,
-    ran: Result<Items<Point>, PbxFault>,
+    ran: Result<RunItems<Point>, PbxFault>,
 ) -> Result<(), NoMemory>
     ensures { OnOk result ((outcome : Result (List AnyPoint) Fault) → Answers (λ points. points) reason_of ran outcome
         → spec.results_now results.new ≡ spec.with_outcome tested.entry (spec.results_now results.old) outcome) }
@@ -160,9 +160,9 @@ fn run_file<'b, 'a>(
     results: &mut Results<'b>,
     tests: &'b ReadyTests<'a>,
 ) -> Result<(), NoMemory>
-    ensures { OnOk result (spec.Adds (spec.ready_now tests.now) (spec.results_now results.old) (spec.results_now results.new)) }
+    ensures { OnOk result (spec.AddsResults (spec.ready_now tests.now) (spec.results_now results.old) (spec.results_now results.new)) }
 {
-    let tested = tests.tested();
+    let tested = tests.tested_file();
     let ran = run_tests(alloc, &tested);
     push_outcome(alloc, results, tested, ran)
 }
@@ -175,7 +175,7 @@ pub(crate) fn run_suite<'b, 'a>(
     ensures { IfOk result (λ results. spec.Run (map spec.ready_now tests.now) spec.no_results (spec.results_now results)) }
 {
     let mut results = Results {
-        points: Items::none(alloc),
+        points: RunItems::none(alloc),
         plans: Vec::new(alloc),
         lines: Vec::new(alloc),
     };

@@ -6,7 +6,7 @@ ghost use Rattle.dp_program.specs.TestTexts.{text_in};
 
 use crate::files::ReadFiles;
 use crate::test_inputs::{ReadInputs, TestInputs, push_place, read_inputs};
-use crate::texts::FileText;
+use crate::texts::TextWithPath;
 use dp_plan::NoMemory;
 use dp_test_runs::{TestTexts, TestedFile};
 use dp_tests::{TestFault, TestFaults, TestFile, read_tests};
@@ -25,7 +25,7 @@ impl<'a> ReadyTests<'a> {
     ghost use Rattle.dp_program.specs.TestSuites as spec;
 
     /// The test file with the texts that its tests run on.
-    pub(crate) fn tested(&self) -> TestedFile<'_>
+    pub(crate) fn tested_file(&self) -> TestedFile<'_>
         ensures { spec.IsReady result (spec.ready_now self.now) }
     {
         let texts = TestTexts {
@@ -74,7 +74,7 @@ fn push_faults(out: &mut Vec<u8>, path: &str, faults: &[TestFault]) -> Result<()
 /// Adds a test file, given the texts that its tests run on, or the lines about what is wrong with them.
 fn push_file<'b, 'a>(
     suite: &mut Suite<'b>,
-    source: &'b FileText<'a>,
+    source: &'b TextWithPath<'a>,
     file: TestFile,
     read: ReadInputs,
 ) -> Result<(), NoMemory>
@@ -99,7 +99,7 @@ fn add_file<'b, 'a, F: ReadFiles>(
     files: &F,
     alloc: Global,
     suite: &mut Suite<'b>,
-    source: &'b FileText<'a>,
+    source: &'b TextWithPath<'a>,
     file: TestFile,
 ) -> Result<(), NoMemory>
     ensures { OnOk result (spec.AddsFile (F.source_at files.now) (text_in source.now) file (spec.suite_now suite.old) (spec.suite_now suite.new)) }
@@ -113,7 +113,7 @@ fn add_text<'b, 'a, F: ReadFiles>(
     files: &F,
     alloc: Global,
     suite: &mut Suite<'b>,
-    source: &'b FileText<'a>,
+    source: &'b TextWithPath<'a>,
 ) -> Result<(), NoMemory>
     ensures { OnOk result (spec.AddsText (F.source_at files.now) (text_in source.now) (spec.suite_now suite.old) (spec.suite_now suite.new)) }
 {
@@ -130,7 +130,7 @@ fn add_text<'b, 'a, F: ReadFiles>(
 pub(crate) fn read_suite<'b, 'a, F: ReadFiles>(
     files: &F,
     alloc: Global,
-    sources: &'b [FileText<'a>],
+    sources: &'b [TextWithPath<'a>],
 ) -> Result<Suite<'b>, NoMemory>
     ensures { IfOk result (λ suite. spec.AreRead (F.source_at files.now) (map text_in sources.now) spec.no_files (spec.suite_now suite)) }
 {

@@ -16,7 +16,7 @@ use std::alloc::Global;
 
 /// The text of a file, with its path.
 #[derive(Drop)]
-pub(crate) struct FileText<'a> {
+pub(crate) struct TextWithPath<'a> {
     pub(crate) path: &'a str,
     pub(crate) text: Vec<u8>,
 }
@@ -116,7 +116,7 @@ pub(crate) fn read_texts<'a, F: ReadFiles>(
 
 /// Adds the text of a file.
 fn push_text<'a>(
-    texts: &mut Vec<FileText<'a>>,
+    texts: &mut Vec<TextWithPath<'a>>,
     path: &'a str,
     text: Vec<u8>,
 ) -> Result<(), Unread<'a>>
@@ -124,7 +124,7 @@ fn push_text<'a>(
     ensures err { IfErr result (λ unread. unread.path.now ≡ path.now) }
     ensures memory { IfErr result (λ unread. unread.fault ≡ NoMemory) }
 {
-    match texts.push(FileText { path, text }) {
+    match texts.push(TextWithPath { path, text }) {
         Ok(()) => Ok(()),
         Err(refused) => Err(Unread {
             path,
@@ -137,7 +137,7 @@ fn push_text<'a>(
 fn add_text<'a, F: ReadFiles>(
     files: &F,
     alloc: Global,
-    texts: &mut Vec<FileText<'a>>,
+    texts: &mut Vec<TextWithPath<'a>>,
     path: &'a str,
 ) -> Result<(), Unread<'a>>
     ensures ok { OnOk result ((text : tests.TestText) × tests.Gives (F.source_at files.now) path.now text
@@ -154,7 +154,7 @@ pub(crate) fn read_all<'a, F: ReadFiles>(
     files: &F,
     alloc: Global,
     paths: &[&'a str],
-) -> Result<Vec<FileText<'a>>, Unread<'a>>
+) -> Result<Vec<TextWithPath<'a>>, Unread<'a>>
     ensures ok { IfOk result (λ texts. tests.GiveAll (F.source_at files.now) (map (λ path. path.now) paths.now) (map tests.text_in texts.items)) }
     ensures err { IfErr result (λ unread. tests.FailsAmong (F.source_at files.now) (map (λ path. path.now) paths.now) unread) }
     ensures fault { IfErr result (λ unread. is_read_fault unread.fault ≡ true) }

@@ -9,7 +9,7 @@ ghost use Rattle.dp_wide_runs.specs.WideAudits.{plan_of};
 
 use crate::faulted::{Faulted, with_place};
 use crate::files::ReadFiles;
-use crate::hints::{Served, audit_hint};
+use crate::hints::{ServedRequest, audit_hint};
 use crate::json_audits::audit_json_by;
 use crate::options::Options;
 use crate::texts::read_text;
@@ -51,7 +51,7 @@ fn audit_told<W: WriteTold>(
     plan: &[u8],
     asked: ChosenAudit<'_, '_>,
     output: &mut W,
-) -> Result<Served, PbxFault>
+) -> Result<ServedRequest, PbxFault>
     ensures audits { spec.WritesChoiceBy asked.entry.options.is_json (choice_of asked.entry.choice) (W.contents output.old) (W.contents output.new)
         (plan_of plan.now) (status_in result) }
     ensures tells { Tells (audit_hint_of asked.entry.file.now plan.now) result }
@@ -59,7 +59,7 @@ fn audit_told<W: WriteTold>(
 {
     let hint = audit_hint(alloc, asked.file, plan)?;
     let status = audit_chosen(alloc, plan, asked.choice, asked.options.is_json, output)?;
-    Ok(Served { status, hint })
+    Ok(ServedRequest { status, hint })
 }
 
 /// Audits the dialplan of a file as requested.
@@ -68,7 +68,7 @@ pub(crate) fn serve_audit_by<'a, F: ReadFiles, W: WriteTold>(
     alloc: Global,
     asked: ChosenAudit<'a, '_>,
     output: &mut W,
-) -> Result<Served, Faulted<'a>>
+) -> Result<ServedRequest, Faulted<'a>>
     ensures serves { spec.AuditsFileBy asked.entry.options.is_json (choice_of asked.entry.choice) asked.entry.file.now
         (F.source_at files.now asked.entry.file.now) (W.contents output.old) (W.contents output.new) result }
     ensures told { W.has_failed output.new ≡ (W.has_failed output.old || is_write_failed (without_place result)) }

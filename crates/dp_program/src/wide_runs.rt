@@ -13,7 +13,7 @@ use crate::dialplans::{PlanText, PlanUse, ReadDialplan, faulty, read_dialplan};
 use crate::entries::ManualEntries;
 use crate::faulted::{Faulted, placed_in_run};
 use crate::files::ReadFiles;
-use crate::hints::{Served, without_hint};
+use crate::hints::{ServedRequest, without_hint};
 use crate::made_files::MadeFiles;
 use crate::queue_texts::{ReadQueues, read_queue_text};
 use crate::request::RunFiles;
@@ -86,7 +86,7 @@ fn serve_run_wide_verbose<'a, F: ReadFiles, W: WriteTold>(
 /// A run over the wide table: its files, whether it is verbose, the text of its break if it is debugged, the word of `--clock`, and what is
 /// assumed of lines that are left out of its dialplans.
 #[derive(Clone, Copy)]
-pub(crate) struct WideRun<'r, 'a> {
+pub(crate) struct WideRunOf<'r, 'a> {
     pub(crate) files: &'r RunFiles<'a>,
     pub(crate) is_verbose: bool,
     pub(crate) held: Option<&'a str>,
@@ -98,17 +98,17 @@ pub(crate) struct WideRun<'r, 'a> {
 fn run_made<'a, F: ReadFiles, W: WriteTold>(
     files: &F,
     alloc: Global,
-    asked: WideRun<'_, 'a>,
+    asked: WideRunOf<'_, 'a>,
     places: PlanPlaces<'_>,
     output: &mut W,
-) -> Result<Served, Faulted<'a>>
+) -> Result<ServedRequest, Faulted<'a>>
     ensures serves { spec.Quietly (spec.RunsWideAsked (paths_of asked.entry.files.now) (places_of places.entry)
         (sources_of (F.source_at files.now) (paths_of asked.entry.files.now)) (manner_of asked.entry)
         (W.contents output.old) (W.contents output.new)) result }
     ensures told { W.has_failed output.new ≡ (W.has_failed output.old || is_write_failed (without_place result)) }
 {
     match asked {
-        WideRun {
+        WideRunOf {
             files: run,
             is_verbose: true,
             held: None,
@@ -118,14 +118,14 @@ fn run_made<'a, F: ReadFiles, W: WriteTold>(
             alloc,
             serve_run_wide_verbose(files, alloc, run, places, output),
         ),
-        WideRun {
+        WideRunOf {
             files: run,
             is_verbose: false,
             held: None,
             clock: _,
             assumed: _,
         } => without_hint(alloc, serve_run_wide(files, alloc, run, output)),
-        WideRun {
+        WideRunOf {
             files: run,
             is_verbose: true,
             held: Some(held),
@@ -138,7 +138,7 @@ fn run_made<'a, F: ReadFiles, W: WriteTold>(
                 serve_debug_wide_verbose(files, alloc, debugged, places, output),
             )
         }
-        WideRun {
+        WideRunOf {
             files: run,
             is_verbose: false,
             held: Some(held),
@@ -155,10 +155,10 @@ fn run_made<'a, F: ReadFiles, W: WriteTold>(
 fn run_alone<'a, F: ReadFiles, W: WriteTold>(
     files: &F,
     alloc: Global,
-    asked: WideRun<'_, 'a>,
+    asked: WideRunOf<'_, 'a>,
     plan: &PlanText,
     output: &mut W,
-) -> Result<Served, Faulted<'a>>
+) -> Result<ServedRequest, Faulted<'a>>
     ensures serves { spec.RunsPlans (paths_of asked.entry.files.now) (F.source_at files.now) (manner_of asked.entry)
         (W.contents output.old) (W.contents output.new) (text_now plan.now) None result }
     ensures told { W.has_failed output.new ≡ (W.has_failed output.old || is_write_failed (without_place result)) }
@@ -199,10 +199,10 @@ fn places_of_both<'r>(plans: PlanTexts<'r, '_>) -> PlanPlaces<'r>
 fn run_both<'a, F: ReadFiles, W: WriteTold>(
     files: &F,
     alloc: Global,
-    asked: WideRun<'_, 'a>,
+    asked: WideRunOf<'_, 'a>,
     plans: PlanTexts<'_, '_>,
     output: &mut W,
-) -> Result<Served, Faulted<'a>>
+) -> Result<ServedRequest, Faulted<'a>>
     ensures serves { spec.RunsPlans (paths_of asked.entry.files.now) (F.source_at files.now) (manner_of asked.entry)
         (W.contents output.old) (W.contents output.new) (text_now plans.entry.plan.now)
         (Some (plans.entry.path.now, text_now plans.entry.second_plan.now)) result }
@@ -225,10 +225,10 @@ struct FirstPlan<'r, 'a> {
 fn run_after<'a, F: ReadFiles, W: WriteTold>(
     files: &F,
     alloc: Global,
-    asked: WideRun<'_, 'a>,
+    asked: WideRunOf<'_, 'a>,
     first: FirstPlan<'_, 'a>,
     output: &mut W,
-) -> Result<Served, Faulted<'a>>
+) -> Result<ServedRequest, Faulted<'a>>
     ensures serves { spec.RunsSecond (reading_of asked.entry) (paths_of asked.entry.files.now) (F.source_at files.now) (manner_of asked.entry)
         (W.contents output.old) (W.contents output.new) (text_now first.entry.plan.now) first.entry.path.now result }
     ensures told { W.has_failed output.new ≡ (W.has_failed output.old || is_write_failed (without_place result)) }
@@ -257,10 +257,10 @@ fn run_after<'a, F: ReadFiles, W: WriteTold>(
 fn run_beside<'a, F: ReadFiles, W: WriteTold>(
     files: &F,
     alloc: Global,
-    asked: WideRun<'_, 'a>,
+    asked: WideRunOf<'_, 'a>,
     plan: &PlanText,
     output: &mut W,
-) -> Result<Served, Faulted<'a>>
+) -> Result<ServedRequest, Faulted<'a>>
     ensures serves { spec.RunsPlan (reading_of asked.entry) (paths_of asked.entry.files.now) (F.source_at files.now) (manner_of asked.entry)
         (W.contents output.old) (W.contents output.new) (text_now plan.now) result }
     ensures told { W.has_failed output.new ≡ (W.has_failed output.old || is_write_failed (without_place result)) }
@@ -278,10 +278,10 @@ fn run_beside<'a, F: ReadFiles, W: WriteTold>(
 fn run_after_queues<'a, F: ReadFiles, W: WriteTold>(
     files: &F,
     alloc: Global,
-    asked: WideRun<'_, 'a>,
+    asked: WideRunOf<'_, 'a>,
     first: FirstPlan<'_, 'a>,
     output: &mut W,
-) -> Result<Served, Faulted<'a>>
+) -> Result<ServedRequest, Faulted<'a>>
     ensures serves { spec.RunsWithQueues (reading_of asked.entry) (paths_of asked.entry.files.now) (F.source_at files.now) (manner_of asked.entry)
         (W.contents output.old) (W.contents output.new) (text_now first.entry.plan.now) (Some first.entry.path.now) result }
     ensures told { W.has_failed output.new ≡ (W.has_failed output.old || is_write_failed (without_place result)) }
@@ -305,10 +305,10 @@ fn run_after_queues<'a, F: ReadFiles, W: WriteTold>(
 fn run_with_queues<'a, F: ReadFiles, W: WriteTold>(
     files: &F,
     alloc: Global,
-    asked: WideRun<'_, 'a>,
+    asked: WideRunOf<'_, 'a>,
     plan: &PlanText,
     output: &mut W,
-) -> Result<Served, Faulted<'a>>
+) -> Result<ServedRequest, Faulted<'a>>
     ensures serves { spec.RunsQueues (reading_of asked.entry) (paths_of asked.entry.files.now) (F.source_at files.now) (manner_of asked.entry)
         (W.contents output.old) (W.contents output.new) (text_now plan.now) result }
     ensures told { W.has_failed output.new ≡ (W.has_failed output.old || is_write_failed (without_place result)) }
@@ -328,9 +328,9 @@ fn run_with_queues<'a, F: ReadFiles, W: WriteTold>(
 fn serve_run_assuming<'a, F: ReadFiles, W: WriteTold>(
     files: &F,
     alloc: Global,
-    asked: WideRun<'_, 'a>,
+    asked: WideRunOf<'_, 'a>,
     output: &mut W,
-) -> Result<Served, Faulted<'a>>
+) -> Result<ServedRequest, Faulted<'a>>
     ensures serves { spec.RunsAssuming (reading_of asked.entry) (paths_of asked.entry.files.now) (F.source_at files.now) (manner_of asked.entry)
         (W.contents output.old) (W.contents output.new) result }
     ensures told { W.has_failed output.new ≡ (W.has_failed output.old || is_write_failed (without_place result)) }
@@ -352,16 +352,16 @@ fn serve_run_assuming<'a, F: ReadFiles, W: WriteTold>(
 pub(crate) fn serve_run_including<'a, F: ReadFiles, W: WriteTold>(
     files: &F,
     alloc: Global,
-    asked: WideRun<'_, 'a>,
+    asked: WideRunOf<'_, 'a>,
     output: &mut W,
-) -> Result<Served, Faulted<'a>>
+) -> Result<ServedRequest, Faulted<'a>>
     ensures serves { spec.RunsIncluding (option_map (λ word. word.now) asked.entry.clock) (paths_of asked.entry.files.now) (F.source_at files.now) (manner_of asked.entry)
         (W.contents output.old) (W.contents output.new) result }
     ensures told { W.has_failed output.new ≡ (W.has_failed output.old || is_write_failed (without_place result)) }
 {
     match file_assumptions(files, alloc, asked.files.script) {
         Ok(assumed) => {
-            let assuming = WideRun {
+            let assuming = WideRunOf {
                 files: asked.files,
                 is_verbose: asked.is_verbose,
                 held: asked.held,

@@ -9,4 +9,4 @@ mod reports;
 
 pub use membership::{AddQueueMember, RemoveQueueMember};
 pub use pausing::{PauseQueueMember, UnpauseQueueMember};
-pub use queueing::Queue;
+pub use queueing::QueueApp;

@@ -25,13 +25,13 @@ fn added_status(added: Added) -> &'static [u8]
 
 /// The addition of a member to the queue with this name.
 #[derive(Drop)]
-struct Addition<'a> {
+struct MemberAddition<'a> {
     queue: &'a [u8],
     interface: &'a [u8],
     penalty: u32,
 }
 
-impl Change<Queues> for Addition<'_> {
+impl Change<Queues> for MemberAddition<'_> {
     ghost after = { λ addition queues.
         (add_row queues addition.queue.now addition.interface.now addition.penalty).0 };
 
@@ -56,7 +56,7 @@ fn add(
     ensures loans { KeepsLoans cell.old cell.new }
 {
     let status = added_status(cell.queues.would_add(queue, interface));
-    let addition = Addition {
+    let addition = MemberAddition {
         queue,
         interface,
         penalty,

@@ -78,9 +78,9 @@ fn ask_by_parts(alloc: Global, parts: &[&[u8]], cell: &mut Cell) -> Result<Move,
 /// is no such queue, `JOINEMPTY` if it is too empty and `FULL` if it is full, and then the channel goes on. With the option `c` outside
 /// parentheses it goes on when the agent is done, and if there is a time, a time-out takes it out of the queue. During `h` the call ends
 /// instead of waiting (a choice of this program).
-pub struct Queue;
+pub struct QueueApp;
 
-impl Application for Queue {
+impl Application for QueueApp {
     ghost use Rattle.std.specs.Prelude.{codes};
     ghost use Rattle.dp_qapps.specs.laws.Lawful.{queue_lawful};
     ghost use Rattle.dp_qapps.specs.Queueing.{queue_row};

@@ -11,7 +11,7 @@ use Rattle.dp_conf.specs.Lines.{LineOf, Header, Pair}
 use Rattle.dp_conf.specs.Words.{same_word}
 use Rattle.dp_queue.specs.Agents.{agent_number, state_at, talks_with}
 use Rattle.dp_queue.specs.Faults.{at_line}
-use Rattle.dp_queue.specs.File.{FileOf, unread, begun_by, after_header, penalty_in, argument_at, is_passed_over, with_named, with_member_line, with_queue_setting, with_key, with_pair, after_pair, after_line, after_lines}
+use Rattle.dp_queue.specs.File.{FileOf, nothing_read, begun_by, after_header, penalty_in, argument_at, is_passed_over, with_named, with_member_line, with_queue_setting, with_key, with_pair, after_pair, after_line, after_lines}
 use Rattle.dp_queue.specs.Good.{IsRight, AreMembers, AreLinked}
 use Rattle.dp_queue.specs.Joining.{waits_in, times_waiting}
 use Rattle.dp_queue.specs.Keys.{setting_of}
@@ -143,7 +143,7 @@ lines-at_rest file (line ∷ lines) rest =
     if_ok-then is_at_rest is_at_rest (after_line file line) _ (λ next kept. lines-at_rest next lines kept) (line-at_rest file line rest)
 
 -- and so do all lines of a file
-pub made-at_rest : (lines : List LineOf) (file : FileOf) → after_lines unread lines ≡ Ok file → IsAtRest file.made
+pub made-at_rest : (lines : List LineOf) (file : FileOf) → after_lines nothing_read lines ≡ Ok file → IsAtRest file.made
 made-at_rest lines file e =
     let P : Result FileOf QueueFault → Type 0 = λ r. IfOk r is_at_rest in
-    subst P e (lines-at_rest unread lines (record { nobody_waits = λ k d within. absurd (omega (arith, within)); all_idle = λ k d within. absurd (omega (arith, within)) }))
+    subst P e (lines-at_rest nothing_read lines (record { nobody_waits = λ k d within. absurd (omega (arith, within)); all_idle = λ k d within. absurd (omega (arith, within)) }))

@@ -10,15 +10,15 @@ use Rattle.dp_conf.specs.declared.fault.ConfFault.TheVariants.{At, NoMemory as c
 use Rattle.dp_conf.proofs.TakingLemmas.{all_taken-refused}
 use Rattle.dp_queue.specs.AllFaults.{left_by, fault_in, line_in, faults_after, faultless_after, left_after, faults_in}
 use Rattle.dp_queue.specs.Faults.{fault_of_conf, reason_of, text_fault}
-use Rattle.dp_queue.specs.File.{FileOf, unread, after_line, after_lines, queues_in}
+use Rattle.dp_queue.specs.File.{FileOf, nothing_read, after_line, after_lines, queues_in}
 use Rattle.dp_queue.specs.Queues.{QueuesOf}
-use Rattle.dp_queue.specs.steps.Sifting.{Sifted, unsifted, sifted_by, after_any}
+use Rattle.dp_queue.specs.steps.Sifting.{SiftedQueues, nothing_sifted, sifted_by, after_any}
 use Rattle.dp_queue.specs.declared.fault.QueueFault.{QueueFault}
 
 -- ---- lines
 
 -- the result of lines without a fault, with the faults of the others
-abbrev sifted_of : FileOf → List QueueFault → Sifted
+abbrev sifted_of : FileOf → List QueueFault → SiftedQueues
 sifted_of file faults = record { file = file; faults = faults }
 
 -- the faults of lines are those that are found one after another
@@ -35,22 +35,22 @@ sifted-faults file found (line ∷ lines) =
     by (Err fault) taken passed = passed fault ∙ append_assoc found (fault ∷ []) (faults_after file lines)
 
 -- if all lines were taken the faults of the text are those that were found
-pub faults_in-taken : (text : List ℕ) (before state : Sifted) → before ≡ unsifted → all_taken after_any before (lines_of text) ≡ Ok state → faults_in text ≡ Ok state.faults
+pub faults_in-taken : (text : List ℕ) (before state : SiftedQueues) → before ≡ nothing_sifted → all_taken after_any before (lines_of text) ≡ Ok state → faults_in text ≡ Ok state.faults
 unfolding faults_in
-faults_in-taken text before state new e = by (lines_of text) (sym (ap (λ (s : Sifted). all_taken after_any s (lines_of text)) new) ∙ e)
+faults_in-taken text before state new e = by (lines_of text) (sym (ap (λ (s : SiftedQueues). all_taken after_any s (lines_of text)) new) ∙ e)
   where
-    by : (read : Result (List LineOf) LineFault) → all_taken after_any unsifted read ≡ Ok state → (text_fault read >>= λ lines. Ok (faults_after unread lines)) ≡ Ok state.faults
+    by : (read : Result (List LineOf) LineFault) → all_taken after_any nothing_sifted read ≡ Ok state → (text_fault read >>= λ lines. Ok (faults_after nothing_read lines)) ≡ Ok state.faults
     by (Ok lines) e =
-        let same : fold after_any unsifted lines ≡ state = cc in
+        let same : fold after_any nothing_sifted lines ≡ state = cc in
         ap (λ (faults : List QueueFault). let done : Result (List QueueFault) QueueFault = Ok faults in done)
-        (sym (sifted-faults unread [] lines) ∙ ap (λ (s : Sifted). s.faults) same)
+        (sym (sifted-faults nothing_read [] lines) ∙ ap (λ (s : SiftedQueues). s.faults) same)
     by (Err fault) e = absurd cc
 
 -- if a line of the text is refused, so is the text
-pub Refuses-faults : (text : List ℕ) (before : Sifted) (conf : ConfFault) → Refuses (line_fault conf) (all_taken after_any before (lines_of text)) → Refuses (reason_of (fault_of_conf conf)) (faults_in text)
+pub Refuses-faults : (text : List ℕ) (before : SiftedQueues) (conf : ConfFault) → Refuses (line_fault conf) (all_taken after_any before (lines_of text)) → Refuses (reason_of (fault_of_conf conf)) (faults_in text)
 unfolding faults_in
 Refuses-faults text before (At line kind) refused =
-    ap (λ read. text_fault read >>= λ lines. Ok (faults_after unread lines))
+    ap (λ read. text_fault read >>= λ lines. Ok (faults_after nothing_read lines))
     (all_taken-refused after_any before (lines_of text) (record { line = line; kind = kind }) refused)
 Refuses-faults text before conf_no_memory refused = tt
 
@@ -83,21 +83,21 @@ made_of read = read >>= λ file. Ok file.made
 
 -- the queues of lines that were read
 abbrev of_lines : Result (List LineOf) LineFault → Result QueuesOf QueueFault
-of_lines read = text_fault read >>= λ lines. made_of (after_lines unread lines)
+of_lines read = text_fault read >>= λ lines. made_of (after_lines nothing_read lines)
 
-IsFirst-lines : (lines : List LineOf) (faults : List QueueFault) → faults_after unread lines ≡ faults → IsFirst (made_of (after_lines unread lines)) faults
+IsFirst-lines : (lines : List LineOf) (faults : List QueueFault) → faults_after nothing_read lines ≡ faults → IsFirst (made_of (after_lines nothing_read lines)) faults
 IsFirst-lines lines faults same =
-    subst (IsFirst (made_of (after_lines unread lines))) same
-    (IsFirst-passed_on (λ (file : FileOf). file.made) (after_lines unread lines) (faults_after unread lines) (IsFirst-file unread lines))
+    subst (IsFirst (made_of (after_lines nothing_read lines))) same
+    (IsFirst-passed_on (λ (file : FileOf). file.made) (after_lines nothing_read lines) (faults_after nothing_read lines) (IsFirst-file nothing_read lines))
 
 -- a file loads if it has no fault, and is refused for its first fault otherwise
 IsFirst-text : (text : List ℕ) (faults : List QueueFault) → faults_in text ≡ Ok faults → IsFirst (queues_in text) faults
 unfolding faults_in queues_in
 IsFirst-text text faults e = by (lines_of text) e
   where
-    by : (read : Result (List LineOf) LineFault) → (text_fault read >>= λ lines. Ok (faults_after unread lines)) ≡ Ok faults → IsFirst (of_lines read) faults
+    by : (read : Result (List LineOf) LineFault) → (text_fault read >>= λ lines. Ok (faults_after nothing_read lines)) ≡ Ok faults → IsFirst (of_lines read) faults
     by (Ok lines) e =
-        let same : faults_after unread lines ≡ faults = cc in
+        let same : faults_after nothing_read lines ≡ faults = cc in
         IsFirst-lines lines faults same
     by (Err fault) e = absurd cc
 
@@ -112,9 +112,9 @@ pub faults-text : (text : List ℕ) (fault : QueueFault) → faults_in text ≡ 
 unfolding faults_in queues_in
 faults-text text fault e = by (lines_of text) e
   where
-    by : (read : Result (List LineOf) LineFault) → (text_fault read >>= λ lines. Ok (faults_after unread lines)) ≡ Err fault → of_lines read ≡ Err fault
+    by : (read : Result (List LineOf) LineFault) → (text_fault read >>= λ lines. Ok (faults_after nothing_read lines)) ≡ Err fault → of_lines read ≡ Err fault
     by (Ok lines) e = absurd cc
-    by (Err found) e = ap (λ (r : Result (List QueueFault) QueueFault). r >>= λ faults. let done : Result QueuesOf QueueFault = Ok unread.made in done) e
+    by (Err found) e = ap (λ (r : Result (List QueueFault) QueueFault). r >>= λ faults. let done : Result QueuesOf QueueFault = Ok nothing_read.made in done) e
 
 -- ---- lines without a fault
 
@@ -130,5 +130,5 @@ after-faultless file (line ∷ lines) = by (after_line file line) refl (λ next.
         ap (λ (r : Result FileOf QueueFault). r >>= λ file. after_lines file (faultless_after next lines)) is ∙ later next
     by (Err fault) is later = later file
 
-pub after-faultless_alone : (lines : List LineOf) → after_lines unread (faultless_after unread lines) ≡ Ok (left_after unread lines)
-after-faultless_alone lines = after-faultless unread lines
+pub after-faultless_alone : (lines : List LineOf) → after_lines nothing_read (faultless_after nothing_read lines) ≡ Ok (left_after nothing_read lines)
+after-faultless_alone lines = after-faultless nothing_read lines

@@ -3,7 +3,7 @@ use Rattle.std.specs.Prelude.{ℕ, List, [], ◌∷◌, ◌++◌, Result, Ok, Er
 use Rattle.dp_conf.specs.Answers.{◌>>=◌}
 use Rattle.dp_conf.specs.Lines.{LineOf, lines_of}
 use Rattle.dp_queue.specs.Faults.{text_fault}
-use Rattle.dp_queue.specs.File.{FileOf, unread, after_line}
+use Rattle.dp_queue.specs.File.{FileOf, nothing_read, after_line}
 use Rattle.dp_queue.specs.declared.fault.QueueFault.{QueueFault}
 
 -- the result of a line; a line with a fault changes nothing
@@ -40,4 +40,4 @@ left_after file (line ∷ lines) = left_after (left_by file (after_line file lin
 
 -- all faults in the lines of a text, or the first fault of the text itself, which ends the reading
 unfoldable pub faults_in : List ℕ → Result (List QueueFault) QueueFault
-faults_in text = text_fault (lines_of text) >>= λ lines. Ok (faults_after unread lines)
+faults_in text = text_fault (lines_of text) >>= λ lines. Ok (faults_after nothing_read lines)

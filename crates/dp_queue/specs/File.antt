@@ -22,8 +22,8 @@ pub record FileOf : Type 0 where
   pub made : QueuesOf
 
 -- before the first line
-abbrev pub unread : FileOf
-unread = record { section = None; made = record { queues = []; agents = []; finished = 0 } }
+abbrev pub nothing_read : FileOf
+nothing_read = record { section = None; made = record { queues = []; agents = []; finished = 0 } }
 
 -- a queue with the default settings
 abbrev pub queue_named : List ℕ → QueueOf
@@ -115,4 +115,4 @@ after_lines file (line ∷ lines) = after_line file line >>= λ next. after_line
 
 -- the queues of a file: the faults of its text come before those of queues
 unfoldable pub queues_in : List ℕ → Result QueuesOf QueueFault
-queues_in text = text_fault (lines_of text) >>= λ lines. after_lines unread lines >>= λ file. Ok file.made
+queues_in text = text_fault (lines_of text) >>= λ lines. after_lines nothing_read lines >>= λ file. Ok file.made

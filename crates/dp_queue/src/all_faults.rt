@@ -5,7 +5,7 @@ ghost use Rattle.dp_conf.specs.Answers.{Answers};
 ghost use Rattle.dp_conf.specs.Lines.{LineOf};
 ghost use Rattle.dp_queue.specs.AllFaults.{faults_in, faultless_after, left_after};
 ghost use Rattle.dp_queue.specs.Faults.{fault_of_line, reason_of};
-ghost use Rattle.dp_queue.specs.File.{after_lines, queues_in, unread};
+ghost use Rattle.dp_queue.specs.File.{after_lines, queues_in, nothing_read};
 ghost use Rattle.dp_queue.specs.steps.Sifting as spec;
 
 use crate::fault::{QueueFault, QueueKind};
@@ -22,9 +22,9 @@ struct QueueFaults {
 }
 
 impl Model for QueueFaults {
-    ghost use Rattle.dp_queue.specs.steps.Sifting.{Sifted};
+    ghost use Rattle.dp_queue.specs.steps.Sifting.{SiftedQueues};
 
-    ghost Value = { Sifted };
+    ghost Value = { SiftedQueues };
 
     ghost view = { λ found. record { file = found.file; faults = found.faults.items } };
 }
@@ -32,7 +32,7 @@ impl Model for QueueFaults {
 impl QueueFaults {
     /// The value before the first line.
     fn new(alloc: Global) -> Self
-        ensures { result ≡ spec.unsifted }
+        ensures { result ≡ spec.nothing_sifted }
     {
         QueueFaults {
             file: File::new(alloc),
@@ -101,5 +101,5 @@ pub fn show_faults_decide_loading()
 /// States that the lines without a fault have no fault either when they are read alone, and give what they gave among the others. It does
 /// nothing.
 pub fn show_faultless_lines_stand_alone()
-    ensures { (lines : List LineOf) → after_lines unread (faultless_after unread lines) ≡ Ok (left_after unread lines) }
+    ensures { (lines : List LineOf) → after_lines nothing_read (faultless_after nothing_read lines) ≡ Ok (left_after nothing_read lines) }
 {}

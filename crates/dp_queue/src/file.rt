@@ -81,7 +81,7 @@ fn is_passed_over(queues: &[Queue], agents: &Agents, number: usize, name: &[u8])
 impl File {
     /// The value before the first line.
     pub(crate) fn new(alloc: Global) -> Self
-        ensures { result ≡ spec.unread }
+        ensures { result ≡ spec.nothing_read }
     {
         File {
             section: None,

@@ -35,7 +35,7 @@ impl Model for QueuesLoading {
 impl QueuesLoading {
     /// The value before the first line.
     fn new(alloc: Global) -> Self
-        ensures { result ≡ Ok spec.unread }
+        ensures { result ≡ Ok spec.nothing_read }
     {
         QueuesLoading {
             file: File::new(alloc),

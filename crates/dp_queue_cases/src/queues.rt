@@ -8,7 +8,7 @@ mod rows;
 mod sizes;
 mod steps;
 
-use crate::queues::every_fault::EveryFault;
+use crate::queues::every_fault::EveryQueueFault;
 use crate::queues::render::{push_fault, queues_text};
 use crate::queues::sizes::{count_of, file_of, push_counts};
 use crate::queues::steps::take;
@@ -18,9 +18,9 @@ use std::alloc::Global;
 use std::test::Fail;
 
 /// The result of loading a file of queues.
-struct Loads;
+struct QueueLoads;
 
-impl Question for Loads {
+impl Question for QueueLoads {
     fn answer(alloc: Global, asked: &str) -> Result<String, Fail> {
         let text = bytes_of(alloc, asked)?;
         let read = Queues::load(alloc, &text);
@@ -30,9 +30,9 @@ impl Question for Loads {
 }
 
 /// The counts of what a file of many members or queues loads as.
-struct Counted;
+struct LoadedCounts;
 
-impl Question for Counted {
+impl Question for LoadedCounts {
     fn answer(alloc: Global, asked: &str) -> Result<String, Fail> {
         let (word, count) = asked.split_once(' ').unwrap_or((asked, ""));
         let text = file_of(alloc, word, count_of(count))?;
@@ -100,17 +100,17 @@ fn fault_text(alloc: Global, fault: QueueFault) -> Result<String, Fail> {
 
 #[test]
 fn queue_files_load(rt: HostRuntime) -> Result<(), Fail> {
-    check_all::<Loads>(rt.alloc(), files::TABLES)
+    check_all::<QueueLoads>(rt.alloc(), files::TABLES)
 }
 
 #[test]
 fn faults_of_queue_files(rt: HostRuntime) -> Result<(), Fail> {
-    check_all::<EveryFault>(rt.alloc(), &[every_fault::EVERY])
+    check_all::<EveryQueueFault>(rt.alloc(), &[every_fault::EVERY])
 }
 
 #[test]
 fn large_queue_files_load(rt: HostRuntime) -> Result<(), Fail> {
-    check_all::<Counted>(rt.alloc(), &[sizes::SIZES])
+    check_all::<LoadedCounts>(rt.alloc(), &[sizes::SIZES])
 }
 
 #[test]

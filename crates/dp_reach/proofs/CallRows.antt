@@ -15,12 +15,12 @@ use Rattle.dp_app.specs.declared.place.Place.{Place}
 use Rattle.dp_machine.specs.Found.{is_found}
 use Rattle.dp_machine.specs.Targets.{if_found, parts_context, parts_exten, parts_place, place_by}
 use Rattle.dp_flow.specs.Conditions.{chosen_side}
-use Rattle.dp_flow.specs.Jumps.{SubroutineCall, called_by, enter_subroutine, gosub_if, gosub_if_row, gosub_row, inner_arguments, argument_locals, place_after}
+use Rattle.dp_flow.specs.Jumps.{SubroutineCallOf, called_by, enter_subroutine, gosub_if, gosub_if_row, gosub_row, inner_arguments, argument_locals, place_after}
 use Rattle.dp_pieces.specs.Arguments.{are_clean, shapes_of, split_pieces}
 use Rattle.dp_pieces.specs.Bytes.{Bytes, Within}
-use Rattle.dp_pieces.specs.Cuts.{At, Cutting, Nowhere, Unsure, cut_last, cut_pieces}
+use Rattle.dp_pieces.specs.Cuts.{At, CuttingOf, Nowhere, Unsure, cut_last, cut_pieces}
 use Rattle.dp_pieces.specs.Fitting.{AllFit, IsCutAs, IsLast}
-use Rattle.dp_pieces.specs.Pieces.{Fits, Piece, exactly, pieces_set}
+use Rattle.dp_pieces.specs.Pieces.{Fits, PieceOf, exactly, pieces_set}
 use Rattle.dp_pieces.proofs.ArgumentLemmas.{SomeFit, fits-arguments, split-fits}
 use Rattle.dp_pieces.proofs.CutLemmas.{cut-pieces}
 use Rattle.dp_pieces.proofs.FitsLemmas.{fits-exactly, fits-any_bytes_of, fits-set}
@@ -52,7 +52,7 @@ few-parts plan own place parts last found = by (nat_le (length (with_last parts 
         omega (arith, short, length-append (take (length parts - 1) parts) (last ∷ []), length-take (length parts - 1) parts)
     by false few is = absurd cc
 
-in-last : (plan : PlanOf) (own place : Place) (area : Area) (shapes : List (List Piece)) (parts : List (List ℕ)) (last : List ℕ) → IsIn area own → AllFit shapes parts
+in-last : (plan : PlanOf) (own place : Place) (area : Area) (shapes : List (List PieceOf)) (parts : List (List ℕ)) (last : List ℕ) → IsIn area own → AllFit shapes parts
     → 1 ≤ length parts → parts_place plan own (with_last parts last) ≡ Some place → IsInOne (targets_of area shapes) place
 in-last plan own place area (p ∷ []) (a ∷ []) last inside are some found =
     in-target plan own place area (exactly last ∷ []) (last ∷ []) inside (fits-exactly last, tt) found
@@ -82,12 +82,12 @@ found-asked plan (Some p) place is = by (is_found plan p.context p.exten p.prior
     by false is = absurd cc
 
 -- the last part of a text fits the last pieces
-record IsLastPart (pieces : List Piece) (part : List ℕ) : Type 0 where
+record IsLastPart (pieces : List PieceOf) (part : List ℕ) : Type 0 where
   text : List ℕ
   trimmed : part ≡ trim text
   fits : Fits pieces text
 
-last-part : (parts : List (List Piece)) (texts : List (List ℕ)) (part : List ℕ) → AllFit parts texts → slice_get (map trim texts) (length (map trim texts) - 1) ≡ Some part
+last-part : (parts : List (List PieceOf)) (texts : List (List ℕ)) (part : List ℕ) → AllFit parts texts → slice_get (map trim texts) (length (map trim texts) - 1) ≡ Some part
     → IsLastPart (last_part parts) part
 last-part [] [] part fit is = absurd cc
 last-part [] (text ∷ texts) part fit is = absurd fit
@@ -100,7 +100,7 @@ last-part (pieces ∷ other ∷ more) (text ∷ next ∷ texts) part fit is =
     last-part (other ∷ more) (next ∷ texts) part fit.1 (ap (slice_get (trim text ∷ trim next ∷ map trim texts)) (sym at) ∙ is)
 
 -- locals with numbers
-pub locals-of : (claim : Claim) (number : ℕ) (shapes : List (List Piece)) (values : List (List ℕ)) → AllFit shapes values → MeetsAll claim (numbered_duties number shapes)
+pub locals-of : (claim : Claim) (number : ℕ) (shapes : List (List PieceOf)) (values : List (List ℕ)) → AllFit shapes values → MeetsAll claim (numbered_duties number shapes)
     → AreLocals claim.names (argument_locals number values)
 locals-of claim number [] [] are met = tt
 locals-of claim number [] (value ∷ values) are met = absurd are
@@ -115,7 +115,7 @@ locals-all claim set met number (value ∷ values) all =
     (within-more set _ (met (codes "ARG" ++ decimal number)) value all.0, locals-all claim set met (number + 1) values all.1)
 
 -- the priority and the arguments of a subroutine call are within a set
-record IsCallWithin (set : Bytes) (call : SubroutineCall) : Type 0 where
+record IsCallWithin (set : Bytes) (call : SubroutineCallOf) : Type 0 where
   priority : Within set call.priority
   arguments : AllByRecursion (Within set) call.arguments
 
@@ -136,14 +136,14 @@ inner-within : (set : Bytes) (inside : List ℕ) → Within set inside → AllBy
 inner-within set [] within = tt
 inner-within set (b ∷ bs) within = arguments-within set (b ∷ bs) within
 
-call-within : (set : Bytes) (part : List ℕ) (call : SubroutineCall) → Within set part → called_by part (cut_once 40 part) ≡ Some call → IsCallWithin set call
+call-within : (set : Bytes) (part : List ℕ) (call : SubroutineCallOf) → Within set part → called_by part (cut_once 40 part) ≡ Some call → IsCallWithin set call
 call-within set part call within is = by (cut_once 40 part) refl is
   where
     inner : (cut : List ℕ × List ℕ) → cut_once 40 part ≡ Some cut → (o : Option (List ℕ)) → before_last 41 cut.1 ≡ o
         → option_map (λ inside. record { priority = trim cut.0; arguments = inner_arguments inside }) o ≡ Some call → IsCallWithin set call
     inner cut from None last same = absurd cc
     inner cut from (Some inside) last same =
-        let one : (let c : SubroutineCall = record { priority = trim cut.0; arguments = inner_arguments inside } in c ≡ call) = cc in
+        let one : (let c : SubroutineCallOf = record { priority = trim cut.0; arguments = inner_arguments inside } in c ≡ call) = cc in
         let parted = cut_once-is 40 part cut.0 cut.1 from in
         subst (IsCallWithin set) one (record {
           priority = within-trim set cut.0 (each-cut_front (λ b. set b ≡ true) 40 part cut.0 cut.1 parted within);
@@ -152,18 +152,18 @@ call-within set part call within is = by (cut_once 40 part) refl is
 
     by : (o : Option (List ℕ × List ℕ)) → cut_once 40 part ≡ o → called_by part o ≡ Some call → IsCallWithin set call
     by None from same =
-        let one : (let c : SubroutineCall = record { priority = part; arguments = [] } in c ≡ call) = cc in
+        let one : (let c : SubroutineCallOf = record { priority = part; arguments = [] } in c ≡ call) = cc in
         subst (IsCallWithin set) one (record { priority = within; arguments = tt })
     by (Some cut) from same = inner cut from (before_last 41 cut.1) refl same
 
 -- the locals of a call, given the pieces of its last part
-module _ (claim : Claim) (set : Bytes) (pieces : List Piece) (part : List ℕ) (call : SubroutineCall) (last : IsLastPart pieces part) (within : Within set part)
+module _ (claim : Claim) (set : Bytes) (pieces : List PieceOf) (part : List ℕ) (call : SubroutineCallOf) (last : IsLastPart pieces part) (within : Within set part)
     (is : called_by part (cut_once 40 part) ≡ Some call) where
   all-locals : Meets claim (HoldsAll set) → AreLocals claim.names (argument_locals 1 call.arguments)
   all-locals met = locals-all claim set met 1 call.arguments (call-within set part call within is).arguments
 
   -- given the text between the parentheses
-  inner-locals : (inside : List Piece) (text : List ℕ) → Fits inside text → MeetsAll claim (if are_clean 0 inside then numbered_duties 1 (shapes_of inside) else HoldsAll set ∷ [])
+  inner-locals : (inside : List PieceOf) (text : List ℕ) → Fits inside text → MeetsAll claim (if are_clean 0 inside then numbered_duties 1 (shapes_of inside) else HoldsAll set ∷ [])
       → inner_arguments text ≡ call.arguments → AreLocals claim.names (argument_locals 1 call.arguments)
   inner-locals inside text fits met same = by (are_clean 0 inside) refl met
     where
@@ -182,7 +182,7 @@ module _ (claim : Claim) (set : Bytes) (pieces : List Piece) (part : List ℕ) (
       to : (cut : Option (List ℕ × List ℕ)) → cut_once 40 (trim last.text) ≡ cut → called_by part cut ≡ Some call
       to cut from = subst (λ o. called_by part o ≡ Some call) (ap (cut_once 40) last.trimmed ∙ from) is
 
-      inner : (cutting : Cutting) (rest : List ℕ) → IsLast cutting (before_last 41 rest) → MeetsAll claim (inside_duties set cutting) → (front : List ℕ) (o : Option (List ℕ))
+      inner : (cutting : CuttingOf) (rest : List ℕ) → IsLast cutting (before_last 41 rest) → MeetsAll claim (inside_duties set cutting) → (front : List ℕ) (o : Option (List ℕ))
           → before_last 41 rest ≡ o → option_map (λ inside. record { priority = front; arguments = inner_arguments inside }) o ≡ Some call
           → AreLocals claim.names (argument_locals 1 call.arguments)
       inner Unsure rest lasts met front o from same = all-locals met.0
@@ -190,17 +190,17 @@ module _ (claim : Claim) (set : Bytes) (pieces : List Piece) (part : List ℕ) (
       inner Nowhere rest lasts met front (Some inside) from same = absurd cc
       inner (At i r) rest lasts met front None from same = absurd cc
       inner (At i r) rest lasts met front (Some inside) from same =
-          let one : (let c : SubroutineCall = record { priority = front; arguments = inner_arguments inside } in c ≡ call) = cc in
+          let one : (let c : SubroutineCallOf = record { priority = front; arguments = inner_arguments inside } in c ≡ call) = cc in
           inner-locals i inside (subst (IsLast (At i r)) from lasts) met (ap (λ c. c.arguments) one)
 
-      by : (cutting : Cutting) (cut : Option (List ℕ × List ℕ)) → cut_once 40 last.text ≡ cut → IsCutAs cutting cut → MeetsAll claim (call_duties set cutting)
+      by : (cutting : CuttingOf) (cut : Option (List ℕ × List ℕ)) → cut_once 40 last.text ≡ cut → IsCutAs cutting cut → MeetsAll claim (call_duties set cutting)
           → AreLocals claim.names (argument_locals 1 call.arguments)
       by Unsure cut from are met = all-locals met.0
       by Nowhere (Some cut) from are met = absurd cc
       by Nowhere None from are met =
           let none = to None (none-trimmed last.text from) in
-          let one : (let c : SubroutineCall = record { priority = part; arguments = [] } in c ≡ call) = cc in
-          subst (λ (c : SubroutineCall). AreLocals claim.names (argument_locals 1 c.arguments)) one tt
+          let one : (let c : SubroutineCallOf = record { priority = part; arguments = [] } in c ≡ call) = cc in
+          subst (λ (c : SubroutineCallOf). AreLocals claim.names (argument_locals 1 c.arguments)) one tt
       by (At f r) None from are met = absurd are
       by (At f r) (Some cut) from are met =
           inner (cut_last 41 r) cut.1 (last-fits 41 r cut.1 are.1) met (trim (trim_start cut.0)) (before_last 41 cut.1) refl
@@ -212,12 +212,12 @@ some-length : {X : Type 0} (xs : List X) (i : ℕ) (x : X) → slice_get xs i �
 some-length [] i x is = absurd cc
 some-length (y ∷ ys) i x is = omega arith
 
-some-all : (parts : List (List Piece)) (texts : List (List ℕ)) → SomeFit parts texts → AllFit parts texts
+some-all : (parts : List (List PieceOf)) (texts : List (List ℕ)) → SomeFit parts texts → AllFit parts texts
 some-all [] texts fit = absurd fit
 some-all (pieces ∷ more) texts fit = fit
 
 -- a subroutine that is entered with a text
-module _ (claim : Claim) (area : Area) (pieces : List Piece) (text : List ℕ) (cell : CellOf) (good : IsGood claim cell) (inside : IsIn area cell.place) (own : Covers claim.plan claim.reach cell.place)
+module _ (claim : Claim) (area : Area) (pieces : List PieceOf) (text : List ℕ) (cell : CellOf) (good : IsGood claim cell) (inside : IsIn area cell.place) (own : Covers claim.plan claim.reach cell.place)
     (fits : Fits pieces text) (met : MeetsAll claim (subroutine_duties area pieces)) where
   met-leads : MeetsAll claim (map Leads (targets area pieces))
   met-leads = each-front (Meets claim) (map Leads (targets area pieces)) (target_duties (pieces_set pieces) pieces) met
@@ -231,7 +231,7 @@ module _ (claim : Claim) (area : Area) (pieces : List Piece) (text : List ℕ) (
   parts-within : AllByRecursion (Within (pieces_set pieces)) (arguments_of text)
   parts-within = arguments-within (pieces_set pieces) text (fits-set pieces text fits)
 
-  module _ (part : List ℕ) (call : SubroutineCall) (at : slice_get (arguments_of text) (length (arguments_of text) - 1) ≡ Some part) (is : called_by part (cut_once 40 part) ≡ Some call) where
+  module _ (part : List ℕ) (call : SubroutineCallOf) (at : slice_get (arguments_of text) (length (arguments_of text) - 1) ≡ Some part) (is : called_by part (cut_once 40 part) ≡ Some call) where
     part-within : Within (pieces_set pieces) part
     part-within = each-get (Within (pieces_set pieces)) (arguments_of text) (length (arguments_of text) - 1) part parts-within at
 
@@ -270,7 +270,7 @@ module _ (claim : Claim) (area : Area) (pieces : List Piece) (text : List ℕ) (
   unfolding gosub_row
   enter_subroutine-inside = by (slice_get (arguments_of text) (length (arguments_of text) - 1)) refl
     where
-      enters : (part : List ℕ) → slice_get (arguments_of text) (length (arguments_of text) - 1) ≡ Some part → (o : Option SubroutineCall) → called_by part (cut_once 40 part) ≡ o
+      enters : (part : List ℕ) → slice_get (arguments_of text) (length (arguments_of text) - 1) ≡ Some part → (o : Option SubroutineCallOf) → called_by part (cut_once 40 part) ≡ o
           → IsInside claim cell.place (enter_subroutine cell (take (length (arguments_of text) - 1) (arguments_of text)) o)
       enters part at None is = record { cell = good; next = tt }
       enters part at (Some call) is = record {
@@ -294,7 +294,7 @@ gosub-bounded claim area pieces arguments cell good inside own fits met =
     enter_subroutine-inside claim area pieces arguments cell good inside own fits met
 
 -- one of several sides
-one-inside : (claim : Claim) (area : Area) (text : List ℕ) (cell : CellOf) → IsGood claim cell → IsIn area cell.place → Covers claim.plan claim.reach cell.place → (sides : List (List Piece))
+one-inside : (claim : Claim) (area : Area) (text : List ℕ) (cell : CellOf) → IsGood claim cell → IsIn area cell.place → Covers claim.plan claim.reach cell.place → (sides : List (List PieceOf))
     → FitsOne sides text → MeetsAll claim (flat_map (subroutine_duties area) sides) → IsInside claim cell.place (gosub_row text cell)
 one-inside claim area text cell good inside own [] fits met = absurd fits
 one-inside claim area text cell good inside own (pieces ∷ more) (inl here) met =
@@ -312,7 +312,7 @@ gosub_if-bounded claim area pieces arguments cell good inside own fits met = by 
     set : Bytes
     set = pieces_set pieces
 
-    fits-or : (o : Option (List (List Piece))) → sides_in pieces ≡ o → (side : List ℕ) → chosen_side arguments ≡ Some side → FitsOne (sides_or set o) side
+    fits-or : (o : Option (List (List PieceOf))) → sides_in pieces ≡ o → (side : List ℕ) → chosen_side arguments ≡ Some side → FitsOne (sides_or set o) side
     fits-or None from side is =
         inl (fits-any_bytes_of set side (chosen_side-within set arguments side (fits-set pieces arguments fits) is))
     fits-or (Some sides) from side is =

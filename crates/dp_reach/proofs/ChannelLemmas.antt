@@ -5,9 +5,9 @@ use Rattle.std.specs.List.{AllByRecursion}
 use Rattle.std.specs.Option.{option_map}
 use Rattle.dp_plan.specs.declared.entry.EntryId.{EntryId}
 use Rattle.dp_queue.specs.Queues.{QueueOf}
-use Rattle.dp_vars.specs.Stores.{Frame, innermost}
+use Rattle.dp_vars.specs.Stores.{StoreFrame, innermost}
 use Rattle.dp_queue.specs.declared.settings.Settings.{Settings}
-use Rattle.dp_machine.specs.Channels.{Change, Stays, TalkEnds, Talks, after_cancel, after_change, after_digit, after_dialling, ends_call, going_on, goes_on_after, hung_up, invalid, is_invalid, at_place_or_back, at_target, back_by, left_queue, after_move, ready_at, ready_in, runs_hang_up, after_talk, timed_out, after_no_answer, without_digits, after_wait, after_application, with_dial_status, with_value, without_frames}
+use Rattle.dp_machine.specs.Channels.{ChannelChange, Stays, TalkEnds, Talks, after_cancel, after_change, after_digit, after_dialling, ends_call, going_on, goes_on_after, hung_up, invalid, is_invalid, at_place_or_back, at_target, back_by, left_queue, after_move, ready_at, ready_in, runs_hang_up, after_talk, timed_out, after_no_answer, without_digits, after_wait, after_application, with_dial_status, with_value, without_frames}
 use Rattle.dp_machine.specs.Codes.{status_name}
 use Rattle.dp_machine.specs.Events.{way_out_of}
 use Rattle.dp_machine.specs.Found.{is_found}
@@ -37,16 +37,16 @@ pub record IsFound (P : Area → Type 0) (place : Place) : Type 0 where
   pub inside : IsIn area place
   pub holds : P area
 
-pub covered : (P : Area → Type 0) (areas : List Area) (place : Place) → AllByRecursion P areas → IsInOne areas place → IsFound P place
-covered P [] place all is = absurd is
-covered P (area ∷ areas) place all (inl here) = record { area = area; inside = here; holds = all.0 }
-covered P (area ∷ areas) place all (inr there) = covered P areas place all.1 there
+pub found_in_area : (P : Area → Type 0) (areas : List Area) (place : Place) → AllByRecursion P areas → IsInOne areas place → IsFound P place
+found_in_area P [] place all is = absurd is
+found_in_area P (area ∷ areas) place all (inl here) = record { area = area; inside = here; holds = all.0 }
+found_in_area P (area ∷ areas) place all (inr there) = found_in_area P areas place all.1 there
 
 module _ (owing : Obligations) (claim : Claim) (answers : EntryId → Bool) (closed : IsClosed owing claim answers) where
   -- the area of a covered place, if its context is known
   pub area-of : (place : Place) → Covers claim.plan claim.reach place → IsUnknown claim.plan place.context ⊎ IsFound (IsAreaClosed owing claim answers) place
   area-of place (inl unknown) = inl unknown
-  area-of place (inr is) = inr (covered (IsAreaClosed owing claim answers) claim.reach place closed.areas is)
+  area-of place (inr is) = inr (found_in_area (IsAreaClosed owing claim answers) claim.reach place closed.areas is)
 
   -- an extension of its context
   covers-beside : (place : Place) (exten : List ℕ) → ((area : Area) → IsAreaClosed owing claim answers area → Includes claim.plan claim.reach (beside area exten))
@@ -89,10 +89,10 @@ module _ (owing : Obligations) (claim : Claim) (answers : EntryId → Bool) (clo
   in-at_target c (Some place) here leads = in-ready c place here (leads place refl)
 
   -- back from the innermost frame
-  in-back_by : (c : Channel) (o : Option (Frame Place)) → IsChannelIn claim c → innermost c.store.frames ≡ o → IsChannelIn claim (back_by claim.plan c o)
+  in-back_by : (c : Channel) (o : Option (StoreFrame Place)) → IsChannelIn claim c → innermost c.store.frames ≡ o → IsChannelIn claim (back_by claim.plan c o)
   in-back_by c None here is = in-hung_up c here
   in-back_by c (Some frame) here is = record {
-    place = each-get (λ (frame : Frame Place). Covers claim.plan claim.reach frame.back) c.store.frames (length c.store.frames - 1) frame here.store.back is;
+    place = each-get (λ (frame : StoreFrame Place). Covers claim.plan claim.reach frame.back) c.store.frames (length c.store.frames - 1) frame here.store.back is;
     store = kept-without_frame claim c.store here.store;
     caller = here.caller;
     phase = tt;
@@ -155,7 +155,7 @@ module _ (owing : Obligations) (claim : Claim) (answers : EntryId → Bool) (clo
   in-after_talk c true here = in-left_queue c (codes "CONTINUE") here closed.named.talked
   in-after_talk c false here = in-hung_up c here
 
-  pub in-after_change : (change : Change) (c : Channel) → IsChannelIn claim c → IsChannelIn claim (after_change claim.plan change c)
+  pub in-after_change : (change : ChannelChange) (c : Channel) → IsChannelIn claim c → IsChannelIn claim (after_change claim.plan change c)
   in-after_change Stays c here = here
   in-after_change (Talks queue agent) c here = record { place = here.place; store = here.store; caller = here.caller; phase = tt }
   in-after_change TalkEnds c here = in-after_talk c (goes_on_after c.phase) here

@@ -12,9 +12,9 @@ use Rattle.dp_machine.specs.Targets.{parts_place}
 use Rattle.dp_flow.specs.Conditions.{chosen_side, chosen_by, holds, present_by, side_of}
 use Rattle.dp_flow.specs.Jumps.{goto_if_row, jump_if}
 use Rattle.dp_pieces.specs.Bytes.{Bytes, Within}
-use Rattle.dp_pieces.specs.Cuts.{At, Cutting, Nowhere, Unsure, cut_level, cut_pieces}
+use Rattle.dp_pieces.specs.Cuts.{At, CuttingOf, Nowhere, Unsure, cut_level, cut_pieces}
 use Rattle.dp_pieces.specs.Fitting.{IsCutAs}
-use Rattle.dp_pieces.specs.Pieces.{Fits, Piece, pieces_set}
+use Rattle.dp_pieces.specs.Pieces.{Fits, PieceOf, pieces_set}
 use Rattle.dp_pieces.proofs.CutLemmas.{cut-level, cut-pieces}
 use Rattle.dp_pieces.proofs.FitsLemmas.{fits-set}
 use Rattle.dp_pieces.proofs.WithinLemmas.{within-append}
@@ -31,8 +31,8 @@ present-is side [] result is = absurd cc
 present-is side (b ∷ bs) result is = cc
 
 -- a side of a choice fits one of the sides of its pieces
-pub side-fits : (text : List ℕ) (rest : List Piece) → Fits rest text → (cutting : Cutting) (cut : Option (List ℕ × List ℕ)) → IsCutAs cutting cut
-    → (sides : List (List Piece)) → sides_by rest cutting ≡ Some sides → (taken : Bool) (side result : List ℕ)
+pub side-fits : (text : List ℕ) (rest : List PieceOf) → Fits rest text → (cutting : CuttingOf) (cut : Option (List ℕ × List ℕ)) → IsCutAs cutting cut
+    → (sides : List (List PieceOf)) → sides_by rest cutting ≡ Some sides → (taken : Bool) (side result : List ℕ)
     → side_of taken text cut ≡ Some side → side ≡ result → FitsOne sides result
 side-fits text rest fits Nowhere (Some cut) are sides known taken side result is same = absurd cc
 side-fits text rest fits Nowhere None are sides known true side result is same =
@@ -50,12 +50,12 @@ pub chosen_side-side : (o : Option (List ℕ)) (result : List ℕ) → option_an
 chosen_side-side None result is = absurd cc
 chosen_side-side (Some side) result is = ap (λ s. Some s) (present-is side (trim side) result is)
 
-pub chosen_side-fits : (pieces : List Piece) (text result : List ℕ) → Fits pieces text → (sides : List (List Piece)) → sides_in pieces ≡ Some sides → chosen_side text ≡ Some result
+pub chosen_side-fits : (pieces : List PieceOf) (text result : List ℕ) → Fits pieces text → (sides : List (List PieceOf)) → sides_in pieces ≡ Some sides → chosen_side text ≡ Some result
     → FitsOne sides result
 unfolding chosen_side
 chosen_side-fits pieces text result fits sides known is = by (cut_pieces 63 pieces) (cut_once 63 text) (cut-pieces 63 pieces text fits) known is
   where
-    by : (cutting : Cutting) (cut : Option (List ℕ × List ℕ)) → IsCutAs cutting cut → sides_of cutting ≡ Some sides → chosen_by cut ≡ Some result → FitsOne sides result
+    by : (cutting : CuttingOf) (cut : Option (List ℕ × List ℕ)) → IsCutAs cutting cut → sides_of cutting ≡ Some sides → chosen_by cut ≡ Some result → FitsOne sides result
     by Nowhere None are known is = absurd cc
     by Nowhere (Some cut) are known is = absurd cc
     by Unsure cut are known is = absurd cc
@@ -97,7 +97,7 @@ chosen_side-within set text result within is = by (cut_once 63 text) refl is
 
 -- the target of one of the sides
 pub in-one : (plan : PlanOf) (area : Area) (own place : Place) (text : List ℕ) → IsIn area own → parts_place plan own (arguments_of text) ≡ Some place
-    → (sides : List (List Piece)) → FitsOne sides text → IsInOne (flat_map (targets area) sides) place
+    → (sides : List (List PieceOf)) → FitsOne sides text → IsInOne (flat_map (targets area) sides) place
 in-one plan area own place text inside found [] fits = absurd fits
 in-one plan area own place text inside found (pieces ∷ more) (inl here) =
     in-front (targets area pieces) (flat_map (targets area) more) place (in-targets plan area own place pieces text inside here found)
@@ -105,11 +105,11 @@ in-one plan area own place text inside found (pieces ∷ more) (inr there) =
     in-later (targets area pieces) (flat_map (targets area) more) place (in-one plan area own place text inside found more there)
 
 -- the target of the choice
-pub covers-chosen_side : (claim : Claim) (area : Area) (own place : Place) (pieces : List Piece) (set : Bytes) (text side : List ℕ) → IsIn area own → Fits pieces text → Within set text
+pub covers-chosen_side : (claim : Claim) (area : Area) (own place : Place) (pieces : List PieceOf) (set : Bytes) (text side : List ℕ) → IsIn area own → Fits pieces text → Within set text
     → MeetsAll claim (sides_duties area set (sides_in pieces)) → chosen_side text ≡ Some side → parts_place claim.plan own (arguments_of side) ≡ Some place → Covers claim.plan claim.reach place
 covers-chosen_side claim area own place pieces set text side inside fits within met is found = by (sides_in pieces) refl met
   where
-    by : (o : Option (List (List Piece))) → sides_in pieces ≡ o → MeetsAll claim (sides_duties area set o) → Covers claim.plan claim.reach place
+    by : (o : Option (List (List PieceOf))) → sides_in pieces ≡ o → MeetsAll claim (sides_duties area set o) → Covers claim.plan claim.reach place
     by None from met =
         covers-included claim.plan claim.reach (targets_within area set) place (includes-all claim (targets_within area set) met)
         (in-within claim.plan own place area set (arguments_of side) inside (arguments-within set side (chosen_side-within set text side within is)) found)

@@ -8,7 +8,7 @@ use Rattle.dp_queue.specs.Joining.{should_leave}
 use Rattle.dp_vars.specs.Functions.{SettingTarget, Variable, Global, Local, Caller, Nothing}
 use Rattle.dp_vars.specs.Values.{expansion_with}
 use Rattle.dp_machine.specs.Channels.{invalid, is_invalid, hung_up, ready_at}
-use Rattle.dp_machine.specs.Events.{Own, application_outcome, assign_row, assigned, cell_of, dial_in, dial_result_in, dial_result_row, dial_time, digit_row, hang_up_in, hang_up_row, is_digit, is_over, leave, poll_in, poll_queue, poll_row, after_run, refuse, step_at, step_in, step_row, take_event, time_in_queue, timeout_in, timeout_row, unfound, way_out, way_out_of, with_shared_global, without_caller, without_talk}
+use Rattle.dp_machine.specs.Events.{Own, application_outcome, assign_row, assign_value, cell_of, dial_in, dial_result_in, dial_result_row, dial_time, digit_row, hang_up_in, hang_up_row, is_digit, is_over, leave, poll_in, poll_queue, poll_row, after_run, refuse, step_at, step_in, step_row, take_event, time_in_queue, timeout_in, timeout_row, step_without_entry, way_out, way_out_of, with_shared_global, without_caller, without_talk}
 use Rattle.dp_machine.specs.Found.{Located, could_go_on, entry_found, is_found}
 use Rattle.dp_machine.specs.Seen.{arguments_seen, sight_in}
 use Rattle.dp_machine.specs.Targets.{place_of}
@@ -84,8 +84,8 @@ module _ (touches : List ℕ → Touch) (rows : Rows) (lawful : IsLawful touches
   shared-ended shared number all = record { globals = all.globals; settings = end_talk-settings shared.queues number ∙ all.settings }
 
   -- a step that finds no entry
-  own-unfound : (shared : SharedState) (c : Channel) → IsSharedIn claim shared → IsChannelIn claim c → IsOwnIn claim answers (unfound claim.plan shared c)
-  unfolding unfound
+  own-unfound : (shared : SharedState) (c : Channel) → IsSharedIn claim shared → IsChannelIn claim c → IsOwnIn claim answers (step_without_entry claim.plan shared c)
+  unfolding step_without_entry
   own-unfound shared c all here = by (is_invalid claim.plan c.place) refl
     where
       by : (b : Bool) → is_invalid claim.plan c.place ≡ b → IsOwnIn claim answers (if b then record { channel = invalid c; shared = shared; reply = Invalid }
@@ -157,7 +157,7 @@ module _ (touches : List ℕ → Touch) (rows : Rows) (lawful : IsLawful touches
 
   -- a value that is set from outside
   own-assigned : (target : SettingTarget) (value : List ℕ) (shared : SharedState) (c : Channel) → IsSharedIn claim shared → IsChannelIn claim c → MayBeSet claim target value
-      → IsOwnIn claim answers (assigned target value shared c)
+      → IsOwnIn claim answers (assign_value target value shared c)
   own-assigned (Variable name) value shared c all here may = own-taken shared _ all (in-with_value owing claim answers closed c name value here may)
   own-assigned (Global name) value shared c all here may =
       own-taken (with_shared_global shared name value) c (shared-global claim shared name value all may) here
@@ -171,7 +171,7 @@ module _ (touches : List ℕ → Touch) (rows : Rows) (lawful : IsLawful touches
   unfolding assign_row
   own-assign name value shared number c all here may = by (is_over c.phase)
     where
-      by : (b : Bool) → IsOwnIn claim answers (if b then refuse refused_ended shared c else assigned (owing.functions.target name) value shared c)
+      by : (b : Bool) → IsOwnIn claim answers (if b then refuse refused_ended shared c else assign_value (owing.functions.target name) value shared c)
       by true = own-refused refused_ended shared c all here
       by false = own-assigned (owing.functions.target name) value shared c all here may
 

@@ -6,7 +6,7 @@ use Rattle.dp_conf.specs.Levels.{cut_outside}
 use Rattle.dp_pieces.specs.Arguments.{shapes_of, split_pieces}
 use Rattle.dp_pieces.specs.Bytes.{digits}
 use Rattle.dp_pieces.specs.Names.{Names, head_pieces}
-use Rattle.dp_pieces.specs.Pieces.{AnyOf, Known, OneOf, Piece, exactly, any_bytes_of, pieces_set}
+use Rattle.dp_pieces.specs.Pieces.{AnyOf, Known, OneOf, PieceOf, exactly, any_bytes_of, pieces_set}
 use Rattle.dp_pieces.specs.Texts.{pieces_by, text_pieces}
 use Rattle.dp_reach.specs.Areas.{Area, area_at}
 use Rattle.dp_reach.specs.Bounds.{Anything, Calls, Duties, Duty, Holds, HoldsAll, Leads, Waits, gosub_duties, goto_duties, goto_if_duties}
@@ -20,7 +20,7 @@ abbrev here : Area
 here = area_at (exactly (codes "from-pstn")) (any_bytes_of digits)
 
 -- a shape and a duty in words: `.` for one byte and `*` for any number of bytes
-abbrev told_shape : List Piece → List ℕ
+abbrev told_shape : List PieceOf → List ℕ
 told_shape [] = []
 told_shape (Known byte ∷ pieces) = byte ∷ told_shape pieces
 told_shape (OneOf set ∷ pieces) = 46 ∷ told_shape pieces

@@ -10,7 +10,7 @@ use Rattle.dp_queue.specs.declared.change.Removed.{Removed}
 use Rattle.dp_queue.specs.declared.change.Removed.TheVariants.{NoSuchQueue as no_queue, NotInQueue, NotDynamic, Removed as removed}
 use Rattle.dp_queue.specs.declared.join.Join.{Join}
 use Rattle.dp_queue.specs.declared.join.Join.TheVariants.{Unknown, Empty, Full, Joined}
-use Rattle.dp_vars.specs.Stores.{Frame, StoreOf, innermost, popped_setting, set}
+use Rattle.dp_vars.specs.Stores.{StoreFrame, StoreOf, innermost, popped_setting, set}
 use Rattle.dp_app.specs.Parts.{has_option, is_given, part}
 use Rattle.dp_app.specs.Cells.{CellOf}
 use Rattle.dp_app.specs.declared.phase.Phase.{Phase}
@@ -31,7 +31,7 @@ use Rattle.dp_pieces.proofs.FitsLemmas.{fits-exactly, fits-any_bytes_of, fits-se
 use Rattle.dp_pieces.proofs.WithinLemmas.{within-more, within-own}
 use Rattle.dp_reach.specs.Areas.{Area, Covers, Includes, IsIn, area_at, beside}
 use Rattle.dp_reach.specs.Bounds.{Holds, IsBounded, Meets, MeetsAll, add_duties, dial_duties, digits_duties, nothing_owed, pause_duties, queue_duties, remove_duties, return_duties, tells, unpause_duties}
-use Rattle.dp_reach.specs.Holding.{Claim, IsDialled, IsGood, IsInside, IsKept, IsPhaseIn, LeadsInto}
+use Rattle.dp_reach.specs.Holding.{Claim, IsDialled, IsGood, IsInside, KeepsToClaim, IsPhaseIn, LeadsInto}
 use Rattle.dp_reach.proofs.StoreLemmas.{each-get, kept-set, kept-without_frame}
 
 pub next-bounded : IsBounded nothing_owed next_row
@@ -65,7 +65,7 @@ background-bounded claim area pieces arguments cell good inside own fits met =
     record { cell = good; next = leads-park_move claim cell.place (Digits [] true) cell.is_closing (dials-in claim area cell.place inside met.0 met.1.0) }
 
 -- a cell with another store, or with other queues
-good-store : (claim : Claim) (cell : CellOf) (store : StoreOf Place) → IsGood claim cell → IsKept claim store → IsGood claim (record cell { store = store })
+good-store : (claim : Claim) (cell : CellOf) (store : StoreOf Place) → IsGood claim cell → KeepsToClaim claim store → IsGood claim (record cell { store = store })
 good-store claim cell store good kept = record { store = kept; globals = good.globals; caller = good.caller }
 
 pub stack_pop-bounded : IsBounded nothing_owed stack_pop_row
@@ -80,18 +80,18 @@ return-bounded claim area pieces arguments cell good inside own fits met = by (i
     value : List ℕ
     value = arguments
 
-    by : (o : Option (Frame Place)) → innermost cell.store.frames ≡ o → IsInside claim cell.place (return_outcome cell (popped_setting cell.store (codes "GOSUB_RETVAL") value o))
+    by : (o : Option (StoreFrame Place)) → innermost cell.store.frames ≡ o → IsInside claim cell.place (return_outcome cell (popped_setting cell.store (codes "GOSUB_RETVAL") value o))
     by None is = record { cell = good; next = tt }
     by (Some frame) is = record {
       cell = good-store claim cell _ good (kept-set claim _ (codes "GOSUB_RETVAL") value (kept-without_frame claim cell.store good.store)
           (within-more (pieces_set pieces) _ met.0 value (fits-set pieces arguments fits)));
       next = λ place found.
           let same : frame.back ≡ place = cc in
-          subst (Covers claim.plan claim.reach) same (each-get (λ (frame : Frame Place). Covers claim.plan claim.reach frame.back) cell.store.frames (length cell.store.frames - 1) frame good.store.back is);
+          subst (Covers claim.plan claim.reach) same (each-get (λ (frame : StoreFrame Place). Covers claim.plan claim.reach frame.back) cell.store.frames (length cell.store.frames - 1) frame good.store.back is);
     }
 
 -- a name is set to a known text
-good-told : (claim : Claim) (cell : CellOf) (name text : List ℕ) → IsGood claim cell → Meets claim (Holds name (bytes_in text)) → IsKept claim (set cell.store name text)
+good-told : (claim : Claim) (cell : CellOf) (name text : List ℕ) → IsGood claim cell → Meets claim (Holds name (bytes_in text)) → KeepsToClaim claim (set cell.store name text)
 good-told claim cell name text good met = kept-set claim cell.store name text good.store (within-more (bytes_in text) (claim.names.bytes name) met text (within-own text))
 
 pub dial-bounded : IsBounded dial_duties dial_row

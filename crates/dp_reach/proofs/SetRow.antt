@@ -10,9 +10,9 @@ use Rattle.dp_app.specs.Cells.{CellOf}
 use Rattle.dp_flow.specs.Settings.{argument_of, set_row, with_called, with_function, with_name, with_pair, with_variable}
 use Rattle.dp_pieces.specs.Bytes.{Bytes, Within}
 use Rattle.dp_pieces.specs.Cuts.{cut_known, with_byte}
-use Rattle.dp_pieces.specs.Pieces.{AnyOf, Fits, Known, OneOf, Piece, pieces_set}
+use Rattle.dp_pieces.specs.Pieces.{AnyOf, Fits, Known, OneOf, PieceOf, pieces_set}
 use Rattle.dp_pieces.proofs.FitsLemmas.{fits-set}
-use Rattle.dp_pieces.proofs.LastLemmas.{IsHeaded, headed}
+use Rattle.dp_pieces.proofs.LastLemmas.{IsHeaded, known_cut_heads}
 use Rattle.dp_pieces.proofs.WithinLemmas.{within-more}
 use Rattle.dp_reach.specs.Bounds.{Calls, Holds, HoldsAll, IsBounded, MeetsAll}
 use Rattle.dp_reach.specs.Holding.{Claim, IsGood}
@@ -21,24 +21,24 @@ use Rattle.dp_reach.proofs.CallPieces.{cut-trimmed}
 use Rattle.dp_reach.proofs.StoreLemmas.{held-insert, kept-set, kept-set_local}
 
 -- if no text is known before one byte, a text that is known before another has none of it
-known-avoids : (mark byte : ℕ) (pieces : List Piece) (cut : List ℕ × List Piece) → cut_known mark pieces ≡ None → cut_known byte pieces ≡ Some cut → Avoids mark cut.0
+known-avoids : (mark byte : ℕ) (pieces : List PieceOf) (cut : List ℕ × List PieceOf) → cut_known mark pieces ≡ None → cut_known byte pieces ≡ Some cut → Avoids mark cut.0
 known-avoids mark byte [] cut none is = absurd cc
 known-avoids mark byte (OneOf set ∷ pieces) cut none is = absurd cc
 known-avoids mark byte (AnyOf set ∷ pieces) cut none is = absurd cc
 known-avoids mark byte (Known b ∷ pieces) cut none is =
     by (b == mark) (b == byte) refl (λ c away from. known-avoids mark byte pieces c away from) none is
   where
-    first : (o : Option (List ℕ × List Piece)) → with_byte b o ≡ None → o ≡ None
+    first : (o : Option (List ℕ × List PieceOf)) → with_byte b o ≡ None → o ≡ None
     first None same = refl
     first (Some c) same = absurd cc
 
-    later : (o : Option (List ℕ × List Piece)) → cut_known byte pieces ≡ o → with_byte b o ≡ Some cut → (b == mark) ≡ false
-        → ((c : List ℕ × List Piece) → cut_known byte pieces ≡ Some c → Avoids mark c.0) → Avoids mark cut.0
+    later : (o : Option (List ℕ × List PieceOf)) → cut_known byte pieces ≡ o → with_byte b o ≡ Some cut → (b == mark) ≡ false
+        → ((c : List ℕ × List PieceOf) → cut_known byte pieces ≡ Some c → Avoids mark c.0) → Avoids mark cut.0
     later None from same other more = absurd cc
     later (Some c) from same other more = subst (Avoids mark) (let front : b ∷ c.0 ≡ cut.0 = cc in front) (other, more c from)
 
     by : (at_mark at_byte : Bool) → (b == mark) ≡ at_mark
-        → ((c : List ℕ × List Piece) → cut_known mark pieces ≡ None → cut_known byte pieces ≡ Some c → Avoids mark c.0)
+        → ((c : List ℕ × List PieceOf) → cut_known mark pieces ≡ None → cut_known byte pieces ≡ Some c → Avoids mark c.0)
         → (if at_mark then Some ([], pieces) else with_byte b (cut_known mark pieces)) ≡ None
         → (if at_byte then Some ([], pieces) else with_byte b (cut_known byte pieces)) ≡ Some cut → Avoids mark cut.0
     by true at_byte other more none is = absurd cc
@@ -162,7 +162,7 @@ module _ (claim : Claim) where
       by false false false d met = tt
 
   -- a pair of which only a function's name is known
-  good-headed : (cell : CellOf) (arguments : List ℕ) (set : Bytes) (cut : List ℕ × List Piece) → IsGood claim cell → Within set arguments → Avoids 61 cut.0
+  good-headed : (cell : CellOf) (arguments : List ℕ) (set : Bytes) (cut : List ℕ × List PieceOf) → IsGood claim cell → Within set arguments → Avoids 61 cut.0
       → IsHeaded 40 cut arguments → MeetsAll claim (any_argument_duties (trim_start cut.0) set) → IsGood claim (with_pair cell (cut_once 61 arguments))
   good-headed cell arguments set cut good is clear known met = by (cut_once 61 arguments) refl
     where
@@ -178,19 +178,19 @@ module _ (claim : Claim) where
           with-argument None has = good
           with-argument (Some argument) has = good-function cell (trim_start cut.0) argument pair.1 set good has (each-argument (trim_start cut.0) argument set met)
 
-  good-unknown : (cell : CellOf) (arguments : List ℕ) (pieces : List Piece) → IsGood claim cell → Fits pieces arguments → cut_known 61 pieces ≡ None
-      → (o : Option (List ℕ × List Piece)) → cut_known 40 pieces ≡ o → MeetsAll claim (unknown_duties (pieces_set pieces) o) → IsGood claim (with_pair cell (cut_once 61 arguments))
+  good-unknown : (cell : CellOf) (arguments : List ℕ) (pieces : List PieceOf) → IsGood claim cell → Fits pieces arguments → cut_known 61 pieces ≡ None
+      → (o : Option (List ℕ × List PieceOf)) → cut_known 40 pieces ≡ o → MeetsAll claim (unknown_duties (pieces_set pieces) o) → IsGood claim (with_pair cell (cut_once 61 arguments))
   good-unknown cell arguments pieces good fits none None from met =
       good-each cell arguments (pieces_set pieces) good (fits-set pieces arguments fits) met
   good-unknown cell arguments pieces good fits none (Some cut) from met =
       good-headed cell arguments (pieces_set pieces) cut good (fits-set pieces arguments fits) (known-avoids 61 40 pieces cut none from)
-      (headed 40 pieces arguments cut from fits) met
+      (known_cut_heads 40 pieces arguments cut from fits) met
 
-  good-pair : (cell : CellOf) (arguments : List ℕ) (pieces : List Piece) → IsGood claim cell → Fits pieces arguments
-      → (o : Option (List ℕ × List Piece)) → cut_known 61 pieces ≡ o → MeetsAll claim (pair_duties pieces o) → IsGood claim (with_pair cell (cut_once 61 arguments))
+  good-pair : (cell : CellOf) (arguments : List ℕ) (pieces : List PieceOf) → IsGood claim cell → Fits pieces arguments
+      → (o : Option (List ℕ × List PieceOf)) → cut_known 61 pieces ≡ o → MeetsAll claim (pair_duties pieces o) → IsGood claim (with_pair cell (cut_once 61 arguments))
   good-pair cell arguments pieces good fits None from met = good-unknown cell arguments pieces good fits from (cut_known 40 pieces) refl met
   good-pair cell arguments pieces good fits (Some cut) from met =
-      let known = headed 61 pieces arguments cut from fits in
+      let known = known_cut_heads 61 pieces arguments cut from fits in
       subst (λ o. IsGood claim (with_pair cell o)) (sym (ap (cut_once 61) known.whole ∙ cut_once-here 61 cut.0 known.rest known.avoids))
       (good-name cell (trim cut.0) known.rest (cut_once 40 (trim cut.0)) (pieces_set cut.1) good (fits-set cut.1 known.rest known.fits) met)
 

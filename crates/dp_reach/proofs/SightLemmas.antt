@@ -9,7 +9,7 @@ use Rattle.std.specs.Option.{option_and_then, option_or}
 use Rattle.dp_conf.proofs.TextLemmas.{each-append}
 use Rattle.dp_vars.proofs.VariablesLemmas.{get-texts}
 use Rattle.dp_vars.specs.Sights.{channel_map, channel_name, given_by, local_seen}
-use Rattle.dp_vars.specs.Stores.{Frame, all_locals, innermost, local_in, searched_maps}
+use Rattle.dp_vars.specs.Stores.{StoreFrame, all_locals, innermost, local_in, searched_maps}
 use Rattle.dp_vars.specs.Variables.{Named, first_value, value_or_empty}
 use Rattle.dp_machine.specs.Seen.{sight_in, view_in}
 use Rattle.dp_machine.specs.declared.channel.Channel.{Channel}
@@ -22,8 +22,8 @@ use Rattle.dp_pieces.proofs.FitsLemmas.{fits-any_bytes_of}
 use Rattle.dp_pieces.proofs.NumeralLemmas.{within-decimal}
 use Rattle.dp_pieces.proofs.WithinLemmas.{within-append, within-more}
 use Rattle.dp_reach.specs.Areas.{Area, IsIn, names_at}
-use Rattle.dp_reach.specs.Closed.{AreNamed}
-use Rattle.dp_reach.specs.Holding.{AreHeld, Claim, IsHeld, IsKept}
+use Rattle.dp_reach.specs.Closed.{HasMachineNames}
+use Rattle.dp_reach.specs.Holding.{AreHeld, Claim, IsHeld, KeepsToClaim}
 use Rattle.dp_reach.proofs.StoreLemmas.{each-get}
 
 -- the first value of maps
@@ -47,13 +47,13 @@ pub each-reverse : {X : Type 0} (P : X → Type 0) (xs : List X) → AllByRecurs
 each-reverse P [] all = tt
 each-reverse P (x ∷ xs) all = subst (AllByRecursion P) (sym (reverse-append (x ∷ []) xs)) (each-append P (reverse xs) (x ∷ []) (each-reverse P xs all.1) (all.0, tt))
 
-pub locals-held : (names : Names) (frames : List (Frame Place)) → AllByRecursion (λ (frame : Frame Place). AreHeld names frame.locals) frames
-    → AllByRecursion (AreHeld names) (map (λ (frame : Frame Place). frame.locals) frames)
+pub locals-held : (names : Names) (frames : List (StoreFrame Place)) → AllByRecursion (λ (frame : StoreFrame Place). AreHeld names frame.locals) frames
+    → AllByRecursion (AreHeld names) (map (λ (frame : StoreFrame Place). frame.locals) frames)
 locals-held names [] all = tt
 locals-held names (frame ∷ frames) all = (all.0, locals-held names frames all.1)
 
-module _ (claim : Claim) (named : AreNamed claim) (shared : SharedState) (number : ℕ) (c : Channel) (area : Area) (inside : IsIn area c.place) (exten : IsPart (pieces_set area.exten) claim.names.all)
-    (context : IsPart (pieces_set area.context) claim.names.all) (kept : IsKept claim c.store) (globals : AreHeld claim.names shared.globals) (caller : Within claim.names.caller c.caller) where
+module _ (claim : Claim) (named : HasMachineNames claim) (shared : SharedState) (number : ℕ) (c : Channel) (area : Area) (inside : IsIn area c.place) (exten : IsPart (pieces_set area.exten) claim.names.all)
+    (context : IsPart (pieces_set area.context) claim.names.all) (kept : KeepsToClaim claim c.store) (globals : AreHeld claim.names shared.globals) (caller : Within claim.names.caller c.caller) where
   -- what a name has besides the channel's extension and context
   rest-held : (name : List ℕ) → IsHeld (claim.names.bytes name) (cond (pointwise nat_eq name (codes "PRIORITY")) (Some (decimal c.place.priority))
       (cond (pointwise nat_eq name (codes "CHANNEL")) (Some (channel_name number)) None))
@@ -72,14 +72,14 @@ module _ (claim : Claim) (named : AreNamed claim) (shared : SharedState) (number
 
   stored-held : AllByRecursion (AreHeld claim.names) (searched_maps c.store)
   stored-held = each-append (AreHeld claim.names) (all_locals c.store.frames) (c.store.variables ∷ [])
-      (locals-held claim.names (reverse c.store.frames) (each-reverse (λ (frame : Frame Place). AreHeld claim.names frame.locals) c.store.frames kept.locals)) (kept.variables, tt)
+      (locals-held claim.names (reverse c.store.frames) (each-reverse (λ (frame : StoreFrame Place). AreHeld claim.names frame.locals) c.store.frames kept.locals)) (kept.variables, tt)
 
   local-within : (name : List ℕ) → Within (claim.names.bytes name) (local_seen (Some c.store) name)
   local-within name = within-held claim.names (claim.names.bytes name) (local_in c.store name) (by (innermost c.store.frames) refl)
     where
-      by : (o : Option (Frame Place)) → innermost c.store.frames ≡ o → IsHeld (claim.names.bytes name) (option_and_then (λ frame. get frame.locals name) o)
+      by : (o : Option (StoreFrame Place)) → innermost c.store.frames ≡ o → IsHeld (claim.names.bytes name) (option_and_then (λ frame. get frame.locals name) o)
       by None is = tt
-      by (Some frame) is = each-get (λ (frame : Frame Place). AreHeld claim.names frame.locals) c.store.frames (length c.store.frames - 1) frame kept.locals is name
+      by (Some frame) is = each-get (λ (frame : StoreFrame Place). AreHeld claim.names frame.locals) c.store.frames (length c.store.frames - 1) frame kept.locals is name
 
   -- a variable
   variable-fits : (name : List ℕ) → Fits (variable_pieces (names_at claim.names area) name)

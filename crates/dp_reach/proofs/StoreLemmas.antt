@@ -5,14 +5,14 @@ use Rattle.std.specs.Cmp.Lexicographic.{bytes_decides, nat_list_cmp_total, point
 use Rattle.std.specs.Ordering.{nat_cmp}
 use Rattle.std.specs.FinMap.{empty, get, get-empty, get-insert, insert}
 use Rattle.dp_conf.proofs.TextLemmas.{each-append, each-take}
-use Rattle.dp_vars.specs.Stores.{Frame, StoreOf, changed_at, holder, set, set_in, set_local, with_frame, with_local, without_frame}
+use Rattle.dp_vars.specs.Stores.{StoreFrame, StoreOf, changed_at, holder, set, set_in, set_local, with_frame, with_local, without_frame}
 use Rattle.dp_vars.specs.Variables.{Named, map_of, map_with}
 use Rattle.dp_vars.specs.declared.local.Local.{Local}
 use Rattle.dp_app.specs.declared.place.Place.{Place}
 use Rattle.dp_pieces.specs.Bytes.{Within}
 use Rattle.dp_pieces.specs.Names.{Names}
 use Rattle.dp_reach.specs.Areas.{Covers}
-use Rattle.dp_reach.specs.Holding.{AreHeld, Claim, IsHeld, IsKept}
+use Rattle.dp_reach.specs.Holding.{AreHeld, Claim, IsHeld, KeepsToClaim}
 
 -- an element of a list with this property
 pub each-get : {X : Type 0} (P : X → Type 0) (xs : List X) (i : ℕ) (x : X) → AllByRecursion P xs → slice_get xs i ≡ Some x → P x
@@ -44,57 +44,57 @@ held-locals names values (local ∷ locals) held all =
 
 module _ (claim : Claim) where
   -- a frame with its locals and its return place
-  abbrev IsFrame : Frame Place → Type 0
+  abbrev IsFrame : StoreFrame Place → Type 0
   IsFrame frame = AreHeld claim.names frame.locals × Covers claim.plan claim.reach frame.back
 
-  frames-of : (frames : List (Frame Place)) → AllByRecursion (λ (frame : Frame Place). AreHeld claim.names frame.locals) frames
-      → AllByRecursion (λ (frame : Frame Place). Covers claim.plan claim.reach frame.back) frames → AllByRecursion IsFrame frames
+  frames-of : (frames : List (StoreFrame Place)) → AllByRecursion (λ (frame : StoreFrame Place). AreHeld claim.names frame.locals) frames
+      → AllByRecursion (λ (frame : StoreFrame Place). Covers claim.plan claim.reach frame.back) frames → AllByRecursion IsFrame frames
   frames-of [] locals back = tt
   frames-of (frame ∷ frames) locals back = ((locals.0, back.0), frames-of frames locals.1 back.1)
 
-  locals-of : (frames : List (Frame Place)) → AllByRecursion IsFrame frames → AllByRecursion (λ (frame : Frame Place). AreHeld claim.names frame.locals) frames
+  locals-of : (frames : List (StoreFrame Place)) → AllByRecursion IsFrame frames → AllByRecursion (λ (frame : StoreFrame Place). AreHeld claim.names frame.locals) frames
   locals-of [] all = tt
   locals-of (frame ∷ frames) all = (all.0.0, locals-of frames all.1)
 
-  backs-of : (frames : List (Frame Place)) → AllByRecursion IsFrame frames → AllByRecursion (λ (frame : Frame Place). Covers claim.plan claim.reach frame.back) frames
+  backs-of : (frames : List (StoreFrame Place)) → AllByRecursion IsFrame frames → AllByRecursion (λ (frame : StoreFrame Place). Covers claim.plan claim.reach frame.back) frames
   backs-of [] all = tt
   backs-of (frame ∷ frames) all = (all.0.1, backs-of frames all.1)
 
-  kept-by : (store : StoreOf Place) → AreHeld claim.names store.variables → AllByRecursion IsFrame store.frames → IsKept claim store
+  kept-by : (store : StoreOf Place) → AreHeld claim.names store.variables → AllByRecursion IsFrame store.frames → KeepsToClaim claim store
   kept-by store variables frames = record { variables = variables; locals = locals-of store.frames frames; back = backs-of store.frames frames }
 
-  kept-frames : (store : StoreOf Place) → IsKept claim store → AllByRecursion IsFrame store.frames
+  kept-frames : (store : StoreOf Place) → KeepsToClaim claim store → AllByRecursion IsFrame store.frames
   kept-frames store kept = frames-of store.frames kept.locals kept.back
 
-  changed-frames : (name value : List ℕ) → Within (claim.names.bytes name) value → (place : ℕ) (frames : List (Frame Place)) → AllByRecursion IsFrame frames
+  changed-frames : (name value : List ℕ) → Within (claim.names.bytes name) value → (place : ℕ) (frames : List (StoreFrame Place)) → AllByRecursion IsFrame frames
       → AllByRecursion IsFrame (changed_at (with_local name value) place frames)
   changed-frames name value is place [] all = tt
   changed-frames name value is zero (frame ∷ frames) all = ((held-insert claim.names frame.locals name value all.0.0 is, all.0.1), all.1)
   changed-frames name value is (suc place) (frame ∷ frames) all = (all.0, changed-frames name value is place frames all.1)
 
   -- a name is set
-  pub kept-set : (store : StoreOf Place) (name value : List ℕ) → IsKept claim store → Within (claim.names.bytes name) value → IsKept claim (set store name value)
+  pub kept-set : (store : StoreOf Place) (name value : List ℕ) → KeepsToClaim claim store → Within (claim.names.bytes name) value → KeepsToClaim claim (set store name value)
   unfolding set
   kept-set store name value kept is = by (holder name store.frames)
     where
-      by : (place : Option ℕ) → IsKept claim (set_in place store name value)
+      by : (place : Option ℕ) → KeepsToClaim claim (set_in place store name value)
       by None = kept-by (set_in None store name value) (held-insert claim.names store.variables name value kept.variables is) (kept-frames store kept)
       by (Some place) = kept-by (set_in (Some place) store name value) kept.variables (changed-frames name value is place store.frames (kept-frames store kept))
 
   -- a local of the innermost frame is set
-  pub kept-set_local : (store : StoreOf Place) (name value : List ℕ) → IsKept claim store → Within (claim.names.bytes name) value → IsKept claim (set_local store name value)
+  pub kept-set_local : (store : StoreOf Place) (name value : List ℕ) → KeepsToClaim claim store → Within (claim.names.bytes name) value → KeepsToClaim claim (set_local store name value)
   unfolding set_local
   kept-set_local store name value kept is =
       kept-by (set_local store name value) kept.variables (changed-frames name value is (length store.frames - 1) store.frames (kept-frames store kept))
 
   -- a frame is pushed
-  pub kept-with_frame : (store : StoreOf Place) (back : Place) (locals : List Local) → IsKept claim store → Covers claim.plan claim.reach back → AreLocals claim.names locals
-      → IsKept claim (with_frame store back locals)
+  pub kept-with_frame : (store : StoreOf Place) (back : Place) (locals : List Local) → KeepsToClaim claim store → Covers claim.plan claim.reach back → AreLocals claim.names locals
+      → KeepsToClaim claim (with_frame store back locals)
   kept-with_frame store back locals kept covers all =
       kept-by (with_frame store back locals) kept.variables
       (each-append IsFrame store.frames (record { back = back; locals = map_of locals } ∷ []) (kept-frames store kept) ((held-locals claim.names empty locals (held-empty claim.names) all, covers), tt))
 
   -- a frame is dropped
-  pub kept-without_frame : (store : StoreOf Place) → IsKept claim store → IsKept claim (without_frame store)
+  pub kept-without_frame : (store : StoreOf Place) → KeepsToClaim claim store → KeepsToClaim claim (without_frame store)
   kept-without_frame store kept =
       kept-by (without_frame store) kept.variables (each-take IsFrame (length store.frames - 1) store.frames (kept-frames store kept))

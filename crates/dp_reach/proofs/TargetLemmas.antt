@@ -11,14 +11,14 @@ use Rattle.dp_app.specs.declared.place.Place.{Place}
 use Rattle.dp_pieces.specs.Arguments.{are_clean, shapes_of}
 use Rattle.dp_pieces.specs.Bytes.{Bytes, Within}
 use Rattle.dp_pieces.specs.Fitting.{AllFit}
-use Rattle.dp_pieces.specs.Pieces.{AnyOf, Fits, Known, OneOf, Piece, any_bytes_of, pieces_set}
+use Rattle.dp_pieces.specs.Pieces.{AnyOf, Fits, Known, OneOf, PieceOf, any_bytes_of, pieces_set}
 use Rattle.dp_pieces.proofs.ArgumentLemmas.{fits-arguments}
 use Rattle.dp_pieces.proofs.FitsLemmas.{fits-any_bytes_of, fits-set}
 use Rattle.dp_pieces.proofs.WithinLemmas.{within-trim}
 use Rattle.dp_reach.specs.Areas.{Area, Covers, IncludesAll, IsIn, IsInOne, IsUnknown, area_at, areas_of, may_be_empty, or_own, targets, targets_of, targets_within}
 
 -- the text fits one of these
-abbrev pub FitsOne : List (List Piece) → List ℕ → Type 0
+abbrev pub FitsOne : List (List PieceOf) → List ℕ → Type 0
 FitsOne [] text = ⊥
 FitsOne (pieces ∷ more) text = Fits pieces text ⊎ FitsOne more text
 
@@ -27,7 +27,7 @@ none-after : (front rest : List ℕ) → [] ≡ front ++ rest → rest ≡ []
 none-after [] rest is = sym is
 none-after (byte ∷ front) rest is = absurd cc
 
-fits-empty : (pieces : List Piece) → Fits pieces [] → may_be_empty pieces ≡ true
+fits-empty : (pieces : List PieceOf) → Fits pieces [] → may_be_empty pieces ≡ true
 unfolding Fits
 fits-empty [] fits = refl
 fits-empty (Known byte ∷ pieces) fits = absurd (let no : [] ≡ byte ∷ fits.0 = fits.1 in let b : ⊥ = cc in b)
@@ -35,7 +35,7 @@ fits-empty (OneOf set ∷ pieces) fits = absurd (let no : [] ≡ fits.0.0 ∷ fi
 fits-empty (AnyOf set ∷ pieces) fits = fits-empty pieces (subst (Fits pieces) (none-after fits.0.0 fits.0.1 fits.1) fits.3)
 
 -- a part of a target
-fits-or_own : (own pieces : List Piece) (mine part : List ℕ) → Fits own mine → Fits pieces part → FitsOne (or_own own pieces) (part_or mine part)
+fits-or_own : (own pieces : List PieceOf) (mine part : List ℕ) → Fits own mine → Fits pieces part → FitsOne (or_own own pieces) (part_or mine part)
 unfolding Fits
 fits-or_own own [] mine part is here = subst (λ p. FitsOne (own ∷ []) (part_or mine p)) (sym here) (inl is)
 fits-or_own own (piece ∷ pieces) mine [] is here =
@@ -56,13 +56,13 @@ pub in-later : (first more : List Area) (place : Place) → IsInOne more place �
 in-later [] more place is = is
 in-later (area ∷ first) more place is = inr (in-later first more place is)
 
-in-extens : (context : List Piece) (extens : List (List Piece)) (place : Place) → Fits context place.context → FitsOne extens place.exten
+in-extens : (context : List PieceOf) (extens : List (List PieceOf)) (place : Place) → Fits context place.context → FitsOne extens place.exten
     → IsInOne (map (area_at context) extens) place
 in-extens context [] place is some = absurd some
 in-extens context (exten ∷ extens) place is (inl here) = inl (record { context = is; exten = here })
 in-extens context (exten ∷ extens) place is (inr there) = inr (in-extens context extens place is there)
 
-in-areas : (contexts extens : List (List Piece)) (place : Place) → FitsOne contexts place.context → FitsOne extens place.exten → IsInOne (areas_of contexts extens) place
+in-areas : (contexts extens : List (List PieceOf)) (place : Place) → FitsOne contexts place.context → FitsOne extens place.exten → IsInOne (areas_of contexts extens) place
 in-areas [] extens place some others = absurd some
 in-areas (context ∷ contexts) extens place (inl here) others =
     in-front (map (area_at context) extens) (areas_of contexts extens) place (in-extens context extens place here others)
@@ -81,13 +81,13 @@ at-place plan context exten priority place = by (priority_of plan context exten 
     by None is = absurd cc
     by (Some n) is = let same : place_of context exten n ≡ place = cc in record { same_context = ap (λ p. p.context) (sym same); same_exten = ap (λ p. p.exten) (sym same) }
 
-in-at : (contexts extens : List (List Piece)) (context exten : List ℕ) (place : Place) → IsAt context exten place → FitsOne contexts context → FitsOne extens exten
+in-at : (contexts extens : List (List PieceOf)) (context exten : List ℕ) (place : Place) → IsAt context exten place → FitsOne contexts context → FitsOne extens exten
     → IsInOne (areas_of contexts extens) place
 in-at contexts extens context exten place at some others =
     in-areas contexts extens place (subst (FitsOne contexts) (sym at.same_context) some) (subst (FitsOne extens) (sym at.same_exten) others)
 
 -- where parts lead
-pub in-target : (plan : PlanOf) (own place : Place) (area : Area) (shapes : List (List Piece)) (parts : List (List ℕ)) → IsIn area own → AllFit shapes parts
+pub in-target : (plan : PlanOf) (own place : Place) (area : Area) (shapes : List (List PieceOf)) (parts : List (List ℕ)) → IsIn area own → AllFit shapes parts
     → parts_place plan own parts ≡ Some place → IsInOne (targets_of area shapes) place
 unfolding parts_place
 in-target plan own place area [] [] inside are found = absurd cc
@@ -119,7 +119,7 @@ in-target plan own place area (c ∷ e ∷ p ∷ []) (a ∷ b ∷ d ∷ f ∷ pa
 in-target plan own place area (c ∷ e ∷ p ∷ q ∷ shapes) (a ∷ b ∷ d ∷ []) inside are found = absurd are.1.1.1
 
 -- any part of these bytes, or the channel's own
-fits-made_or_own : (set : Bytes) (own : List Piece) (mine part : List ℕ) → Fits own mine → Within set part → FitsOne (any_bytes_of set ∷ own ∷ []) (part_or mine part)
+fits-made_or_own : (set : Bytes) (own : List PieceOf) (mine part : List ℕ) → Fits own mine → Within set part → FitsOne (any_bytes_of set ∷ own ∷ []) (part_or mine part)
 fits-made_or_own set own mine [] is here = inr (inl is)
 fits-made_or_own set own mine (b ∷ bs) is here = inl (fits-any_bytes_of set (b ∷ bs) here)
 
@@ -172,7 +172,7 @@ unfolding parts_of
 arguments-within set text is = trimmed-within set (split_after parts_arguments [] text) (split-within set text [] is)
 
 -- where the target of a text leads
-pub in-targets : (plan : PlanOf) (area : Area) (own place : Place) (pieces : List Piece) (text : List ℕ) → IsIn area own → Fits pieces text
+pub in-targets : (plan : PlanOf) (area : Area) (own place : Place) (pieces : List PieceOf) (text : List ℕ) → IsIn area own → Fits pieces text
     → parts_place plan own (arguments_of text) ≡ Some place → IsInOne (targets area pieces) place
 in-targets plan area own place pieces text inside fits found = by (are_clean 0 pieces) refl
   where

@@ -9,12 +9,12 @@ use Rattle.dp_pieces.specs.Arguments.{are_clean, shapes_of}
 use Rattle.dp_pieces.specs.Bytes.{Bytes}
 use Rattle.dp_pieces.specs.Met.{after_match}
 use Rattle.dp_pieces.specs.Names.{Names}
-use Rattle.dp_pieces.specs.Pieces.{AnyOf, Fits, Known, OneOf, Piece, exactly, any_bytes_of, pieces_set}
+use Rattle.dp_pieces.specs.Pieces.{AnyOf, Fits, Known, OneOf, PieceOf, exactly, any_bytes_of, pieces_set}
 
 -- the shapes of the context and of the extension of a place
 pub record Area : Type 0 where
-  pub context : List Piece
-  pub exten : List Piece
+  pub context : List PieceOf
+  pub exten : List PieceOf
 
 -- the place is in the area
 pub record IsIn (area : Area) (place : Place) : Type 0 where
@@ -42,27 +42,27 @@ abbrev pub IncludesAll : PlanOf → List Area → List Area → Type 0
 IncludesAll plan reach areas = AllByRecursion (Includes plan reach) areas
 
 -- whether a text of this shape may be empty
-abbrev pub may_be_empty : List Piece → Bool
+abbrev pub may_be_empty : List PieceOf → Bool
 may_be_empty [] = true
 may_be_empty (Known byte ∷ pieces) = false
 may_be_empty (OneOf set ∷ pieces) = false
 may_be_empty (AnyOf set ∷ pieces) = may_be_empty pieces
 
 -- a part of a target; an empty part means the channel's own
-abbrev pub or_own : List Piece → List Piece → List (List Piece)
+abbrev pub or_own : List PieceOf → List PieceOf → List (List PieceOf)
 or_own own [] = own ∷ []
 or_own own (piece ∷ pieces) = if may_be_empty (piece ∷ pieces) then (piece ∷ pieces) ∷ own ∷ [] else (piece ∷ pieces) ∷ []
 
 -- the area with these shapes of the context and of the extension
-abbrev pub area_at : List Piece → List Piece → Area
+abbrev pub area_at : List PieceOf → List PieceOf → Area
 area_at context exten = record { context = context; exten = exten }
 
-abbrev pub areas_of : List (List Piece) → List (List Piece) → List Area
+abbrev pub areas_of : List (List PieceOf) → List (List PieceOf) → List Area
 areas_of [] extens = []
 areas_of (context ∷ contexts) extens = map (area_at context) extens ++ areas_of contexts extens
 
 -- where the parts of a target may lead from an area; more than three lead nowhere
-abbrev pub targets_of : Area → List (List Piece) → List Area
+abbrev pub targets_of : Area → List (List PieceOf) → List Area
 targets_of area [] = []
 targets_of area (priority ∷ []) = area ∷ []
 targets_of area (exten ∷ priority ∷ []) = areas_of (area.context ∷ []) (or_own area.exten exten)
@@ -74,7 +74,7 @@ abbrev pub targets_within : Area → Bytes → List Area
 targets_within area set = areas_of (any_bytes_of set ∷ area.context ∷ []) (any_bytes_of set ∷ area.exten ∷ [])
 
 -- where a target in pieces may lead from an area
-abbrev pub targets : Area → List Piece → List Area
+abbrev pub targets : Area → List PieceOf → List Area
 targets area pieces = if are_clean 0 pieces then targets_of area (shapes_of pieces) else targets_within area (pieces_set pieces)
 
 -- an extension in the context of an area

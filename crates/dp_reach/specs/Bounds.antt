@@ -8,8 +8,8 @@ use Rattle.dp_app.specs.Cells.{CellOf}
 use Rattle.dp_machine.specs.Events.{is_digit}
 use Rattle.dp_pieces.specs.Arguments.{are_clean, shapes_of, split_pieces}
 use Rattle.dp_pieces.specs.Bytes.{Bytes, IsPart}
-use Rattle.dp_pieces.specs.Cuts.{At, Cutting, Nowhere, Unsure, cut_last, cut_pieces}
-use Rattle.dp_pieces.specs.Pieces.{Fits, Piece, bytes_in, any_bytes_of, pieces_set}
+use Rattle.dp_pieces.specs.Cuts.{At, CuttingOf, Nowhere, Unsure, cut_last, cut_pieces}
+use Rattle.dp_pieces.specs.Pieces.{Fits, PieceOf, bytes_in, any_bytes_of, pieces_set}
 use Rattle.dp_reach.specs.Areas.{Area, Covers, Includes, IsIn, area_at, beside, targets, targets_within}
 use Rattle.dp_reach.specs.Choices.{last_part, sides_in}
 use Rattle.dp_reach.specs.Holding.{Claim, IsGood, IsInside, LeadsOut}
@@ -37,7 +37,7 @@ MeetsAll claim duties = AllByRecursion (Meets claim) duties
 
 -- the duties, given the area of the channel and the pieces of the arguments
 abbrev pub Duties : Type 0
-Duties = Area → List Piece → List Duty
+Duties = Area → List PieceOf → List Duty
 
 -- what is known of the entries of a dialplan: the functions in their texts, and the duties of each application
 pub record Obligations : Type 0 where
@@ -50,7 +50,7 @@ obligations functions duties = record { functions = functions; duties = duties }
 
 -- a row stays inside if its arguments fit the pieces and its duties are met
 abbrev pub IsBounded : Duties → Row → Type 0
-IsBounded duties row = (claim : Claim) (area : Area) (pieces : List Piece) (arguments : List ℕ) (cell : CellOf) → IsGood claim cell → IsIn area cell.place
+IsBounded duties row = (claim : Claim) (area : Area) (pieces : List PieceOf) (arguments : List ℕ) (cell : CellOf) → IsGood claim cell → IsIn area cell.place
     → Covers claim.plan claim.reach cell.place → Fits pieces arguments → MeetsAll claim (duties area pieces) → IsInside claim cell.place (row arguments cell)
 
 -- each row of a table stays inside
@@ -62,7 +62,7 @@ abbrev pub goto_duties : Duties
 goto_duties area pieces = map Leads (targets area pieces)
 
 -- the duties of a row that jumps to a side of a choice
-abbrev pub sides_duties : Area → Bytes → Option (List (List Piece)) → List Duty
+abbrev pub sides_duties : Area → Bytes → Option (List (List PieceOf)) → List Duty
 sides_duties area set None = map Leads (targets_within area set)
 sides_duties area set (Some sides) = map Leads (flat_map (targets area) sides)
 
@@ -70,33 +70,33 @@ abbrev pub goto_if_duties : Duties
 goto_if_duties area pieces = sides_duties area (pieces_set pieces) (sides_in pieces)
 
 -- the duties of a subroutine's arguments, from a number on
-abbrev pub numbered_duties : ℕ → List (List Piece) → List Duty
+abbrev pub numbered_duties : ℕ → List (List PieceOf) → List Duty
 numbered_duties number [] = []
 numbered_duties number (shape ∷ shapes) = Holds (codes "ARG" ++ decimal number) (pieces_set shape) ∷ numbered_duties (number + 1) shapes
 
 -- the duties of the pieces between the parentheses of a subroutine; if they are unknown each name may have the bytes of the text
-abbrev pub inside_duties : Bytes → Cutting → List Duty
+abbrev pub inside_duties : Bytes → CuttingOf → List Duty
 inside_duties set Nowhere = []
 inside_duties set Unsure = HoldsAll set ∷ []
 inside_duties set (At inside rest) = if are_clean 0 inside then numbered_duties 1 (shapes_of inside) else HoldsAll set ∷ []
 
-abbrev pub call_duties : Bytes → Cutting → List Duty
+abbrev pub call_duties : Bytes → CuttingOf → List Duty
 call_duties set Nowhere = []
 call_duties set Unsure = HoldsAll set ∷ []
 call_duties set (At priority rest) = inside_duties set (cut_last 41 rest)
 
-abbrev pub target_duties : Bytes → List Piece → List Duty
+abbrev pub target_duties : Bytes → List PieceOf → List Duty
 target_duties set pieces = if are_clean 0 pieces then call_duties set (cut_pieces 40 (last_part (split_pieces 0 pieces))) else HoldsAll set ∷ []
 
 -- the duties of the row of `Gosub`
-abbrev pub subroutine_duties : Area → List Piece → List Duty
+abbrev pub subroutine_duties : Area → List PieceOf → List Duty
 subroutine_duties area pieces = map Leads (targets area pieces) ++ target_duties (pieces_set pieces) pieces
 
 abbrev pub gosub_duties : Duties
 gosub_duties area pieces = subroutine_duties area pieces
 
 -- the targets of the row of `GosubIf`: each side of the choice; if the sides are unknown, any text with these bytes
-abbrev pub sides_or : Bytes → Option (List (List Piece)) → List (List Piece)
+abbrev pub sides_or : Bytes → Option (List (List PieceOf)) → List (List PieceOf)
 sides_or set None = any_bytes_of set ∷ []
 sides_or set (Some sides) = sides
 

@@ -9,7 +9,7 @@ use Rattle.dp_machine.specs.Codes.{status_name}
 use Rattle.dp_machine.specs.declared.dial_status.DialStatus.{DialStatus}
 use Rattle.dp_pieces.specs.Bytes.{IsPart, Within, digits}
 use Rattle.dp_pieces.specs.Names.{IsWhole, IsWithin}
-use Rattle.dp_pieces.specs.Pieces.{Fits, Piece, pieces_set}
+use Rattle.dp_pieces.specs.Pieces.{Fits, PieceOf, pieces_set}
 use Rattle.dp_reach.specs.Areas.{Area, Includes, area_matched, beside, names_at}
 use Rattle.dp_reach.specs.Bounds.{Obligations, MeetsAll}
 use Rattle.dp_reach.specs.Finding.{MayFind}
@@ -22,7 +22,7 @@ pub record IsNamed (claim : Claim) (area : Area) : Type 0 where
   pub invalid : IsPart (pieces_set area.exten) (claim.names.bytes (codes "INVALID_EXTEN"))
 
 -- the names that are the same in each area have the bytes that the machine puts into them
-pub record AreNamed (claim : Claim) : Type 0 where
+pub record HasMachineNames (claim : Claim) : Type 0 where
   pub whole : IsWhole claim.names
   pub priority : IsPart digits (claim.names.bytes (codes "PRIORITY"))
   pub channel : Within (claim.names.bytes (codes "CHANNEL")) (codes "Channel/")
@@ -37,7 +37,7 @@ pub record AreNamed (claim : Claim) : Type 0 where
 -- an entry that may run in an area is an answer; its arguments fit pieces in any view, and the duties that follow from these are met
 pub record IsEntry (owing : Obligations) (claim : Claim) (answers : EntryId → Bool) (area : Area) (id : EntryId) (entry : Entry) : Type 0 where
   pub answer : answers id ≡ true
-  pub pieces : List Piece
+  pub pieces : List PieceOf
   pub fits : (sight : Sight) → IsWithin (names_at claim.names area) sight → Fits pieces (expansion_with owing.functions sight entry.arguments)
   pub met : MeetsAll claim (owing.duties entry.application area pieces)
 
@@ -50,5 +50,5 @@ pub record IsAreaClosed (owing : Obligations) (claim : Claim) (answers : EntryId
 
 -- a claim is closed, with the entries in the answer
 pub record IsClosed (owing : Obligations) (claim : Claim) (answers : EntryId → Bool) : Type 0 where
-  pub named : AreNamed claim
+  pub named : HasMachineNames claim
   pub areas : AllByRecursion (IsAreaClosed owing claim answers) claim.reach

@@ -4,7 +4,7 @@ use Rattle.std.specs.Prelude.{◌≡◌, ℕ, true, List, [], ◌∷◌, Option,
 use Rattle.std.specs.List.{AllByRecursion}
 use Rattle.std.specs.FinMap.{get}
 use Rattle.std.specs.Option.{option_map}
-use Rattle.dp_vars.specs.Stores.{Frame, StoreOf}
+use Rattle.dp_vars.specs.Stores.{StoreFrame, StoreOf}
 use Rattle.dp_vars.specs.Variables.{Named}
 use Rattle.dp_plan.specs.Plan.{PlanOf}
 use Rattle.dp_queue.specs.declared.settings.Settings.{Settings}
@@ -40,14 +40,14 @@ abbrev pub AreHeld : Names → Named → Type 0
 AreHeld names values = (name : List ℕ) → IsHeld (names.bytes name) (get values name)
 
 -- the values and the frames of a store keep to the claim
-pub record IsKept (claim : Claim) (store : StoreOf Place) : Type 0 where
+pub record KeepsToClaim (claim : Claim) (store : StoreOf Place) : Type 0 where
   pub variables : AreHeld claim.names store.variables
-  pub locals : AllByRecursion (λ (frame : Frame Place). AreHeld claim.names frame.locals) store.frames
-  pub back : AllByRecursion (λ (frame : Frame Place). Covers claim.plan claim.reach frame.back) store.frames
+  pub locals : AllByRecursion (λ (frame : StoreFrame Place). AreHeld claim.names frame.locals) store.frames
+  pub back : AllByRecursion (λ (frame : StoreFrame Place). Covers claim.plan claim.reach frame.back) store.frames
 
 -- what an application may read and write keeps to the claim
 pub record IsGood (claim : Claim) (cell : CellOf) : Type 0 where
-  pub store : IsKept claim cell.store
+  pub store : KeepsToClaim claim cell.store
   pub globals : AreHeld claim.names cell.globals
   pub caller : Within claim.names.caller cell.caller
 
@@ -91,7 +91,7 @@ pub record IsInside (claim : Claim) (own : Place) (outcome : Outcome) : Type 0 w
 -- a channel is in the reach
 pub record IsChannelIn (claim : Claim) (c : Channel) : Type 0 where
   pub place : Covers claim.plan claim.reach c.place
-  pub store : IsKept claim c.store
+  pub store : KeepsToClaim claim c.store
   pub caller : Within claim.names.caller c.caller
   pub phase : IsPhaseIn claim c.place c.phase
 

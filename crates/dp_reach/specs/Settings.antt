@@ -7,7 +7,7 @@ use Rattle.dp_conf.specs.Words.{same_text}
 use Rattle.dp_flow.specs.Settings.{argument_of}
 use Rattle.dp_pieces.specs.Bytes.{Bytes}
 use Rattle.dp_pieces.specs.Cuts.{cut_known}
-use Rattle.dp_pieces.specs.Pieces.{Piece, pieces_set}
+use Rattle.dp_pieces.specs.Pieces.{PieceOf, pieces_set}
 use Rattle.dp_reach.specs.Bounds.{Calls, Duties, Duty, Holds, HoldsAll}
 
 -- the duties if a function of an argument is set to a value with these bytes
@@ -36,12 +36,12 @@ any_argument_duties function set =
     else []
 
 -- the duties if no name is known: each name may have the bytes of the text
-abbrev pub unknown_duties : Bytes → Option (List ℕ × List Piece) → List Duty
+abbrev pub unknown_duties : Bytes → Option (List ℕ × List PieceOf) → List Duty
 unknown_duties set None = HoldsAll set ∷ Calls set ∷ []
 unknown_duties set (Some cut) = any_argument_duties (trim_start cut.0) set
 
 -- the duties of `NAME=VALUE`, given the text before the first `=` if it is known
-abbrev pub pair_duties : List Piece → Option (List ℕ × List Piece) → List Duty
+abbrev pub pair_duties : List PieceOf → Option (List ℕ × List PieceOf) → List Duty
 pair_duties pieces None = unknown_duties (pieces_set pieces) (cut_known 40 pieces)
 pair_duties pieces (Some cut) = name_duties (trim cut.0) (cut_once 40 (trim cut.0)) (pieces_set cut.1)
 

@@ -15,13 +15,15 @@ mod wide_texts;
 
 use crate::pieces::answers::{ANSWERS, Answers, HIDDEN_ANSWERS, HiddenAnswers};
 use crate::pieces::cuts::{CUTS, Cuts};
-use crate::pieces::duties::{CLAIMED, Claimed, DUTIES, Duties, FOUND, Found, REACHED, Reached};
+use crate::pieces::duties::{
+    CLAIMED, Claimed, DUTIES, Duties, FOUND, FoundShapes, REACHED, Reached,
+};
 use crate::pieces::entries::{ENTRIES, Entries};
 use crate::pieces::exchange_duties::EXCHANGE_OWED;
-use crate::pieces::names::{NAMES, Names};
-use crate::pieces::reach_answers::{HIDDEN_PARTS, HiddenParts, PARTS, Parts};
-use crate::pieces::shapes::{SHAPES, Shapes};
-use crate::pieces::texts::{TEXTS, Texts};
+use crate::pieces::names::{NAMES, NameSteps};
+use crate::pieces::reach_answers::{AnswerParts, HIDDEN_PARTS, HiddenParts, PARTS};
+use crate::pieces::shapes::{SHAPES, ShapeAnswers};
+use crate::pieces::texts::{ShapedTexts, TEXTS};
 use crate::pieces::wide_duties::{WIDE_OWED, WideOwed};
 use crate::pieces::wide_texts::{WIDE_TEXTS, WideTexts};
 use dp_case_tables::check;
@@ -36,19 +38,19 @@ fn pieces_are_cut_and_trimmed(rt: HostRuntime) -> Result<(), Fail> {
 /// Shapes and the names of extensions that their texts may match, and shapes within others.
 #[test]
 fn shapes_match_extension_names(rt: HostRuntime) -> Result<(), Fail> {
-    check::<Shapes>(rt.alloc(), SHAPES)
+    check::<ShapeAnswers>(rt.alloc(), SHAPES)
 }
 
 /// Which bytes the values of names may have, given a table.
 #[test]
 fn bytes_that_values_may_have(rt: HostRuntime) -> Result<(), Fail> {
-    check::<Names>(rt.alloc(), NAMES)
+    check::<NameSteps>(rt.alloc(), NAMES)
 }
 
 /// Texts read as pieces, given what is known of names.
 #[test]
 fn texts_are_read_as_pieces(rt: HostRuntime) -> Result<(), Fail> {
-    check::<Texts>(rt.alloc(), TEXTS)
+    check::<ShapedTexts>(rt.alloc(), TEXTS)
 }
 
 /// The same over the functions of the wide table.
@@ -62,7 +64,7 @@ fn wide_texts_are_read_as_pieces(rt: HostRuntime) -> Result<(), Fail> {
 fn duties_reached_places_and_findings(rt: HostRuntime) -> Result<(), Fail> {
     check::<Duties>(rt.alloc(), DUTIES)?;
     check::<Reached>(rt.alloc(), REACHED)?;
-    check::<Found>(rt.alloc(), FOUND)?;
+    check::<FoundShapes>(rt.alloc(), FOUND)?;
     check::<Claimed>(rt.alloc(), CLAIMED)
 }
 
@@ -94,6 +96,6 @@ fn entries_that_a_call_may_run_in_order(rt: HostRuntime) -> Result<(), Fail> {
 /// The same in parts, for other tools.
 #[test]
 fn answers_in_parts(rt: HostRuntime) -> Result<(), Fail> {
-    check::<Parts>(rt.alloc(), PARTS)?;
+    check::<AnswerParts>(rt.alloc(), PARTS)?;
     check::<HiddenParts>(rt.alloc(), HIDDEN_PARTS)
 }

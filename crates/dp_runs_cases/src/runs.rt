@@ -1,4 +1,4 @@
 mod applications;
 mod calls;
-mod joined;
+mod joined_texts;
 mod manual;

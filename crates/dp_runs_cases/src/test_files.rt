@@ -2,8 +2,8 @@
 use dp_case_tables::{Question, bytes_of, check_all};
 use dp_commands::{ScriptLine, Turn};
 use dp_tests::{
-    Act, Call, Claim, EntryPlace, Expectation, HeadLine, Items, Test, TestFault, TestFaults,
-    TestFile, TestLine, read_tests,
+    Act, Expectation, ExpectedCall, ExpectedPlace, HeadLine, Items, LineClaim, Test, TestFault,
+    TestFaults, TestFile, TestLine, read_tests,
 };
 use dp_wide_runs::WideTurn;
 use std::alloc::Global;
@@ -200,7 +200,7 @@ fn push_turns(out: &mut String, turns: &Items<ScriptLine<WideTurn>>) -> Result<(
 }
 
 /// Adds a call, as a line writes it.
-fn push_call(out: &mut String, call: &Call) -> Result<(), Fail> {
+fn push_call(out: &mut String, call: &ExpectedCall) -> Result<(), Fail> {
     write!(out, "{}", call.application)?;
     if let Some(arguments) = &call.arguments {
         write!(out, "({arguments})")?;
@@ -209,7 +209,7 @@ fn push_call(out: &mut String, call: &Call) -> Result<(), Fail> {
 }
 
 /// Adds the place of an entry, with the canonical spelling of its name.
-fn push_place(out: &mut String, place: &EntryPlace) -> Result<(), Fail> {
+fn push_place(out: &mut String, place: &ExpectedPlace) -> Result<(), Fail> {
     write!(out, "{},", place.context)?;
     for byte in place.name.spelling() {
         out.push(char::from(*byte))?;
@@ -230,22 +230,22 @@ fn push_holder(out: &mut String, channel: Option<u32>) -> Result<(), Fail> {
 }
 
 /// Adds what a line claims.
-fn push_claim(out: &mut String, claim: &Claim) -> Result<(), Fail> {
+fn push_claim(out: &mut String, claim: &LineClaim) -> Result<(), Fail> {
     match claim {
-        Claim::State { channel, state } => write!(out, "{channel} is {state}")?,
-        Claim::Ran { channel, call } => {
+        LineClaim::State { channel, state } => write!(out, "{channel} is {state}")?,
+        LineClaim::Ran { channel, call } => {
             write!(out, "{channel} ran ")?;
             push_call(out, call)?;
         }
-        Claim::Passed { channel, call } => {
+        LineClaim::Passed { channel, call } => {
             write!(out, "{channel} passed ")?;
             push_call(out, call)?;
         }
-        Claim::At { channel, place } => {
+        LineClaim::At { channel, place } => {
             write!(out, "{channel} at ")?;
             push_place(out, place)?;
         }
-        Claim::Value {
+        LineClaim::Value {
             channel,
             name,
             value,
@@ -253,14 +253,14 @@ fn push_claim(out: &mut String, claim: &Claim) -> Result<(), Fail> {
             push_holder(out, *channel)?;
             write!(out, " has {name}={value}")?;
         }
-        Claim::Rings { agents } => {
+        LineClaim::Rings { agents } => {
             out.push_str("rings")?;
             for agent in agents.as_slice() {
                 write!(out, " {agent}")?;
             }
         }
-        Claim::Waiting { queue, count } => write!(out, "waiting {queue} {count}")?,
-        Claim::Refused { refusal } => {
+        LineClaim::Waiting { queue, count } => write!(out, "waiting {queue} {count}")?,
+        LineClaim::Refused { refusal } => {
             out.push_str("refused")?;
             if let Some(refusal) = refusal {
                 write!(out, " {}", refusal.name())?;

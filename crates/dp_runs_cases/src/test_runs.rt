@@ -6,7 +6,8 @@ use dp_commands::{PbxFault, RunTexts};
 use dp_commands_fixture::read_texts;
 use dp_plan::{SharedText, Text};
 use dp_test_runs::{
-    Failure, Items, NamedText, Point, Report, TestResult, TestTexts, run_test, tap_text,
+    Failure, FailureReport, NamedFileText, Point, RunItems, TestResult, TestTexts, run_test,
+    tap_text,
 };
 use dp_tests::{Test, TestFaults, TestFile, read_tests};
 use std::alloc::Global;
@@ -151,13 +152,13 @@ fn test_text(alloc: Global, script: &[u8]) -> Result<Vec<u8>, Fail> {
 }
 
 /// The files that the `reload` lines of a case name.
-fn reloaded_files(alloc: Global, text: Option<&[u8]>) -> Result<Vec<NamedText>, Fail> {
+fn reloaded_files(alloc: Global, text: Option<&[u8]>) -> Result<Vec<NamedFileText>, Fail> {
     let mut files = Vec::new(alloc);
     if let Some(text) = text {
         let name = Text::copy_of(alloc, b"b")?;
         let text = Text::copy_of(alloc, text)?;
         let text = SharedText::new(alloc, text)?;
-        files.push(NamedText { name, text })?;
+        files.push(NamedFileText { name, text })?;
     }
     Ok(files)
 }
@@ -239,20 +240,20 @@ impl Question for WithGot {
 }
 
 /// A trace of two lines.
-fn trace(alloc: Global) -> Result<Items<Text>, Fail> {
-    let mut trace = Items::none(alloc);
+fn trace(alloc: Global) -> Result<RunItems<Text>, Fail> {
+    let mut trace = RunItems::none(alloc);
     trace.push(Text::copy_of(alloc, b"Set(A='5')")?)?;
     trace.push(Text::copy_of(alloc, b"Wait(1)")?)?;
     Ok(trace)
 }
 
 /// The report of a test that failed.
-fn report(alloc: Global) -> Result<Report, Fail> {
+fn report(alloc: Global) -> Result<FailureReport, Fail> {
     let trace = trace(alloc)?;
     let at = Text::copy_of(alloc, b"a.test:4")?;
     let expected = Text::copy_of(alloc, b"1 A='6'")?;
     let got = Text::copy_of(alloc, b"'5'")?;
-    Ok(Report {
+    Ok(FailureReport {
         at,
         expected,
         got,
@@ -268,7 +269,7 @@ fn points(alloc: Global) -> Result<Vec<Point>, Fail> {
         name,
         report: None,
         trace: trace(alloc)?,
-        entered: Items::none(alloc),
+        entered: RunItems::none(alloc),
     })?;
     let name = Text::copy_of(alloc, b"A #2 call \\ it's lost")?;
     let failed = report(alloc)?;
@@ -276,16 +277,16 @@ fn points(alloc: Global) -> Result<Vec<Point>, Fail> {
         name,
         report: Some(failed),
         trace: trace(alloc)?,
-        entered: Items::none(alloc),
+        entered: RunItems::none(alloc),
     })?;
     let name = Text::copy_of(alloc, b"x")?;
     let mut failed = report(alloc)?;
-    failed.trace = Items::none(alloc);
+    failed.trace = RunItems::none(alloc);
     points.push(Point {
         name,
         report: Some(failed),
-        trace: Items::none(alloc),
-        entered: Items::none(alloc),
+        trace: RunItems::none(alloc),
+        entered: RunItems::none(alloc),
     })?;
     Ok(points)
 }

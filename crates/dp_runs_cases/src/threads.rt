@@ -14,9 +14,9 @@ use std::test::Fail;
 use std::thread::Threads;
 
 /// A gate that holds nobody.
-struct Open;
+struct FreeGate;
 
-impl Gate for Open {
+impl Gate for FreeGate {
     fn before(&self, _channel: u32, _turn: u64) {}
 
     fn after(&self, _channel: u32, _reply: &Reply) {}
@@ -102,7 +102,7 @@ fn end_status<R: Threads + Wait + Sync>(
 ) -> Result<u8, PbxFault> {
     let sharing = Sharing {
         threads,
-        gate: &Open,
+        gate: &FreeGate,
     };
     let (status, _) = run_threads(rt, alloc, texts, sharing, writer)?;
     Ok(status)

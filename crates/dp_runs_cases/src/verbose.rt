@@ -1,16 +1,16 @@
 //! Verbose runs and verbose debugged runs, with everything that they print, worked out by hand from the rules.
 use dp_case_tables::{Question, check_all};
 use dp_commands::{Explanations, PlanNames, debug_verbose, run_verbose};
-use dp_commands_fixture::{Texts, make_sink, outcome_text, read_texts};
+use dp_commands_fixture::{RunTextsOf, make_sink, outcome_text, read_texts};
 use dp_conf::NoMemory;
 use dp_machine::Refusal;
 use std::alloc::Global;
 use std::test::Fail;
 
 /// One explanation of two lines for all refusals.
-pub(crate) struct Same;
+pub(crate) struct SameExplanation;
 
-impl Explanations for Same {
+impl Explanations for SameExplanation {
     ghost use Rattle.std.specs.Prelude.{codes};
 
     ghost explanation_of = { λ refusal. codes "because\nsuch as\n" };
@@ -73,21 +73,27 @@ main,s,1¦¦¦jump 1→fault 70 BadScript line 1
 ";
 
 /// The whole output of a verbose run of these texts, followed by its result.
-fn run_answer(alloc: Global, texts: &Texts) -> Result<String, NoMemory> {
+fn run_answer(alloc: Global, texts: &RunTextsOf) -> Result<String, NoMemory> {
     let mut writer = make_sink(alloc, 4096, None);
-    let ended = run_verbose::<Same, _>(alloc, texts.lend(), NAMES, &mut writer);
+    let ended = run_verbose::<SameExplanation, _>(alloc, texts.lend(), NAMES, &mut writer);
     outcome_text(alloc, ended, writer)
 }
 
 /// The same for a verbose debugged run.
-fn debug_answer(alloc: Global, held: &str, texts: &Texts) -> Result<String, NoMemory> {
+fn debug_answer(alloc: Global, held: &str, texts: &RunTextsOf) -> Result<String, NoMemory> {
     let mut writer = make_sink(alloc, 4096, None);
-    let ended = debug_verbose::<Same, _>(alloc, texts.lend(), NAMES, held.as_bytes(), &mut writer);
+    let ended = debug_verbose::<SameExplanation, _>(
+        alloc,
+        texts.lend(),
+        NAMES,
+        held.as_bytes(),
+        &mut writer,
+    );
     outcome_text(alloc, ended, writer)
 }
 
 /// The texts of a case.
-fn texts_of(alloc: Global, asked: &str) -> Result<Texts, Fail> {
+fn texts_of(alloc: Global, asked: &str) -> Result<RunTextsOf, Fail> {
     let (plan, rest) = asked.split_once('¦').ok_or("no queues")?;
     let (queues, script) = rest.split_once('¦').ok_or("no script")?;
     let texts = read_texts(alloc, plan, queues, script)?;
@@ -95,9 +101,9 @@ fn texts_of(alloc: Global, asked: &str) -> Result<Texts, Fail> {
 }
 
 /// The output and result of the verbose run of a case.
-struct Run;
+struct PlainVerboseRun;
 
-impl Question for Run {
+impl Question for PlainVerboseRun {
     fn answer(alloc: Global, asked: &str) -> Result<String, Fail> {
         let texts = texts_of(alloc, asked)?;
         let answer = run_answer(alloc, &texts)?;
@@ -106,9 +112,9 @@ impl Question for Run {
 }
 
 /// The output and result of the verbose debugged run of a case.
-struct Debugged;
+struct PlainVerboseDebugged;
 
-impl Question for Debugged {
+impl Question for PlainVerboseDebugged {
     fn answer(alloc: Global, asked: &str) -> Result<String, Fail> {
         let (held, rest) = asked.split_once('¦').ok_or("no dialplan")?;
         let texts = texts_of(alloc, rest)?;
@@ -120,11 +126,11 @@ impl Question for Debugged {
 /// Verbose runs of scripts.
 #[test]
 fn verbose_runs_print_their_steps(rt: HostRuntime) -> Result<(), Fail> {
-    check_all::<Run>(rt.alloc(), &[RUNS])
+    check_all::<PlainVerboseRun>(rt.alloc(), &[RUNS])
 }
 
 /// Verbose debugged runs of scripts.
 #[test]
 fn verbose_debugged_runs_print_their_steps(rt: HostRuntime) -> Result<(), Fail> {
-    check_all::<Debugged>(rt.alloc(), &[DEBUGS])
+    check_all::<PlainVerboseDebugged>(rt.alloc(), &[DEBUGS])
 }

@@ -1,7 +1,7 @@
 //! Debugged runs that state facts, plain and verbose, with everything that they print, worked out by hand from the rules.
-use crate::verbose::{NAMES, Same};
+use crate::verbose::{NAMES, SameExplanation};
 use dp_case_tables::{Question, check_all};
-use dp_commands_fixture::{Texts, make_sink, outcome_text, read_texts};
+use dp_commands_fixture::{RunTextsOf, make_sink, outcome_text, read_texts};
 use dp_conf::NoMemory;
 use dp_wide_runs::{debug_wide, debug_wide_verbose};
 use std::alloc::Global;
@@ -52,7 +52,7 @@ main,s,1¦exten => s,1,NoOp()¦¦start main s\nwalk 1→fault 70 BadScript line 
 ";
 
 /// The texts of a case.
-fn texts_of(alloc: Global, asked: &str) -> Result<Texts, Fail> {
+fn texts_of(alloc: Global, asked: &str) -> Result<RunTextsOf, Fail> {
     let (plan, rest) = asked.split_once('¦').ok_or("no queues")?;
     let (queues, script) = rest.split_once('¦').ok_or("no script")?;
     let texts = read_texts(alloc, plan, queues, script)?;
@@ -60,16 +60,16 @@ fn texts_of(alloc: Global, asked: &str) -> Result<Texts, Fail> {
 }
 
 /// The whole output of a debugged run of these texts, followed by its result.
-fn plain_answer(alloc: Global, held: &str, texts: &Texts) -> Result<String, NoMemory> {
+fn plain_answer(alloc: Global, held: &str, texts: &RunTextsOf) -> Result<String, NoMemory> {
     let mut writer = make_sink(alloc, 4096, None);
     let ended = debug_wide(alloc, texts.lend(), held.as_bytes(), &mut writer);
     outcome_text(alloc, ended, writer)
 }
 
 /// The same for a verbose debugged run.
-fn verbose_answer(alloc: Global, held: &str, texts: &Texts) -> Result<String, NoMemory> {
+fn verbose_answer(alloc: Global, held: &str, texts: &RunTextsOf) -> Result<String, NoMemory> {
     let mut writer = make_sink(alloc, 4096, None);
-    let ended = debug_wide_verbose::<Same, _>(
+    let ended = debug_wide_verbose::<SameExplanation, _>(
         alloc,
         texts.lend(),
         NAMES.places(),
@@ -80,9 +80,9 @@ fn verbose_answer(alloc: Global, held: &str, texts: &Texts) -> Result<String, No
 }
 
 /// The output and result of the debugged run of a case.
-struct Debugged;
+struct WideDebugged;
 
-impl Question for Debugged {
+impl Question for WideDebugged {
     fn answer(alloc: Global, asked: &str) -> Result<String, Fail> {
         let (held, rest) = asked.split_once('¦').ok_or("no dialplan")?;
         let texts = texts_of(alloc, rest)?;
@@ -106,7 +106,7 @@ impl Question for VerboseDebugged {
 /// Runs that stop before anything unknown halt at their break, and count the events that the machine was given.
 #[test]
 fn wide_runs_halt_at_their_break(rt: HostRuntime) -> Result<(), Fail> {
-    check_all::<Debugged>(rt.alloc(), &[BREAKS])
+    check_all::<WideDebugged>(rt.alloc(), &[BREAKS])
 }
 
 /// Verbose runs halt at the same places.

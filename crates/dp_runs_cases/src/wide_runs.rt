@@ -1,6 +1,6 @@
 //! Runs that state facts and stop before anything unknown, with everything that they print, worked out by hand from the rules.
 use dp_case_tables::{Question, check_all};
-use dp_commands_fixture::{Texts, make_sink, outcome_text, read_texts};
+use dp_commands_fixture::{RunTextsOf, make_sink, outcome_text, read_texts};
 use dp_conf::NoMemory;
 use dp_wide_runs::run_wide;
 use std::alloc::Global;
@@ -91,16 +91,16 @@ abc¦¦walk 1→fault 4 NoEquals line 2
 ";
 
 /// The whole output of a run of these texts, followed by its result.
-fn answer_to(alloc: Global, texts: &Texts) -> Result<String, NoMemory> {
+fn answer_to(alloc: Global, texts: &RunTextsOf) -> Result<String, NoMemory> {
     let mut writer = make_sink(alloc, 4096, None);
     let ended = run_wide(alloc, texts.lend(), &mut writer);
     outcome_text(alloc, ended, writer)
 }
 
 /// The output and result of the run of a case.
-struct WideRun;
+struct WideRunAnswer;
 
-impl Question for WideRun {
+impl Question for WideRunAnswer {
     fn answer(alloc: Global, asked: &str) -> Result<String, Fail> {
         let (plan, rest) = asked.split_once('¦').ok_or("no queues")?;
         let (queues, script) = rest.split_once('¦').ok_or("no script")?;
@@ -113,5 +113,5 @@ impl Question for WideRun {
 /// Runs stop before anything unknown, and go on once a fact is stated.
 #[test]
 fn runs_stop_before_the_unknown(rt: HostRuntime) -> Result<(), Fail> {
-    check_all::<WideRun>(rt.alloc(), &[STOPS, FACTS, CALLS, FAULTS])
+    check_all::<WideRunAnswer>(rt.alloc(), &[STOPS, FACTS, CALLS, FAULTS])
 }

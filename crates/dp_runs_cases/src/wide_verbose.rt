@@ -1,7 +1,7 @@
 //! Verbose runs that state facts, with everything that they print, worked out by hand from the rules.
-use crate::verbose::{NAMES, Same};
+use crate::verbose::{NAMES, SameExplanation};
 use dp_case_tables::{Question, check_all};
-use dp_commands_fixture::{Texts, make_sink, outcome_text, read_texts};
+use dp_commands_fixture::{RunTextsOf, make_sink, outcome_text, read_texts};
 use dp_conf::NoMemory;
 use dp_wide_runs::run_wide_verbose;
 use std::alloc::Global;
@@ -29,9 +29,14 @@ exten => s,1,NoOp()¦¦start main s\nwalk 1→fault 70 BadScript line 2
 ";
 
 /// The whole output of a verbose run of these texts, followed by its result.
-fn answer_to(alloc: Global, texts: &Texts) -> Result<String, NoMemory> {
+fn answer_to(alloc: Global, texts: &RunTextsOf) -> Result<String, NoMemory> {
     let mut writer = make_sink(alloc, 4096, None);
-    let ended = run_wide_verbose::<Same, _>(alloc, texts.lend(), NAMES.places(), &mut writer);
+    let ended = run_wide_verbose::<SameExplanation, _>(
+        alloc,
+        texts.lend(),
+        NAMES.places(),
+        &mut writer,
+    );
     outcome_text(alloc, ended, writer)
 }
 

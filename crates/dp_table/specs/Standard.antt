@@ -20,7 +20,7 @@ use Rattle.dp_qapps.specs.Touches.{variables_and_members, variables_and_waiting}
 
 -- a table: the row of each name, what each may change, that each row keeps the laws with that, that names have no case, and the
 -- applications in their order
-pub record Table : Type 0 where
+pub record LawfulTable : Type 0 where
   pub touches : List ℕ → Touch
   pub rows : Rows
   pub lawful : IsLawful touches rows
@@ -28,11 +28,11 @@ pub record Table : Type 0 where
   pub listed : List Listed
 
 -- the table with no name
-abbrev pub no_table : Table
+abbrev pub no_table : LawfulTable
 no_table = record { touches = no_touch; rows = no_rows; lawful = no_rows_lawful; blind = no_rows_blind; listed = [] }
 
 -- a table with one more application: its name, what it may change, its row, and that the row keeps the laws
-abbrev pub with_application : (title : List ℕ) (touch : Touch) (row : Row) → IsLawfulRow touch row → Table → Table
+abbrev pub with_application : (title : List ℕ) (touch : Touch) (row : Row) → IsLawfulRow touch row → LawfulTable → LawfulTable
 with_application title touch row lawful table = record {
   touches = with_touch title touch table.touches;
   rows = with_row title row table.rows;
@@ -42,7 +42,7 @@ with_application title touch row lawful table = record {
 }
 
 -- the table of this program
-unfoldable pub standard_table : Table
+unfoldable pub standard_table : LawfulTable
 standard_table =
     with_application (codes "NoOp") nothing next_row next_lawful
     (with_application (codes "Goto") nothing goto_row goto_lawful

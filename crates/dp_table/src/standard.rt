@@ -7,7 +7,7 @@ use dp_flow::{
     Answer, Background, Dial, Gosub, GosubIf, Goto, GotoIf, Hangup, NoOp, Playback, Return, Set,
     StackPop, Verbose, Wait, WaitExten,
 };
-use dp_qapps::{AddQueueMember, PauseQueueMember, Queue, RemoveQueueMember, UnpauseQueueMember};
+use dp_qapps::{AddQueueMember, PauseQueueMember, QueueApp, RemoveQueueMember, UnpauseQueueMember};
 use dp_vars::{Counts, Scope, StandardFunctions};
 use std::alloc::Global;
 
@@ -18,7 +18,10 @@ type Membership = With<
 >;
 
 /// Those and the ones that wait.
-type Waiting = With<Wait, With<WaitExten, With<Background, With<Dial, With<Queue, Membership>>>>>;
+type Waiting = With<
+    Wait,
+    With<WaitExten, With<Background, With<Dial, With<QueueApp, Membership>>>>,
+>;
 
 /// Those and the ones that answer and end the call, and that play or print nothing here.
 type Silent = With<Answer, With<Hangup, With<Verbose, With<Playback, Waiting>>>>;
@@ -87,7 +90,7 @@ impl KnownTable for StandardApps {
         true
     }
 
-    fn asked<B, C: Counts>(
+    fn unknown_need<B, C: Counts>(
         alloc: Global,
         _scope: &Scope<'_, B, C>,
         _name: &[u8],

@@ -8,7 +8,7 @@ use Rattle.dp_plan.specs.declared.note.Note.{Note}
 use Rattle.dp_queue.specs.Queues.{QueuesOf}
 use Rattle.dp_machine.specs.World.{World, opening_with}
 use Rattle.dp_commands.specs.Faults.{reason_of}
-use Rattle.dp_commands.specs.Run.{Files, plan_fault, queues_of}
+use Rattle.dp_commands.specs.Run.{LoadedFilesOf, plan_fault, queues_of}
 use Rattle.dp_commands.specs.declared.fault.PbxFault.{PbxFault}
 use Rattle.dp_commands.specs.declared.fault.PbxFault.TheVariants.{Coded, NoMemory}
 use Rattle.dp_wide.specs.Functions.{wide_functions}
@@ -36,11 +36,11 @@ same_value : {Y E : Type 0} (given : Result Y E) (x y : Y) → given ≡ Ok x �
 same_value given x y one other = sym (ap (value_or x) one) ∙ ap (value_or x) other
 
 -- the files of a dialplan and of queues that were read
-abbrev files_by : Result (PlanOf × List Note) PbxFault → Result QueuesOf PbxFault → Result Files PbxFault
+abbrev files_by : Result (PlanOf × List Note) PbxFault → Result QueuesOf PbxFault → Result LoadedFilesOf PbxFault
 files_by plan queues = plan >>= λ read. queues >>= λ held. Ok (record { plan = read.0; queues = held })
 
 -- the world in which tests begin
-abbrev world_by : Result Files PbxFault → Result World PbxFault
+abbrev world_by : Result LoadedFilesOf PbxFault → Result World PbxFault
 world_by files = files >>= λ files. Ok (opening_with wide_functions files.plan files.queues)
 
 over_by : (plan : Result (PlanOf × List Note) PbxFault) (queues : Result QueuesOf PbxFault) (held : QueuesOf) (in_force : PlanOf)

@@ -1,7 +1,7 @@
 -- The calls inside that of an entry, one by one.
 use Rattle.std.proofs.Common.{◌≡◌, ℕ, zero, suc, ◌+◌, ◌-◌, ◌≤◌, ◌<◌, List, [], ◌∷◌, map, Option, Some, None, ap, refl, ◌∙◌, arith}
 use Rattle.dp_test_runs.specs.Ran.{call_and, call_in, calls_within, side_ran, sides_within}
-use Rattle.dp_test_runs.specs.declared.ran.RanEntry.{RanEntry}
+use Rattle.dp_test_runs.specs.declared.ran_entries.RanEntry.{RanEntry}
 
 calls-none : (left : ℕ) (call : List ℕ × List ℕ) → call_in call ≡ None → calls_within left call ≡ []
 calls-none zero call none = refl

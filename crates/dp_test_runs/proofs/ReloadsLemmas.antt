@@ -16,7 +16,7 @@ use Rattle.dp_commands.specs.Script.{line_turns, turns_of}
 use Rattle.dp_commands.specs.declared.script.ScriptLine.{ScriptLine}
 use Rattle.dp_commands.specs.declared.script.Turn.TheVariants.{Event as turn_event, Show}
 use Rattle.dp_wide_runs.specs.Given.{first_given, step_given}
-use Rattle.dp_wide_runs.specs.Lines.{stepped}
+use Rattle.dp_wide_runs.specs.Lines.{stepped_channel}
 use Rattle.dp_wide_runs.specs.Turns.{place_after, place_of_unknown, unknown_at, wide_meanings}
 use Rattle.dp_wide_runs.specs.declared.wide_turn.WideTurn.{WideTurn}
 use Rattle.dp_wide_runs.specs.declared.wide_turn.WideTurn.TheVariants.{Plain, Further, Pass}
@@ -28,10 +28,10 @@ use Rattle.dp_tests.specs.declared.file.TestFile.{TestFile}
 use Rattle.dp_tests.specs.declared.file.TestLine.{TestLine}
 use Rattle.dp_test_runs.specs.Courses.{after_event, after_given, after_turn, after_turns, at_line, event_given, event_in}
 use Rattle.dp_test_runs.specs.Settling.{most_steps, stepped_within, steps_of, steps_within}
-use Rattle.dp_test_runs.specs.Tests.{Ended, after_act, after_fact, after_head, ended, ended_after, ended_in, ended_test, failure_at_end, failure_of, go_on}
+use Rattle.dp_test_runs.specs.Tests.{Ended, after_act, after_fact, after_head, test_end, ended_after, ended_in, ended_test, failure_at_end, failure_of, go_on}
 use Rattle.dp_test_runs.specs.declared.course.Course.{Course}
 use Rattle.dp_test_runs.specs.declared.failure.Failure.{Failure}
-use Rattle.dp_test_runs.specs.declared.named_text.NamedText.{NamedText}
+use Rattle.dp_test_runs.specs.declared.named_text.NamedFileText.{NamedFileText}
 use Rattle.dp_test_runs.specs.steps.Reloads.{act_reloads, fact_reloads, lines_reload, start_reloads, test_reloads, turn_reloads, turns_reload}
 
 -- ---- events
@@ -76,7 +76,7 @@ pass-given number (Some place) = refl
 -- the event of a turn that is no reload
 turn-given : (w : World) (turn : WideTurn) → turn_reloads turn ≡ false → reload_in (event_given w turn) ≡ false
 unfolding event_given
-turn-given w (Plain (turn_event event)) other = first-given w event (stepped event) other
+turn-given w (Plain (turn_event event)) other = first-given w event (stepped_channel event) other
 turn-given w (Plain (Show number name)) other = refl
 turn-given w (Further number) other = step-given number (unknown_at w number)
 turn-given w (Pass number) other = pass-given number (place_of_unknown w number)
@@ -115,7 +115,7 @@ line-keeps course turns none = turns-keep (at_line course) (turns_of turns) (tur
 
 -- ---- lines
 
-act-keeps : (files : List NamedText) (course : Course) (act : Act) → act_reloads act ≡ false
+act-keeps : (files : List NamedFileText) (course : Course) (act : Act) → act_reloads act ≡ false
     → (after_act files course act).machine.plan ≡ course.machine.plan
 act-keeps files course (acts.Turns turns) none = line-keeps course turns none
 act-keeps files course (acts.Reload name) none = none-of (sym none)
@@ -128,7 +128,7 @@ unless-keeps course None later keeps = keeps
 unless-keeps course (Some failure) later keeps = refl
 
 -- lines, one after another until one fails
-lines-keep : (files : List NamedText) (course : Course) (lines : List TestLine) → lines_reload lines ≡ false
+lines-keep : (files : List NamedFileText) (course : Course) (lines : List TestLine) → lines_reload lines ≡ false
     → (ended_after files course lines).course.machine.plan ≡ course.machine.plan
 lines-keep files course [] none = refl
 lines-keep files course (line ∷ lines) none =
@@ -144,14 +144,14 @@ fact-keeps course None none = refl
 fact-keeps course (Some head) none = line-keeps course head.turns none
 
 -- a test after its setup
-rest-keeps : (files : List NamedText) (test : Test) (course : Course) → lines_reload test.lines ≡ false
+rest-keeps : (files : List NamedFileText) (test : Test) (course : Course) → lines_reload test.lines ≡ false
     → (ended_test files test course).course.machine.plan ≡ course.machine.plan
 rest-keeps files test course none =
     let last : Ended = ended_after files course test.lines in
-    unless-keeps last.course last.failure (λ (c : Course). ended c (failure_at_end c.machine test)) refl ∙ lines-keep files course test.lines none
+    unless-keeps last.course last.failure (λ (c : Course). test_end c (failure_at_end c.machine test)) refl ∙ lines-keep files course test.lines none
 
 -- a whole test
-pub test_keeps : (files : List NamedText) (file : TestFile) (test : Test) (course : Course) → test_reloads file test ≡ false
+pub test_keeps : (files : List NamedFileText) (file : TestFile) (test : Test) (course : Course) → test_reloads file test ≡ false
     → (ended_in files file test course).course.machine.plan ≡ course.machine.plan
 test_keeps files file test course none =
     let start : start_reloads file ≡ false = first-fails (start_reloads file) (lines_reload test.lines) none in

@@ -10,7 +10,7 @@ use Rattle.dp_machine.specs.declared.channel.Channel.{Channel}
 use Rattle.dp_machine.specs.declared.event.Event.TheVariants.{Step}
 use Rattle.dp_wide_runs.specs.Turns.{wide_meanings}
 use Rattle.dp_test_runs.specs.Ran.{ran_after, ran_by}
-use Rattle.dp_test_runs.specs.Settling.{after_step, first_and, is_channel, next_to_step, ran_within, settled, settled_within, stepped_within, steps_of}
+use Rattle.dp_test_runs.specs.Settling.{after_step, first_and, is_channel, next_to_step, ran_within, settled_world, settled_within, stepped_within, steps_of}
 
 -- the numbers that are left begin with the next one
 pub numbers_first : (number most : ℕ) → number ≤ most → range_with_len number (most + 1 - number) ≡ number ∷ range_with_len (number + 1) (most + 1 - (number + 1))
@@ -120,7 +120,7 @@ ran_end left taken w end =
     ap (λ (n : ℕ). ran_after w (map Step (stepped_within n w))) none
 
 -- all steps of a world that settles
-pub settled_is : (left : ℕ) (w : World) → left ≡ 10000 → settled_within left w ≡ settled w
+pub settled_is : (left : ℕ) (w : World) → left ≡ 10000 → settled_within left w ≡ settled_world w
 unfolding settled_within steps_of
 settled_is left w all = ap (λ (n : ℕ). world_after wide_meanings w (map Step (stepped_within n w))) all
 

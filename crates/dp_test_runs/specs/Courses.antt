@@ -25,7 +25,7 @@ use Rattle.dp_test_runs.specs.Ran.{ran_after}
 use Rattle.dp_test_runs.specs.Settling.{is_endless, steps_of}
 use Rattle.dp_test_runs.specs.declared.course.Course.{Course}
 use Rattle.dp_test_runs.specs.declared.course.PlanChange.{PlanChange}
-use Rattle.dp_test_runs.specs.declared.named_text.NamedText.{NamedText}
+use Rattle.dp_test_runs.specs.declared.named_text.NamedFileText.{NamedFileText}
 
 -- ---- the event of a turn
 
@@ -106,11 +106,11 @@ abbrev pub after_turns : Course → List (ScriptLine WideTurn) → Course
 after_turns course lines = fold after_turn (at_line course) (turns_of lines)
 
 -- the text of the file with a name, among the files that the caller has read
-abbrev pub text_named : List NamedText → List ℕ → Option (List ℕ)
+abbrev pub text_named : List NamedFileText → List ℕ → Option (List ℕ)
 text_named files name = option_map (λ file. file.text) (find (λ file. same_text file.name name) files)
 
 -- the number of that file
-abbrev pub number_named : List NamedText → List ℕ → Option ℕ
+abbrev pub number_named : List NamedFileText → List ℕ → Option ℕ
 number_named files name = position (λ file. same_text file.name name) files
 
 -- the dialplan of the file with a number is put in force after so many entries ran, unless this is refused

@@ -13,13 +13,13 @@ use Rattle.dp_commands.specs.declared.fault.PbxFault.{PbxFault}
 use Rattle.dp_wide_runs.specs.Lines.{cut_word}
 use Rattle.dp_tests.specs.declared.file.Test.{Test}
 use Rattle.dp_test_runs.specs.Results.{opening_of, result_on}
-use Rattle.dp_test_runs.specs.Traces.{SourcesOf, entered, last_five, sources_of, trace_of}
+use Rattle.dp_test_runs.specs.Traces.{SourcesOf, entered_entries, last_five, sources_of, trace_of}
 use Rattle.dp_test_runs.specs.declared.failure.Failure.{Failure}
 use Rattle.dp_test_runs.specs.declared.failure.FailureKind.{FailureKind}
 use Rattle.dp_test_runs.specs.declared.failure.FailureKind.TheVariants as kinds
 use Rattle.dp_test_runs.specs.declared.points.TestedFile.{TestedFile}
 use Rattle.dp_test_runs.specs.declared.tap.Point.{Point}
-use Rattle.dp_test_runs.specs.declared.tap.Report.{Report}
+use Rattle.dp_test_runs.specs.declared.tap.FailureReport.{FailureReport}
 use Rattle.dp_test_runs.specs.declared.test_run.TestResult.{TestResult}
 
 -- a line of a file, `PATH:LINE`
@@ -50,7 +50,7 @@ abbrev pub trace_for : TestedFile → TestResult → List (List ℕ)
 trace_for tested ended = trace_of (sources_for tested) ended.changes ended.ran
 
 -- the report of a test that failed, given its trace
-abbrev pub report_of : TestedFile → List (List ℕ) → List ℕ → Failure → Report
+abbrev pub report_of : TestedFile → List (List ℕ) → List ℕ → Failure → FailureReport
 report_of tested trace got failure =
     record {
       at = line_shown tested.path.now failure.line;
@@ -66,7 +66,7 @@ point_by tested name ended =
       name = name;
       report = option_map (report_of tested (trace_for tested ended) ended.got) ended.failure;
       trace = trace_for tested ended;
-      entered = entered ended.changes ended.ran;
+      entered = entered_entries ended.changes ended.ran;
     }
 
 -- the point of a test that begins in a world

@@ -16,7 +16,7 @@ use Rattle.dp_machine.specs.declared.reply.Reply.TheVariants.{Started, Ran, Inva
 use Rattle.dp_commands.specs.Verbose.{arguments_of_by}
 use Rattle.dp_wide.specs.Choices.{exec_if_application, exec_if_title}
 use Rattle.dp_wide_runs.specs.Turns.{wide_meanings}
-use Rattle.dp_test_runs.specs.declared.ran.RanEntry.{RanEntry}
+use Rattle.dp_test_runs.specs.declared.ran_entries.RanEntry.{RanEntry}
 
 -- ---- what an entry runs inside its own call
 

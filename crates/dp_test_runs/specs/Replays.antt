@@ -18,7 +18,7 @@ use Rattle.dp_test_runs.specs.Ran.{ran_after}
 use Rattle.dp_test_runs.specs.Tests.{after_act, after_fact, after_head, ended_after, failure_of}
 use Rattle.dp_test_runs.specs.declared.course.Course.{Course}
 use Rattle.dp_test_runs.specs.declared.failure.Failure.{Failure}
-use Rattle.dp_test_runs.specs.declared.named_text.NamedText.{NamedText}
+use Rattle.dp_test_runs.specs.declared.named_text.NamedFileText.{NamedFileText}
 
 -- an event, if there is one, with the steps that follow it
 abbrev pub events_by : World → Option Event → List Event
@@ -37,7 +37,7 @@ reload_of None = None
 reload_of (Some text) = Some (Reload text)
 
 -- what a line gives
-abbrev pub events_of_act : List NamedText → Course → Act → List Event
+abbrev pub events_of_act : List NamedFileText → Course → Act → List Event
 events_of_act files course (acts.Turns turns) = events_of_turns (at_line course) (turns_of turns)
 events_of_act files course (acts.Reload name) = events_by course.machine (reload_of (text_named files name))
 events_of_act files course (acts.Expect expectation) = []
@@ -48,7 +48,7 @@ given_unless None events = events
 given_unless (Some failure) events = []
 
 -- what lines give, one after another until one fails
-abbrev pub events_of_lines : List NamedText → Course → List TestLine → List Event
+abbrev pub events_of_lines : List NamedFileText → Course → List TestLine → List Event
 events_of_lines files course [] = []
 events_of_lines files course (line ∷ lines) =
     events_of_act files course line.act
@@ -64,13 +64,13 @@ abbrev pub events_of_head : Course → TestFile → List Event
 events_of_head course file = events_of_fact course file.clock ++ events_of_fact (after_fact course file.clock) file.assume
 
 -- what a test of a file gives, from its beginning: what the head states, the setup, and the lines of the test
-abbrev pub events_of_test : List NamedText → TestFile → Test → Course → List Event
+abbrev pub events_of_test : List NamedFileText → TestFile → Test → Course → List Event
 events_of_test files file test course =
     events_of_head course file ++ (events_of_lines files (after_head course file) file.setup
     ++ given_unless (ended_after files (after_head course file) file.setup).failure
     (events_of_lines files (ended_after files (after_head course file) file.setup).course test.lines))
 
 -- a course is what these events make of another: its world is the one after them, and they ran what ran since
-pub record Replays (before after : Course) (events : List Event) : Type 0 where
+pub record ReplaysCourse (before after : Course) (events : List Event) : Type 0 where
   pub world : after.machine ≡ world_after wide_meanings before.machine events
   pub ran : after.ran ≡ before.ran ++ ran_after before.machine events

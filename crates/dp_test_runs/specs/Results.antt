@@ -8,18 +8,18 @@ use Rattle.dp_commands.specs.declared.fault.PbxFault.{PbxFault}
 use Rattle.dp_wide.specs.Functions.{wide_functions}
 use Rattle.dp_tests.specs.declared.file.Test.{Test}
 use Rattle.dp_tests.specs.declared.file.TestFile.{TestFile}
-use Rattle.dp_test_runs.specs.Shown.{got}
+use Rattle.dp_test_runs.specs.Shown.{got_text}
 use Rattle.dp_test_runs.specs.Tests.{Ended, beginning, ended_in}
-use Rattle.dp_test_runs.specs.declared.named_text.NamedText.{NamedText}
+use Rattle.dp_test_runs.specs.declared.named_text.NamedFileText.{NamedFileText}
 use Rattle.dp_test_runs.specs.declared.test_run.TestResult.{TestResult}
 use Rattle.dp_test_runs.specs.declared.test_run.TestTexts.{TestTexts}
 
 -- the result of a test that ended so
 abbrev pub result_by : Test → Ended → TestResult
-result_by test end = record { failure = end.failure; got = got end.course test.lines end.failure; ran = end.course.ran; changes = end.course.changes }
+result_by test end = record { failure = end.failure; got = got_text end.course test.lines end.failure; ran = end.course.ran; changes = end.course.changes }
 
 -- the result of a test of a file in a machine with this world
-abbrev pub result_on : List NamedText → TestFile → Test → World → TestResult
+abbrev pub result_on : List NamedFileText → TestFile → Test → World → TestResult
 result_on files file test w = result_by test (ended_in files file test (beginning w))
 
 -- the world in which a test begins, given the texts of the dialplan and of its queues, if there are some; or the first fault

@@ -11,7 +11,7 @@ use Rattle.dp_machine.specs.declared.event.Event.TheVariants.{Step}
 use Rattle.dp_commands.specs.Trace.{phase_at}
 use Rattle.dp_wide_runs.specs.Turns.{unknown_at, wide_meanings}
 use Rattle.dp_test_runs.specs.Ran.{ran_after}
-use Rattle.dp_test_runs.specs.declared.ran.RanEntry.{RanEntry}
+use Rattle.dp_test_runs.specs.declared.ran_entries.RanEntry.{RanEntry}
 
 -- ---- the channel that is stepped next
 
@@ -79,9 +79,9 @@ unfoldable pub steps_of : World → List Event
 steps_of w = steps_within most_steps w
 
 -- the world after them
-abbrev pub settled : World → World
-settled w = world_after wide_meanings w (steps_of w)
+abbrev pub settled_world : World → World
+settled_world w = world_after wide_meanings w (steps_of w)
 
 -- whether a world does not settle: after the most steps there is still a channel that can be stepped
 abbrev pub is_endless : World → Bool
-is_endless w = is_some (next_to_step (settled w))
+is_endless w = is_some (next_to_step (settled_world w))

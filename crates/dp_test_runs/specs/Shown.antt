@@ -11,8 +11,8 @@ use Rattle.dp_machine.specs.declared.refusal.Refusal.{Refusal}
 use Rattle.dp_machine.specs.declared.unknown.Unknown.{Unknown}
 use Rattle.dp_commands.specs.Trace.{place_text, refusal_text, state_text}
 use Rattle.dp_wide_runs.specs.Turns.{unknown_at}
-use Rattle.dp_tests.specs.declared.expectation.Claim.{Claim}
-use Rattle.dp_tests.specs.declared.expectation.Claim.TheVariants as claims
+use Rattle.dp_tests.specs.declared.expectation.LineClaim.{LineClaim}
+use Rattle.dp_tests.specs.declared.expectation.LineClaim.TheVariants as claims
 use Rattle.dp_tests.specs.declared.file.Act.{Act}
 use Rattle.dp_tests.specs.declared.file.Act.TheVariants as acts
 use Rattle.dp_tests.specs.declared.file.TestLine.{TestLine}
@@ -21,7 +21,7 @@ use Rattle.dp_test_runs.specs.declared.course.Course.{Course}
 use Rattle.dp_test_runs.specs.declared.failure.Failure.{Failure}
 use Rattle.dp_test_runs.specs.declared.failure.FailureKind.{FailureKind}
 use Rattle.dp_test_runs.specs.declared.failure.FailureKind.TheVariants as kinds
-use Rattle.dp_test_runs.specs.declared.ran.RanEntry.{RanEntry}
+use Rattle.dp_test_runs.specs.declared.ran_entries.RanEntry.{RanEntry}
 
 -- the state of a channel: what stops it, if it is stopped
 abbrev pub state_by : World → ℕ → Option Unknown → List ℕ
@@ -60,7 +60,7 @@ abbrev pub refusal_shown : Option Refusal → List ℕ
 refusal_shown refusal = option_map_or refusal_text refusal (codes "taken")
 
 -- what a course has in place of a claim
-abbrev pub claim_shown : Course → Claim → List ℕ
+abbrev pub claim_shown : Course → LineClaim → List ℕ
 claim_shown course (claims.State channel text) = state_shown course.machine channel
 claim_shown course (claims.Ran channel call) = last_shown call_shown (last_of channel course.ran)
 claim_shown course (claims.Passed channel call) = last_shown call_shown (last_of channel course.ran)
@@ -91,5 +91,5 @@ abbrev pub got_of : Course → List TestLine → Failure → List ℕ
 got_of course lines failure = got_by course lines failure.line failure.kind
 
 -- the same of a test that may have passed
-abbrev pub got : Course → List TestLine → Option Failure → List ℕ
-got course lines failure = option_map_or (got_of course lines) failure []
+abbrev pub got_text : Course → List TestLine → Option Failure → List ℕ
+got_text course lines failure = option_map_or (got_of course lines) failure []

@@ -2,7 +2,7 @@
 use Rattle.std.specs.Prelude.{ℕ, ◌+◌, Bool, ◌||◌, ◌==◌, List, [], ◌∷◌, ◌++◌, length, Option, Some, None, codes, decimal, if◌then◌else◌}
 use Rattle.std.specs.List.{flat_map}
 use Rattle.dp_test_runs.specs.declared.tap.Point.{Point}
-use Rattle.dp_test_runs.specs.declared.tap.Report.{Report}
+use Rattle.dp_test_runs.specs.declared.tap.FailureReport.{FailureReport}
 
 -- a line with this text
 abbrev pub line_of : List ℕ → List ℕ
@@ -13,8 +13,8 @@ abbrev pub quoted_byte : ℕ → List ℕ
 quoted_byte byte = if byte == 39 then 39 ∷ 39 ∷ [] else byte ∷ []
 
 -- a text in single quotes
-abbrev pub quoted : List ℕ → List ℕ
-quoted text = 39 ∷ [] ++ flat_map quoted_byte text ++ 39 ∷ []
+abbrev pub quoted_text : List ℕ → List ℕ
+quoted_text text = 39 ∷ [] ++ flat_map quoted_byte text ++ 39 ∷ []
 
 -- a byte of a name: `#` and `\` have a `\` before them
 abbrev pub name_byte : ℕ → List ℕ
@@ -22,11 +22,11 @@ name_byte byte = if byte == 35 || byte == 92 then 92 ∷ byte ∷ [] else byte �
 
 -- a key and its text, on a line of its own
 abbrev pub key_line : List ℕ → List ℕ → List ℕ
-key_line key text = codes "  " ++ key ++ codes ": " ++ quoted text ++ 10 ∷ []
+key_line key text = codes "  " ++ key ++ codes ": " ++ quoted_text text ++ 10 ∷ []
 
 -- a line of a trace
 abbrev pub trace_line : List ℕ → List ℕ
-trace_line text = codes "    - " ++ quoted text ++ 10 ∷ []
+trace_line text = codes "    - " ++ quoted_text text ++ 10 ∷ []
 
 -- the lines of a trace below their key
 abbrev pub trace_lines : List (List ℕ) → List ℕ
@@ -34,20 +34,20 @@ trace_lines [] = line_of (codes "  trace: []")
 trace_lines (text ∷ texts) = line_of (codes "  trace:") ++ flat_map trace_line (text ∷ texts)
 
 -- the place, what was expected, and what came of it
-abbrev pub keys_text : Report → List ℕ
+abbrev pub keys_text : FailureReport → List ℕ
 keys_text report =
     key_line (codes "at") report.at ++ key_line (codes "expected") report.expected ++ key_line (codes "got") report.got
 
 -- the first lines of the block below a test that failed
-abbrev pub block_head : Report → List ℕ
+abbrev pub block_head : FailureReport → List ℕ
 block_head report = line_of (codes "  ---") ++ keys_text report
 
 -- its last lines
-abbrev pub block_end : Report → List ℕ
+abbrev pub block_end : FailureReport → List ℕ
 block_end report = trace_lines report.trace ++ line_of (codes "  ...")
 
 -- the block below a test that failed
-abbrev pub block_text : Report → List ℕ
+abbrev pub block_text : FailureReport → List ℕ
 block_text report = block_head report ++ block_end report
 
 -- the line of a test with a number, after the word that says whether it passes
@@ -55,7 +55,7 @@ abbrev pub point_line : List ℕ → ℕ → List ℕ → List ℕ
 point_line word number name = word ++ codes " " ++ decimal number ++ codes " - " ++ flat_map name_byte name ++ 10 ∷ []
 
 -- the lines of a test with a number
-abbrev pub point_by : ℕ → List ℕ → Option Report → List ℕ
+abbrev pub point_by : ℕ → List ℕ → Option FailureReport → List ℕ
 point_by number name None = point_line (codes "ok") number name
 point_by number name (Some report) = point_line (codes "not ok") number name ++ block_text report
 

@@ -5,8 +5,8 @@ use Rattle.std.specs.Option.{option_map, option_map_or}
 use Rattle.dp_machine.specs.World.{World}
 use Rattle.dp_machine.specs.declared.refusal.Refusal.{Refusal}
 use Rattle.dp_wide_runs.specs.Turns.{unknown_at}
-use Rattle.dp_tests.specs.declared.expectation.Claim.{Claim}
-use Rattle.dp_tests.specs.declared.expectation.Claim.TheVariants.{State, Ran, Passed, At, Value, Rings, Waiting, Refused}
+use Rattle.dp_tests.specs.declared.expectation.LineClaim.{LineClaim}
+use Rattle.dp_tests.specs.declared.expectation.LineClaim.TheVariants.{State, Ran, Passed, At, Value, Rings, Waiting, Refused}
 use Rattle.dp_tests.specs.declared.expectation.Expectation.{Expectation}
 use Rattle.dp_tests.specs.declared.file.Act.{Act}
 use Rattle.dp_tests.specs.declared.file.Act.TheVariants.{Turns, Reload, Expect}
@@ -21,12 +21,12 @@ use Rattle.dp_test_runs.specs.declared.course.Course.{Course}
 use Rattle.dp_test_runs.specs.declared.failure.Failure.{Failure}
 use Rattle.dp_test_runs.specs.declared.failure.FailureKind.{FailureKind}
 use Rattle.dp_test_runs.specs.declared.failure.FailureKind.TheVariants as kinds
-use Rattle.dp_test_runs.specs.declared.named_text.NamedText.{NamedText}
+use Rattle.dp_test_runs.specs.declared.named_text.NamedFileText.{NamedFileText}
 
 -- ---- what a line does
 
 -- the course after what a line does
-abbrev pub after_act : List NamedText → Course → Act → Course
+abbrev pub after_act : List NamedFileText → Course → Act → Course
 after_act files course (Turns turns) = after_turns course turns
 after_act files course (Reload name) = after_reload course (number_named files name) (text_named files name)
 after_act files course (Expect expectation) = course
@@ -37,7 +37,7 @@ abbrev pub fails_at : ℕ → FailureKind → Failure
 fails_at line kind = record { line = line; kind = kind }
 
 -- whether a claim is that the event line before was refused
-abbrev pub claims_refusal : Claim → Bool
+abbrev pub claims_refusal : LineClaim → Bool
 claims_refusal (State channel text) = false
 claims_refusal (Ran channel call) = false
 claims_refusal (Passed channel call) = false
@@ -86,17 +86,17 @@ pub record Ended : Type 0 where
   pub course : Course
   pub failure : Option Failure
 
-abbrev pub ended : Course → Option Failure → Ended
-ended course failure = record { course = course; failure = failure }
+abbrev pub test_end : Course → Option Failure → Ended
+test_end course failure = record { course = course; failure = failure }
 
 -- what follows goes on only if nothing has failed
 abbrev pub go_on : Course → Option Failure → (Course → Ended) → Ended
 go_on course None later = later course
-go_on course (Some failure) later = ended course (Some failure)
+go_on course (Some failure) later = test_end course (Some failure)
 
 -- where lines end that run one after another until one fails
-abbrev pub ended_after : List NamedText → Course → List TestLine → Ended
-ended_after files course [] = ended course None
+abbrev pub ended_after : List NamedFileText → Course → List TestLine → Ended
+ended_after files course [] = test_end course None
 ended_after files course (line ∷ lines) =
     go_on (after_act files course line.act) (failure_of (after_act files course line.act) line.line lines line.act)
     (λ next. ended_after files next lines)
@@ -104,7 +104,7 @@ ended_after files course (line ∷ lines) =
 -- ---- the end of a test
 
 -- the channel that a claim is about
-abbrev pub claimed_channel : Claim → Option ℕ
+abbrev pub claimed_channel : LineClaim → Option ℕ
 claimed_channel (State channel text) = Some channel
 claimed_channel (Ran channel call) = Some channel
 claimed_channel (Passed channel call) = Some channel
@@ -115,7 +115,7 @@ claimed_channel (Waiting queue count) = None
 claimed_channel (Refused refusal) = None
 
 -- whether a claim is about a channel
-abbrev pub is_about : ℕ → Claim → Bool
+abbrev pub is_about : ℕ → LineClaim → Bool
 is_about channel claim = option_map_or (λ number. number == channel) (claimed_channel claim) false
 
 -- whether something was expected of a channel since the last event line, given whether that was so before a line
@@ -145,10 +145,10 @@ abbrev pub failure_at_end : World → Test → Option Failure
 failure_at_end w test = option_map (left_at (last_line test)) (find (is_left w test.lines) (numbers_of w))
 
 -- the end of a test after its setup
-abbrev pub ended_test : List NamedText → Test → Course → Ended
+abbrev pub ended_test : List NamedFileText → Test → Course → Ended
 ended_test files test course =
     go_on (ended_after files course test.lines).course (ended_after files course test.lines).failure
-    (λ last. ended last (failure_at_end last.machine test))
+    (λ last. test_end last (failure_at_end last.machine test))
 
 -- the course after a line of the head that states a fact, if there is one
 abbrev pub after_fact : Course → Option HeadLine → Course
@@ -160,7 +160,7 @@ abbrev pub after_head : Course → TestFile → Course
 after_head course file = after_fact (after_fact course file.clock) file.assume
 
 -- the end of a test of a file that begins with this course
-abbrev pub ended_in : List NamedText → TestFile → Test → Course → Ended
+abbrev pub ended_in : List NamedFileText → TestFile → Test → Course → Ended
 ended_in files file test course =
     go_on (ended_after files (after_head course file) file.setup).course (ended_after files (after_head course file) file.setup).failure
     (ended_test files test)

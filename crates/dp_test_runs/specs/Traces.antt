@@ -7,12 +7,12 @@ use Rattle.dp_plan.specs.Plan.{PlanOf}
 use Rattle.dp_plan.specs.declared.entry.EntryId.{EntryId}
 use Rattle.dp_plan.specs.declared.fault.LoadFault.{LoadFault}
 use Rattle.dp_plan.specs.declared.note.Note.{Note}
-use Rattle.dp_commands.specs.LinePlaces.{Places, in_file_text, line_place}
+use Rattle.dp_commands.specs.LinePlaces.{PlacesOfLines, in_file_text, line_place}
 use Rattle.dp_commands.specs.Verbose.{lines_in}
 use Rattle.dp_test_runs.specs.Shown.{call_shown, place_shown}
 use Rattle.dp_test_runs.specs.declared.course.PlanChange.{PlanChange}
-use Rattle.dp_test_runs.specs.declared.named_text.NamedText.{NamedText}
-use Rattle.dp_test_runs.specs.declared.ran.RanEntry.{RanEntry}
+use Rattle.dp_test_runs.specs.declared.named_text.NamedFileText.{NamedFileText}
+use Rattle.dp_test_runs.specs.declared.ran_entries.RanEntry.{RanEntry}
 
 -- ---- which dialplan
 
@@ -38,18 +38,18 @@ plan_lines text = lines_if_loaded (plan_and_notes text) (lines_in text)
 -- where the entries of the dialplans of tests stand: where the lines of the test file's dialplan come from, the files that `reload` lines name,
 -- and the lines of the entries of each
 pub record SourcesOf : Type 0 where
-  pub places : Places
-  pub files : List NamedText
+  pub places : PlacesOfLines
+  pub files : List NamedFileText
   pub plan : List (List ℕ)
   pub reloaded : List (List (List ℕ))
 
 -- where the entries of these dialplans stand
-abbrev pub sources_of : Places → List ℕ → List NamedText → SourcesOf
+abbrev pub sources_of : PlacesOfLines → List ℕ → List NamedFileText → SourcesOf
 sources_of places plan files =
     record { places = places; files = files; plan = plan_lines plan; reloaded = map (λ file. plan_lines file.text) files }
 
 -- a line of a file that a `reload` line names, `FILE:LINE`
-abbrev pub line_of_file : NamedText → Option ℕ → List ℕ
+abbrev pub line_of_file : NamedFileText → Option ℕ → List ℕ
 line_of_file file line = in_file_text file.name line
 
 -- where an entry of the dialplan of the file with a number stands
@@ -70,12 +70,12 @@ abbrev pub ran_shown : RanEntry → List ℕ
 ran_shown ran = place_shown ran ++ codes " " ++ call_shown ran
 
 -- an entry of the dialplan with this number that ran, `FILE:LINE CONTEXT,NAME,PRIORITY APP(ARGS)`
-abbrev pub traced : SourcesOf → Option ℕ → RanEntry → List ℕ
-traced sources plan ran = place_of_entry sources plan ran.id ++ codes " " ++ ran_shown ran
+abbrev pub trace_line : SourcesOf → Option ℕ → RanEntry → List ℕ
+trace_line sources plan ran = place_of_entry sources plan ran.id ++ codes " " ++ ran_shown ran
 
 -- the line of an entry that ran; a call inside that of an entry has no line of its own
 abbrev pub traced_by : SourcesOf → Option ℕ → RanEntry → List (List ℕ)
-traced_by sources plan ran = if ran.is_side then [] else traced sources plan ran ∷ []
+traced_by sources plan ran = if ran.is_side then [] else trace_line sources plan ran ∷ []
 
 -- the lines of entries that ran, of which the first has this place
 abbrev pub trace_from : SourcesOf → List PlanChange → ℕ → List RanEntry → List (List ℕ)
@@ -104,5 +104,5 @@ entered_from changes place [] = []
 entered_from changes place (ran ∷ later) = entered_by (plan_at changes place) ran.id ++ entered_from changes (place + 1) later
 
 -- all of them
-unfoldable pub entered : List PlanChange → List RanEntry → List EntryId
-entered changes ran = entered_from changes 0 ran
+unfoldable pub entered_entries : List PlanChange → List RanEntry → List EntryId
+entered_entries changes ran = entered_from changes 0 ran

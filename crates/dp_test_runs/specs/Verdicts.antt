@@ -20,13 +20,13 @@ use Rattle.dp_wide.specs.CellValues.{assumed_name}
 use Rattle.dp_wide.specs.Functions.{wide_functions}
 use Rattle.dp_wide.specs.Names.{is_given_by_asterisk, is_status}
 use Rattle.dp_wide_runs.specs.Turns.{unknown_at, unknown_name}
-use Rattle.dp_tests.specs.declared.expectation.Call.{Call}
-use Rattle.dp_tests.specs.declared.expectation.Claim.{Claim}
-use Rattle.dp_tests.specs.declared.expectation.Claim.TheVariants.{State, Ran, Passed, At, Value, Rings, Waiting, Refused}
-use Rattle.dp_tests.specs.declared.expectation.EntryPlace.{EntryPlace}
+use Rattle.dp_tests.specs.declared.expectation.ExpectedCall.{ExpectedCall}
+use Rattle.dp_tests.specs.declared.expectation.LineClaim.{LineClaim}
+use Rattle.dp_tests.specs.declared.expectation.LineClaim.TheVariants.{State, Ran, Passed, At, Value, Rings, Waiting, Refused}
+use Rattle.dp_tests.specs.declared.expectation.ExpectedPlace.{ExpectedPlace}
 use Rattle.dp_tests.specs.declared.expectation.Expectation.{Expectation}
 use Rattle.dp_test_runs.specs.declared.course.Course.{Course}
-use Rattle.dp_test_runs.specs.declared.ran.RanEntry.{RanEntry}
+use Rattle.dp_test_runs.specs.declared.ran_entries.RanEntry.{RanEntry}
 
 -- ---- states
 
@@ -58,7 +58,7 @@ abbrev pub has_arguments : Option (List ℕ) → List ℕ → Bool
 has_arguments arguments ran = option_map_or (λ text. same_text ran text) arguments true
 
 -- whether an entry that ran is this call
-abbrev pub is_call : Call → RanEntry → Bool
+abbrev pub is_call : ExpectedCall → RanEntry → Bool
 is_call call ran = same_word ran.application call.application && has_arguments call.arguments ran.arguments
 
 -- whether an entry that ran has this priority, if it is given
@@ -66,7 +66,7 @@ abbrev pub has_priority : Option ℕ → ℕ → Bool
 has_priority priority ran = option_map_or (λ number. ran == number) priority true
 
 -- whether an entry that ran stands at a place; the name of the place counts by its meaning
-abbrev pub stands_at : EntryPlace → RanEntry → Bool
+abbrev pub stands_at : ExpectedPlace → RanEntry → Bool
 stands_at place ran =
     same_text ran.context place.context && (same_name ran.name place.name && has_priority place.priority ran.priority)
 
@@ -79,7 +79,7 @@ abbrev pub last_of : ℕ → List RanEntry → Option RanEntry
 last_of channel ran = fold (later_of channel) None ran
 
 -- whether a channel ran this call
-abbrev pub has_passed : ℕ → Call → List RanEntry → Bool
+abbrev pub has_passed : ℕ → ExpectedCall → List RanEntry → Bool
 has_passed channel call ran = list_any (λ entry. entry.channel == channel && is_call call entry) ran
 
 -- ---- values
@@ -165,7 +165,7 @@ was_refused claimed refusal = option_map_or (is_refusal claimed) refusal false
 
 -- whether a claim is true; None if it is about a value that is unknown. The machine shows no global that a channel does not read, so a claim
 -- about a global is unknown
-abbrev pub truth_of : Course → Claim → Option Bool
+abbrev pub truth_of : Course → LineClaim → Option Bool
 truth_of course (State channel text) = Some (shows course.machine channel text)
 truth_of course (Ran channel call) = Some (option_map_or (is_call call) (last_of channel course.ran) false)
 truth_of course (Passed channel call) = Some (has_passed channel call course.ran)

@@ -2,9 +2,9 @@
 ghost use Rattle.std.specs.Prelude.{◌≡◌};
 ghost use Rattle.dp_test_runs.specs.Courses as spec;
 
-use crate::items::Items;
-use crate::named_text::{NamedText, number_named, text_named};
-use crate::ran::{RanEntries, give};
+use crate::items::RunItems;
+use crate::named_text::{NamedFileText, number_named, text_named};
+use crate::ran_entries::{RanEntries, give};
 use crate::settling::settle;
 use crate::turns::{event_given, refusal_without};
 use dp_commands::ScriptLine;
@@ -28,7 +28,7 @@ pub(crate) struct Course {
     pub(crate) refusal: Option<Refusal>,
     pub(crate) offered: Option<u32>,
     pub(crate) is_endless: bool,
-    pub(crate) changes: Items<PlanChange>,
+    pub(crate) changes: RunItems<PlanChange>,
 }
 
 impl Drop for Course {
@@ -90,11 +90,11 @@ impl Course {
     {
         Course {
             machine,
-            ran: Items::none(alloc),
+            ran: RunItems::none(alloc),
             refusal: None,
             offered: None,
             is_endless: false,
-            changes: Items::none(alloc),
+            changes: RunItems::none(alloc),
         }
     }
 
@@ -104,21 +104,21 @@ impl Course {
         ensures { OnOk result (self.new ≡ tests.beginning (opening_with wide_functions self.old.machine.plan queues)) }
     {
         self.machine.restart(alloc, queues)?;
-        self.ran = Items::none(alloc);
+        self.ran = RunItems::none(alloc);
         self.refusal = None;
         self.offered = None;
         self.is_endless = false;
-        self.changes = Items::none(alloc);
+        self.changes = RunItems::none(alloc);
         Ok(())
     }
 
     /// The entries that ran, and the dialplans that were put in force, which leave the course.
-    pub(crate) fn take_ran(&mut self, alloc: Global) -> (RanEntries, Items<PlanChange>)
+    pub(crate) fn take_ran(&mut self, alloc: Global) -> (RanEntries, RunItems<PlanChange>)
         ensures taken { result ≡ (self.old.ran, self.old.changes) }
         ensures left { self.new ≡ record self.old { ran = []; changes = [] } }
     {
-        let ran = std::mem::replace(&mut self.ran, Items::none(alloc));
-        let changes = std::mem::replace(&mut self.changes, Items::none(alloc));
+        let ran = std::mem::replace(&mut self.ran, RunItems::none(alloc));
+        let changes = std::mem::replace(&mut self.changes, RunItems::none(alloc));
         (ran, changes)
     }
 
@@ -194,7 +194,7 @@ impl Course {
     pub(crate) fn take_reload(
         &mut self,
         alloc: Global,
-        files: &[NamedText],
+        files: &[NamedFileText],
         name: &[u8],
     ) -> Result<(), NoMemory>
         ensures { OnOk result (self.new

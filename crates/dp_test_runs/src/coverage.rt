@@ -9,8 +9,8 @@ ghost use Rattle.dp_test_runs.specs.Coverage as spec;
 ghost use Rattle.dp_test_runs.specs.Ran.{context_name};
 ghost use Rattle.dp_test_runs.specs.steps.Kept as steps;
 
-use crate::items::Items;
-use crate::shown::push_decimal;
+use crate::items::RunItems;
+use crate::showing::push_decimal;
 use crate::sources::push_line_place;
 use dp_commands::{LinePlaces, PbxFault};
 use dp_plan::{Context, Dialplan, Entry, EntryId, EntryLines, LoadedPlan, NoMemory, Text};
@@ -35,7 +35,11 @@ struct NumberedPlan<'a> {
 }
 
 /// Adds the numbers of the entries of a context.
-fn push_ids_in(ids: &mut Items<EntryId>, context: usize, entries: &[Entry]) -> Result<(), NoMemory>
+fn push_ids_in(
+    ids: &mut RunItems<EntryId>,
+    context: usize,
+    entries: &[Entry],
+) -> Result<(), NoMemory>
     ensures { OnOk result (ids.new ≡ ids.old ++ spec.ids_in context 0 entries.now) }
 {
     let mut number: usize = 0;
@@ -50,7 +54,7 @@ fn push_ids_in(ids: &mut Items<EntryId>, context: usize, entries: &[Entry]) -> R
 }
 
 /// Adds the numbers of the entries of contexts.
-fn push_ids(ids: &mut Items<EntryId>, contexts: &[Context]) -> Result<(), NoMemory>
+fn push_ids(ids: &mut RunItems<EntryId>, contexts: &[Context]) -> Result<(), NoMemory>
     ensures { OnOk result (ids.new ≡ ids.old ++ spec.ids_from 0 contexts.now) }
 {
     let mut number: usize = 0;
@@ -63,10 +67,10 @@ fn push_ids(ids: &mut Items<EntryId>, contexts: &[Context]) -> Result<(), NoMemo
 
 /// The numbers of all entries, in the order of the dialplan.
 #[tactic(auto, unfolding(crate::specs::Coverage::ids_of))]
-fn ids_of(alloc: Global, plan: &Dialplan) -> Result<Items<EntryId>, NoMemory>
+fn ids_of(alloc: Global, plan: &Dialplan) -> Result<RunItems<EntryId>, NoMemory>
     ensures { IfOk result (λ ids. ids ≡ spec.ids_of plan.now) }
 {
-    let mut ids = Items::none(alloc);
+    let mut ids = RunItems::none(alloc);
     push_ids(&mut ids, plan.contexts())?;
     Ok(ids)
 }
@@ -277,12 +281,12 @@ pub struct EntryCoverage {
     /// The number of all entries.
     pub all: usize,
     /// The entries that no test ran, in the order of the dialplan.
-    pub never: Items<EntryId>,
+    pub never: RunItems<EntryId>,
 }
 
 /// Adds an entry, unless tests ran it.
 fn push_unless_run(
-    never: &mut Items<EntryId>,
+    never: &mut RunItems<EntryId>,
     ran: &IndexSet<EntryId>,
     id: EntryId,
 ) -> Result<(), NoMemory>
@@ -299,10 +303,10 @@ fn never_among(
     alloc: Global,
     ran: &IndexSet<EntryId>,
     ids: &[EntryId],
-) -> Result<Items<EntryId>, NoMemory>
+) -> Result<RunItems<EntryId>, NoMemory>
     ensures { IfOk result (λ never. never ≡ flat_map (spec.unless_run ran.now.keys) ids.now) }
 {
-    let mut never = Items::none(alloc);
+    let mut never = RunItems::none(alloc);
     for id in ids {
         push_unless_run(&mut never, ran, *id)?;
     }

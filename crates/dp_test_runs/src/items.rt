@@ -7,11 +7,11 @@ use std::marker::Model;
 
 /// Items in order. Contracts see them as their list.
 #[derive(Drop)]
-pub struct Items<T> {
+pub struct RunItems<T> {
     kept: Vec<T>,
 }
 
-impl<T> Model for Items<T> {
+impl<T> Model for RunItems<T> {
     ghost use Rattle.std.specs.Prelude.{List};
 
     ghost Value = { List T };
@@ -19,12 +19,12 @@ impl<T> Model for Items<T> {
     ghost view = { λ items. items.kept.items };
 }
 
-impl<T> Items<T> {
+impl<T> RunItems<T> {
     /// No items. It never allocates.
     pub fn none(alloc: Global) -> Self
         ensures { result ≡ [] }
     {
-        Items {
+        RunItems {
             kept: Vec::new(alloc),
         }
     }
@@ -37,7 +37,7 @@ impl<T> Items<T> {
     }
 }
 
-impl<T: Drop> Items<T> {
+impl<T: Drop> RunItems<T> {
     /// Adds an item after the others. After a refused growth all is as before.
     pub fn push(&mut self, item: T) -> Result<(), NoMemory>
         ensures ok { OnOk result (self.new ≡ self.old ++ item ∷ []) }
@@ -52,7 +52,7 @@ impl<T: Drop> Items<T> {
         ensures ok { OnOk result (self.new ≡ self.old ++ other) }
         ensures err { OnErr result (self.new ≡ self.old) }
     {
-        let Items { mut kept } = other;
+        let RunItems { mut kept } = other;
         self.kept.append(&mut kept)?;
         Ok(())
     }

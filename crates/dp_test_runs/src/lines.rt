@@ -4,16 +4,16 @@ ghost use Rattle.dp_test_runs.specs.Tests as spec;
 
 use crate::course::Course;
 use crate::failure::{Failure, FailureKind};
-use crate::named_text::NamedText;
+use crate::named_text::NamedFileText;
 use crate::verdict::is_met;
 use dp_machine::{NoMemory, Refusal};
-use dp_tests::{Act, Claim, Expectation, TestLine};
+use dp_tests::{Act, Expectation, LineClaim, TestLine};
 use std::alloc::Global;
 
 /// Does what a line says.
 fn take_act(
     alloc: Global,
-    files: &[NamedText],
+    files: &[NamedFileText],
     course: &mut Course,
     act: &Act,
 ) -> Result<(), NoMemory>
@@ -34,7 +34,7 @@ fn expects_refusal(act: &Act) -> bool
         Act::Expect(
             Expectation {
                 is_negated,
-                claim: Claim::Refused { .. },
+                claim: LineClaim::Refused { .. },
             },
         ) => !*is_negated,
         _ => false,
@@ -116,11 +116,11 @@ fn failure_of(
 /// Runs lines one after another until one fails, and gives its failure.
 pub(crate) fn run_test_lines(
     alloc: Global,
-    files: &[NamedText],
+    files: &[NamedFileText],
     course: &mut Course,
     lines: &[TestLine],
 ) -> Result<Option<Failure>, NoMemory>
-    ensures { IfOk result (λ failure. spec.ended course.new failure ≡ spec.ended_after files.now course.old lines.now) }
+    ensures { IfOk result (λ failure. spec.test_end course.new failure ≡ spec.ended_after files.now course.old lines.now) }
 {
     let mut rest = lines;
     while let [line, after @ ..] = rest {

@@ -9,20 +9,20 @@ use dp_plan::{SharedText, Text};
 
 /// The text of a file, with the name by which test files call it.
 #[derive(Drop)]
-pub struct NamedText {
+pub struct NamedFileText {
     pub name: Text,
     pub text: SharedText,
 }
 
 /// The first file with this name.
-fn file_named<'a>(files: &'a [NamedText], name: &[u8]) -> Option<&'a NamedText>
+fn file_named<'a>(files: &'a [NamedFileText], name: &[u8]) -> Option<&'a NamedFileText>
     ensures { option_map (λ file. file.now) result ≡ find (λ file. same_text file.name name.now) files.now }
 {
     files.iter().find(|file| file.name.bytes() == name)
 }
 
 /// The text of the first file with this name.
-pub(crate) fn text_named<'a>(files: &'a [NamedText], name: &[u8]) -> Option<&'a SharedText>
+pub(crate) fn text_named<'a>(files: &'a [NamedFileText], name: &[u8]) -> Option<&'a SharedText>
     ensures { option_map (λ text. text.now) result ≡ spec.text_named files.now name.now }
 {
     match file_named(files, name) {
@@ -32,7 +32,7 @@ pub(crate) fn text_named<'a>(files: &'a [NamedText], name: &[u8]) -> Option<&'a 
 }
 
 /// The number of the first file with this name, counted from 0.
-pub(crate) fn number_named(files: &[NamedText], name: &[u8]) -> Option<usize>
+pub(crate) fn number_named(files: &[NamedFileText], name: &[u8]) -> Option<usize>
     ensures { result ≡ spec.number_named files.now name.now }
 {
     files.iter().position(|file| file.name.bytes() == name)

@@ -14,13 +14,13 @@ ghost use Rattle.dp_test_runs.specs.steps.Reloads as reloads;
 
 use crate::course::Course;
 use crate::failure::{Failure, FailureKind};
-use crate::items::Items;
+use crate::items::RunItems;
 use crate::reloads::test_reloads;
-use crate::shown::push_decimal;
+use crate::showing::push_decimal;
 use crate::sources::Sources;
-use crate::tap::{Point, Report};
+use crate::tap::{FailureReport, Point};
 use crate::test_run::{TestResult, TestTexts, begin, run_on};
-use crate::traces::{entered, last_five, trace_of};
+use crate::traces::{entered_entries, last_five, trace_of};
 use dp_commands::{LinePlaces, PbxFault, line_in};
 use dp_conf::{beside, is_blank, trim};
 use dp_machine::{Machine, Queues};
@@ -112,14 +112,14 @@ fn report_of(
     trace: &[Text],
     got: &Text,
     failure: Failure,
-) -> Result<Report, NoMemory>
+) -> Result<FailureReport, NoMemory>
     ensures { IfOk result (λ report. report ≡ spec.report_of tested.now trace.now got.now failure) }
 {
     let at = copy_line(alloc, tested.path, failure.line)?;
     let expected = copy_expected(alloc, tested.text, failure)?;
     let got = got.clone()?;
     let trace = last_five(alloc, trace)?;
-    Ok(Report {
+    Ok(FailureReport {
         at,
         expected,
         got,
@@ -133,7 +133,7 @@ fn report_if_failed(
     tested: &TestedFile<'_>,
     trace: &[Text],
     ended: &TestResult,
-) -> Result<Option<Report>, NoMemory>
+) -> Result<Option<FailureReport>, NoMemory>
     ensures { IfOk result (λ report. report ≡ option_map (spec.report_of tested.now trace.now ended.now.got) ended.now.failure) }
 {
     match ended.failure {
@@ -160,7 +160,7 @@ fn point_by(
     let ran = ended.ran.as_slice();
     let trace = trace_of(alloc, sources, changes, ran)?;
     let report = report_if_failed(alloc, tested, trace.as_slice(), ended)?;
-    let entered = entered(alloc, changes, ran)?;
+    let entered = entered_entries(alloc, changes, ran)?;
     let name = name.clone()?;
     Ok(Point {
         name,
@@ -298,14 +298,14 @@ fn run_points(
     tested: &TestedFile<'_>,
     sources: &Sources<'_>,
     first: Machine<WideApps>,
-) -> Result<Items<Point>, PbxFault>
+) -> Result<RunItems<Point>, PbxFault>
     requires opening { spec.opening tested.now ≡ Ok first }
     requires sources { sources.now ≡ spec.sources_for tested.now }
     ensures points { IfOk result (λ points. points ≡ spec.points_in tested.now first) }
     ensures memory { IfErr result (λ fault. reason_of fault ≡ None) }
 {
     let mut course = Course::beginning(alloc, first);
-    let mut points = Items::none(alloc);
+    let mut points = RunItems::none(alloc);
     for test in tested.file.tests.as_slice() {
         let point = run_point(alloc, tested, sources, test, &mut course)?;
         points.push(point)?;
@@ -318,7 +318,7 @@ fn run_from(
     alloc: Global,
     tested: &TestedFile<'_>,
     first: Machine<WideApps>,
-) -> Result<Items<Point>, PbxFault>
+) -> Result<RunItems<Point>, PbxFault>
     requires opening { spec.opening tested.now ≡ Ok first }
     ensures points { IfOk result (λ points. points ≡ spec.points_in tested.now first) }
     ensures memory { IfErr result (λ fault. reason_of fault ≡ None) }
@@ -334,7 +334,7 @@ fn run_from(
 ///
 /// The error is the first fault of the dialplan or of the queues, also in a file without tests, or want of memory.
 #[tactic(auto, unfolding(crate::specs::Points::points_of))]
-pub fn run_tests(alloc: Global, tested: &TestedFile<'_>) -> Result<Items<Point>, PbxFault>
+pub fn run_tests(alloc: Global, tested: &TestedFile<'_>) -> Result<RunItems<Point>, PbxFault>
     ensures { Answers (λ points. points) reason_of result (spec.points_of tested.now) }
 {
     let first = begin_tests(alloc, tested)?;
@@ -342,7 +342,7 @@ pub fn run_tests(alloc: Global, tested: &TestedFile<'_>) -> Result<Items<Point>,
 }
 
 /// Adds the entries of the dialplan that one test ran.
-fn push_each(entered: &mut Items<EntryId>, ids: &[EntryId]) -> Result<(), NoMemory>
+fn push_each(entered: &mut RunItems<EntryId>, ids: &[EntryId]) -> Result<(), NoMemory>
     ensures { OnOk result (entered.new ≡ entered.old ++ ids.now) }
 {
     for id in ids {
@@ -352,7 +352,7 @@ fn push_each(entered: &mut Items<EntryId>, ids: &[EntryId]) -> Result<(), NoMemo
 }
 
 /// Adds the entries of the dialplan that tests ran, in the order in which they ran. An entry that ran twice is added twice.
-pub fn add_entered(entered: &mut Items<EntryId>, points: &[Point]) -> Result<(), NoMemory>
+pub fn add_entered(entered: &mut RunItems<EntryId>, points: &[Point]) -> Result<(), NoMemory>
     ensures { OnOk result (entered.new ≡ entered.old ++ spec.entered_in points.now) }
 {
     for point in points {

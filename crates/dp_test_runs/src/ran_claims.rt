@@ -4,10 +4,10 @@ ghost use Rattle.std.specs.Option.{option_map, option_map_or};
 ghost use Rattle.dp_plan.specs.Extensions.{same_name};
 ghost use Rattle.dp_test_runs.specs.Verdicts as spec;
 
-use crate::ran::RanEntry;
+use crate::ran_entries::RanEntry;
 use dp_conf::same_word;
 use dp_plan::{SharedName, Text};
-use dp_tests::{Call, EntryPlace};
+use dp_tests::{ExpectedCall, ExpectedPlace};
 
 /// Whether an entry that ran has these expanded arguments, if they are given.
 fn has_arguments(arguments: Option<&Text>, ran: &[u8]) -> bool
@@ -20,7 +20,7 @@ fn has_arguments(arguments: Option<&Text>, ran: &[u8]) -> bool
 }
 
 /// Whether an entry that ran is this call.
-fn is_call(call: &Call, ran: &RanEntry) -> bool
+fn is_call(call: &ExpectedCall, ran: &RanEntry) -> bool
     ensures { result ≡ spec.is_call call.now ran.now }
 {
     same_word(ran.application.bytes(), call.application.bytes())
@@ -45,7 +45,7 @@ fn has_priority(priority: Option<u32>, ran: u32) -> bool
 }
 
 /// Whether an entry that ran stands at a place.
-fn stands_at(place: &EntryPlace, ran: &RanEntry) -> bool
+fn stands_at(place: &ExpectedPlace, ran: &RanEntry) -> bool
     ensures { result ≡ spec.stands_at place.now ran.now }
 {
     ran.context.bytes() == place.context.bytes()
@@ -67,7 +67,7 @@ pub(crate) fn last_of(ran: &[RanEntry], channel: u32) -> Option<&RanEntry>
 }
 
 /// Whether the last entry that a channel ran is this call.
-pub(crate) fn last_is_call(ran: &[RanEntry], channel: u32, call: &Call) -> bool
+pub(crate) fn last_is_call(ran: &[RanEntry], channel: u32, call: &ExpectedCall) -> bool
     ensures { result ≡ option_map_or (spec.is_call call.now) (spec.last_of channel ran.now) false }
 {
     match last_of(ran, channel) {
@@ -77,7 +77,7 @@ pub(crate) fn last_is_call(ran: &[RanEntry], channel: u32, call: &Call) -> bool
 }
 
 /// Whether the last entry that a channel ran stands at a place.
-pub(crate) fn last_stands_at(ran: &[RanEntry], channel: u32, place: &EntryPlace) -> bool
+pub(crate) fn last_stands_at(ran: &[RanEntry], channel: u32, place: &ExpectedPlace) -> bool
     ensures { result ≡ option_map_or (spec.stands_at place.now) (spec.last_of channel ran.now) false }
 {
     match last_of(ran, channel) {
@@ -87,7 +87,7 @@ pub(crate) fn last_stands_at(ran: &[RanEntry], channel: u32, place: &EntryPlace)
 }
 
 /// Whether a channel ran this call.
-pub(crate) fn has_passed(ran: &[RanEntry], channel: u32, call: &Call) -> bool
+pub(crate) fn has_passed(ran: &[RanEntry], channel: u32, call: &ExpectedCall) -> bool
     ensures { result ≡ spec.has_passed channel call.now ran.now }
 {
     ran.iter()

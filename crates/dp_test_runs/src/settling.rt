@@ -4,7 +4,7 @@ ghost use Rattle.std.specs.Option.{option_map};
 ghost use Rattle.dp_test_runs.specs.Ran.{ran_after};
 ghost use Rattle.dp_test_runs.specs.Settling as spec;
 
-use crate::ran::{RanEntries, give};
+use crate::ran_entries::{RanEntries, give};
 use dp_machine::{Event, Machine, NoMemory, Phase};
 use dp_wide::WideApps;
 use std::alloc::Global;
@@ -81,7 +81,7 @@ pub(crate) fn settle(
     machine: &mut Machine<WideApps>,
     ran: &mut RanEntries,
 ) -> Result<bool, NoMemory>
-    ensures world { OnOk result (machine.new ≡ spec.settled machine.old) }
+    ensures world { OnOk result (machine.new ≡ spec.settled_world machine.old) }
     ensures ran { OnOk result (ran.new ≡ ran.old ++ ran_after machine.old (spec.steps_of machine.old)) }
     ensures endless { IfOk result (λ is_endless. is_endless ≡ spec.is_endless machine.old) }
 {

@@ -3,9 +3,9 @@ ghost use Rattle.std.specs.Prelude.{◌≡◌, ◌++◌, IfOk, OnOk, map};
 ghost use Rattle.dp_commands.specs.LinePlaces as places_spec;
 ghost use Rattle.dp_test_runs.specs.Traces as spec;
 
-use crate::items::Items;
-use crate::named_text::NamedText;
-use crate::shown::push_decimal;
+use crate::items::RunItems;
+use crate::named_text::NamedFileText;
+use crate::showing::push_decimal;
 use dp_commands::{LinePlaces, LinePosition, SourceLines};
 use dp_plan::{Dialplan, EntryId, EntryLines, LoadFault, LoadedPlan, NoMemory, Text};
 use std::alloc::Global;
@@ -67,9 +67,9 @@ impl PlanLines {
 #[derive(Drop)]
 pub(crate) struct Sources<'a> {
     places: LinePlaces<'a>,
-    files: &'a [NamedText],
+    files: &'a [NamedFileText],
     plan: PlanLines,
-    reloaded: Items<PlanLines>,
+    reloaded: RunItems<PlanLines>,
 }
 
 impl<'a> Model for Sources<'a> {
@@ -87,10 +87,10 @@ impl<'a> Model for Sources<'a> {
 }
 
 /// The lines of the entries of the dialplans of files.
-fn lines_of_files(alloc: Global, files: &[NamedText]) -> Result<Items<PlanLines>, NoMemory>
+fn lines_of_files(alloc: Global, files: &[NamedFileText]) -> Result<RunItems<PlanLines>, NoMemory>
     ensures { IfOk result (λ lines. lines ≡ map (λ file. spec.plan_lines file.text) files.now) }
 {
-    let mut all = Items::none(alloc);
+    let mut all = RunItems::none(alloc);
     for file in files {
         let lines = PlanLines::of(alloc, file.text.bytes())?;
         all.push(lines)?;
@@ -183,7 +183,7 @@ impl<'a> Sources<'a> {
         alloc: Global,
         places: LinePlaces<'a>,
         plan: &[u8],
-        files: &'a [NamedText],
+        files: &'a [NamedFileText],
     ) -> Result<Self, NoMemory>
         ensures { IfOk result (λ sources. sources ≡ spec.sources_of (places_of places.entry) plan.now files.now) }
     {

@@ -4,18 +4,18 @@ ghost use Rattle.std.specs.List.{flat_map};
 ghost use Rattle.std.specs.Option.{option_map};
 ghost use Rattle.dp_test_runs.specs.Tap as spec;
 
-use crate::items::Items;
+use crate::items::RunItems;
 use dp_plan::{EntryId, NoMemory, Text};
 use itoa::Buffer;
 use std::alloc::Global;
 
 /// What is reported of a test that failed: its place, `FILE:LINE`, what was expected, what came of it, and the last entries that ran.
 #[derive(Drop)]
-pub struct Report {
+pub struct FailureReport {
     pub at: Text,
     pub expected: Text,
     pub got: Text,
-    pub trace: Items<Text>,
+    pub trace: RunItems<Text>,
 }
 
 /// A test with its name, its report if it failed, the lines of its trace, one for each entry that ran, and the entries of the test file's
@@ -23,9 +23,9 @@ pub struct Report {
 #[derive(Drop)]
 pub struct Point {
     pub name: Text,
-    pub report: Option<Report>,
-    pub trace: Items<Text>,
-    pub entered: Items<EntryId>,
+    pub report: Option<FailureReport>,
+    pub trace: RunItems<Text>,
+    pub entered: RunItems<EntryId>,
 }
 
 /// Adds a line with this text.
@@ -60,7 +60,7 @@ fn push_quoted_bytes(out: &mut Vec<u8>, text: &[u8]) -> Result<(), NoMemory>
 
 /// Adds a text in single quotes.
 fn push_quoted(out: &mut Vec<u8>, text: &[u8]) -> Result<(), NoMemory>
-    ensures { OnOk result (out.new.items ≡ out.old.items ++ spec.quoted text.now) }
+    ensures { OnOk result (out.new.items ≡ out.old.items ++ spec.quoted_text text.now) }
 {
     out.push(b'\'')?;
     push_quoted_bytes(out, text)?;
@@ -133,7 +133,7 @@ fn push_trace_lines(out: &mut Vec<u8>, texts: &[Text]) -> Result<(), NoMemory>
 }
 
 /// Adds the place, what was expected, and what came of it.
-fn push_keys(out: &mut Vec<u8>, report: &Report) -> Result<(), NoMemory>
+fn push_keys(out: &mut Vec<u8>, report: &FailureReport) -> Result<(), NoMemory>
     ensures { OnOk result (out.new.items ≡ out.old.items ++ spec.keys_text report.now) }
 {
     push_key_line(out, b"at", report.at.bytes())?;
@@ -143,7 +143,7 @@ fn push_keys(out: &mut Vec<u8>, report: &Report) -> Result<(), NoMemory>
 }
 
 /// Adds the first lines of the block below a test that failed.
-fn push_block_head(out: &mut Vec<u8>, report: &Report) -> Result<(), NoMemory>
+fn push_block_head(out: &mut Vec<u8>, report: &FailureReport) -> Result<(), NoMemory>
     ensures { OnOk result (out.new.items ≡ out.old.items ++ spec.block_head report.now) }
 {
     push_line(out, b"  ---")?;
@@ -152,7 +152,7 @@ fn push_block_head(out: &mut Vec<u8>, report: &Report) -> Result<(), NoMemory>
 }
 
 /// Adds its last lines.
-fn push_block_end(out: &mut Vec<u8>, report: &Report) -> Result<(), NoMemory>
+fn push_block_end(out: &mut Vec<u8>, report: &FailureReport) -> Result<(), NoMemory>
     ensures { OnOk result (out.new.items ≡ out.old.items ++ spec.block_end report.now) }
 {
     push_trace_lines(out, report.trace.as_slice())?;
@@ -161,7 +161,7 @@ fn push_block_end(out: &mut Vec<u8>, report: &Report) -> Result<(), NoMemory>
 }
 
 /// Adds the block below a test that failed.
-fn push_block(out: &mut Vec<u8>, report: &Report) -> Result<(), NoMemory>
+fn push_block(out: &mut Vec<u8>, report: &FailureReport) -> Result<(), NoMemory>
     ensures { OnOk result (out.new.items ≡ out.old.items ++ spec.block_text report.now) }
 {
     push_block_head(out, report)?;

@@ -11,16 +11,16 @@ ghost use Rattle.dp_test_runs.specs.steps.Reloads as reloads;
 
 use crate::course::{Course, PlanChange};
 use crate::failure::{Failure, FailureKind};
-use crate::items::Items;
+use crate::items::RunItems;
 use crate::lines::run_test_lines;
-use crate::named_text::NamedText;
-use crate::ran::RanEntries;
+use crate::named_text::NamedFileText;
+use crate::ran_entries::RanEntries;
 use crate::settling::is_channel;
-use crate::shown::got;
+use crate::showing::got_text;
 use dp_commands::{PbxFault, read_files};
 use dp_machine::{Machine, NoMemory};
 use dp_plan::Text;
-use dp_tests::{Act, Claim, HeadLine, Test, TestFile, TestLine};
+use dp_tests::{Act, HeadLine, LineClaim, Test, TestFile, TestLine};
 use dp_wide::WideApps;
 use std::alloc::Global;
 
@@ -32,7 +32,7 @@ pub struct TestTexts<'a> {
     /// The text of the queue file, if there is one. Without it there are no queues.
     pub queues: Option<&'a [u8]>,
     /// The dialplans that `reload` lines name.
-    pub reloaded: &'a [NamedText],
+    pub reloaded: &'a [NamedFileText],
 }
 
 /// The result of a test: its first failure, or None if it passes; what came of it in place of what was expected, which is empty if it passes;
@@ -42,25 +42,25 @@ pub struct TestResult {
     pub failure: Option<Failure>,
     pub got: Text,
     pub ran: RanEntries,
-    pub changes: Items<PlanChange>,
+    pub changes: RunItems<PlanChange>,
 }
 
 /// The channel that a claim is about.
-fn claimed_channel(claim: &Claim) -> Option<u32>
+fn claimed_channel(claim: &LineClaim) -> Option<u32>
     ensures { result ≡ spec.claimed_channel claim.now }
 {
     match claim {
-        Claim::State { channel, .. }
-        | Claim::Ran { channel, .. }
-        | Claim::Passed { channel, .. }
-        | Claim::At { channel, .. } => Some(*channel),
-        Claim::Value { channel, .. } => *channel,
-        Claim::Rings { .. } | Claim::Waiting { .. } | Claim::Refused { .. } => None,
+        LineClaim::State { channel, .. }
+        | LineClaim::Ran { channel, .. }
+        | LineClaim::Passed { channel, .. }
+        | LineClaim::At { channel, .. } => Some(*channel),
+        LineClaim::Value { channel, .. } => *channel,
+        LineClaim::Rings { .. } | LineClaim::Waiting { .. } | LineClaim::Refused { .. } => None,
     }
 }
 
 /// Whether a claim is about a channel.
-fn is_about(channel: u32, claim: &Claim) -> bool
+fn is_about(channel: u32, claim: &LineClaim) -> bool
     ensures { result ≡ spec.is_about channel claim.now }
 {
     match claimed_channel(claim) {
@@ -156,11 +156,11 @@ fn failure_at_end(
 /// Runs a test after its setup, and gives its failure.
 fn run_after_setup(
     alloc: Global,
-    files: &[NamedText],
+    files: &[NamedFileText],
     test: &Test,
     course: &mut Course,
 ) -> Result<Option<Failure>, NoMemory>
-    ensures { IfOk result (λ failure. spec.ended course.new failure ≡ spec.ended_test files.now test.now course.old) }
+    ensures { IfOk result (λ failure. spec.test_end course.new failure ≡ spec.ended_test files.now test.now course.old) }
 {
     let failure = run_test_lines(alloc, files, course, test.lines.as_slice())?;
     if failure.is_some() {
@@ -182,12 +182,12 @@ fn take_fact(alloc: Global, course: &mut Course, head: Option<&HeadLine>) -> Res
 /// Runs a test of a file from its beginning, and gives its failure.
 fn run_in(
     alloc: Global,
-    files: &[NamedText],
+    files: &[NamedFileText],
     file: &TestFile,
     test: &Test,
     course: &mut Course,
 ) -> Result<Option<Failure>, NoMemory>
-    ensures { IfOk result (λ failure. spec.ended course.new failure ≡ spec.ended_in files.now file.now test.now course.old) }
+    ensures { IfOk result (λ failure. spec.test_end course.new failure ≡ spec.ended_in files.now file.now test.now course.old) }
 {
     take_fact(alloc, course, file.clock.as_ref())?;
     take_fact(alloc, course, file.assume.as_ref())?;
@@ -202,7 +202,7 @@ fn run_in(
 #[tactic(auto, using(crate::proofs::ReloadsLemmas::test_keeps))]
 pub(crate) fn run_on(
     alloc: Global,
-    files: &[NamedText],
+    files: &[NamedFileText],
     file: &TestFile,
     test: &Test,
     course: &mut Course,
@@ -212,7 +212,7 @@ pub(crate) fn run_on(
     ensures plan { OnOk result (reloads.test_reloads file.now test.now ≡ false → course.new.machine.plan ≡ course.old.machine.plan) }
 {
     let failure = run_in(alloc, files, file, test, course)?;
-    let got = got(alloc, course, test.lines.as_slice(), failure)?;
+    let got = got_text(alloc, course, test.lines.as_slice(), failure)?;
     let (ran, changes) = course.take_ran(alloc);
     Ok(TestResult {
         failure,

@@ -3,9 +3,9 @@ ghost use Rattle.std.specs.Prelude.{◌≡◌, ◌++◌, IfOk, OnOk};
 ghost use Rattle.dp_test_runs.specs.Traces as spec;
 
 use crate::course::PlanChange;
-use crate::items::Items;
-use crate::ran::RanEntry;
-use crate::shown::{push_call, push_place};
+use crate::items::RunItems;
+use crate::ran_entries::RanEntry;
+use crate::showing::{push_call, push_place};
 use crate::sources::Sources;
 use dp_plan::{EntryId, NoMemory, Text};
 use std::alloc::Global;
@@ -36,13 +36,13 @@ fn push_ran(out: &mut Vec<u8>, ran: &RanEntry) -> Result<(), NoMemory>
 }
 
 /// An entry of the dialplan with this number that ran, `FILE:LINE CONTEXT,NAME,PRIORITY APP(ARGS)`.
-fn traced(
+fn trace_line(
     alloc: Global,
     sources: &Sources<'_>,
     plan: Option<usize>,
     ran: &RanEntry,
 ) -> Result<Text, NoMemory>
-    ensures { IfOk result (λ text. text ≡ spec.traced sources.now plan ran.now) }
+    ensures { IfOk result (λ text. text ≡ spec.trace_line sources.now plan ran.now) }
 {
     let mut out = Vec::new(alloc);
     sources.push_place(&mut out, plan, ran.id)?;
@@ -54,7 +54,7 @@ fn traced(
 /// Adds the line of an entry of the dialplan with this number, if it has one.
 fn push_traced(
     alloc: Global,
-    trace: &mut Items<Text>,
+    trace: &mut RunItems<Text>,
     sources: &Sources<'_>,
     plan: Option<usize>,
     ran: &RanEntry,
@@ -64,7 +64,7 @@ fn push_traced(
     if ran.is_side {
         return Ok(());
     }
-    let text = traced(alloc, sources, plan, ran)?;
+    let text = trace_line(alloc, sources, plan, ran)?;
     trace.push(text)
 }
 
@@ -75,10 +75,10 @@ pub(crate) fn trace_of(
     sources: &Sources<'_>,
     changes: &[PlanChange],
     ran: &[RanEntry],
-) -> Result<Items<Text>, NoMemory>
+) -> Result<RunItems<Text>, NoMemory>
     ensures { IfOk result (λ trace. trace ≡ spec.trace_of sources.now changes.now ran.now) }
 {
-    let mut trace = Items::none(alloc);
+    let mut trace = RunItems::none(alloc);
     let mut place: usize = 0;
     for entry in ran {
         push_traced(alloc, &mut trace, sources, plan_at(changes, place), entry)?;
@@ -88,7 +88,7 @@ pub(crate) fn trace_of(
 }
 
 /// Adds copies of texts.
-fn push_copies(copies: &mut Items<Text>, texts: &[Text]) -> Result<(), NoMemory>
+fn push_copies(copies: &mut RunItems<Text>, texts: &[Text]) -> Result<(), NoMemory>
     ensures { OnOk result (copies.new ≡ copies.old ++ texts.now) }
 {
     for text in texts {
@@ -99,17 +99,17 @@ fn push_copies(copies: &mut Items<Text>, texts: &[Text]) -> Result<(), NoMemory>
 }
 
 /// Copies of the last five lines of a trace.
-pub(crate) fn last_five(alloc: Global, trace: &[Text]) -> Result<Items<Text>, NoMemory>
+pub(crate) fn last_five(alloc: Global, trace: &[Text]) -> Result<RunItems<Text>, NoMemory>
     ensures { IfOk result (λ last. last ≡ spec.last_five trace.now) }
 {
-    let mut last = Items::none(alloc);
+    let mut last = RunItems::none(alloc);
     push_copies(&mut last, &trace[trace.len().saturating_sub(MOST_SHOWN)..])?;
     Ok(last)
 }
 
 /// Adds an entry that ran, if it is one of the dialplan of the test file.
 fn push_entered(
-    entered: &mut Items<EntryId>,
+    entered: &mut RunItems<EntryId>,
     plan: Option<usize>,
     id: EntryId,
 ) -> Result<(), NoMemory>
@@ -122,15 +122,15 @@ fn push_entered(
 }
 
 /// The entries of the dialplan of the test file among those that ran, in the order in which they ran.
-#[tactic(auto, unfolding(crate::specs::Traces::entered))]
-pub(crate) fn entered(
+#[tactic(auto, unfolding(crate::specs::Traces::entered_entries))]
+pub(crate) fn entered_entries(
     alloc: Global,
     changes: &[PlanChange],
     ran: &[RanEntry],
-) -> Result<Items<EntryId>, NoMemory>
-    ensures { IfOk result (λ entered. entered ≡ spec.entered changes.now ran.now) }
+) -> Result<RunItems<EntryId>, NoMemory>
+    ensures { IfOk result (λ entered. entered ≡ spec.entered_entries changes.now ran.now) }
 {
-    let mut entered = Items::none(alloc);
+    let mut entered = RunItems::none(alloc);
     let mut place: usize = 0;
     for entry in ran {
         push_entered(&mut entered, plan_at(changes, place), entry.id)?;

@@ -91,7 +91,7 @@ fn known_event(
     event: &Event,
 ) -> Result<Option<Event>, NoMemory>
     ensures event { IfOk result (λ asked. asked
-        ≡ spec.event_in (given.first_given machine.old (turn_event event.now) (lines.stepped event.now))) }
+        ≡ spec.event_in (given.first_given machine.old (turn_event event.now) (lines.stepped_channel event.now))) }
     ensures same { machine.new ≡ machine.old }
 {
     match event {

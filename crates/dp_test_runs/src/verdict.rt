@@ -8,29 +8,29 @@ use crate::ran_claims::{has_passed, last_is_call, last_stands_at};
 use crate::state_claims::shows;
 use crate::value_claims::has_value;
 use dp_machine::NoMemory;
-use dp_tests::{Claim, Expectation};
+use dp_tests::{Expectation, LineClaim};
 use std::alloc::Global;
 
 /// Whether a claim is true; None if it is about a value that is unknown.
-fn truth_of(alloc: Global, course: &mut Course, claim: &Claim) -> Result<Option<bool>, NoMemory>
+fn truth_of(alloc: Global, course: &mut Course, claim: &LineClaim) -> Result<Option<bool>, NoMemory>
     ensures truth { IfOk result (λ truth. truth ≡ spec.truth_of course.old claim.now) }
     ensures same { OnOk result (course.new ≡ course.old) }
 {
     match claim {
-        Claim::State { channel, state } => {
+        LineClaim::State { channel, state } => {
             let is_shown = shows(alloc, &mut course.machine, *channel, state.bytes())?;
             Ok(Some(is_shown))
         }
-        Claim::Ran { channel, call } => {
+        LineClaim::Ran { channel, call } => {
             Ok(Some(last_is_call(course.ran.as_slice(), *channel, call)))
         }
-        Claim::Passed { channel, call } => {
+        LineClaim::Passed { channel, call } => {
             Ok(Some(has_passed(course.ran.as_slice(), *channel, call)))
         }
-        Claim::At { channel, place } => {
+        LineClaim::At { channel, place } => {
             Ok(Some(last_stands_at(course.ran.as_slice(), *channel, place)))
         }
-        Claim::Value {
+        LineClaim::Value {
             channel,
             name,
             value,
@@ -41,15 +41,15 @@ fn truth_of(alloc: Global, course: &mut Course, claim: &Claim) -> Result<Option<
             name.bytes(),
             value.bytes(),
         ),
-        Claim::Rings { agents } => Ok(Some(ring_after(
+        LineClaim::Rings { agents } => Ok(Some(ring_after(
             course.machine.queues().agents(),
             course.offered,
             agents.as_slice(),
         ))),
-        Claim::Waiting { queue, count } => {
+        LineClaim::Waiting { queue, count } => {
             Ok(Some(wait_in(course.machine.queues(), queue.bytes(), *count)))
         }
-        Claim::Refused { refusal } => Ok(Some(is_refused_so(*refusal, course.refusal))),
+        LineClaim::Refused { refusal } => Ok(Some(is_refused_so(*refusal, course.refusal))),
     }
 }
 

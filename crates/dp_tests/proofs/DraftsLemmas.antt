@@ -6,8 +6,8 @@ use Rattle.std.proofs.lemmas.List.{append-nil, append_assoc}
 use Rattle.std.proofs.lemmas.List.Sums.{fold-append}
 use Rattle.std.proofs.Math.Bool.{or-false}
 use Rattle.dp_tests.specs.Files.{acts_at, before_tests, begins_test, dialplan_fault, expect_fault, fault_after, fault_at, head_fault, faults_after, file_by, file_in, head_by, head_of, is_beginning, setup_of, test_by, test_line, tests_of}
-use Rattle.dp_tests.specs.steps.Drafts.{closed_file, drafted_after, drafted_by, fault_with, faults_from, file_or_faults, finished, has_head, undrafted, with_dialplan_fault, with_head}
-use Rattle.dp_tests.specs.declared.draft.Draft.{Draft}
+use Rattle.dp_tests.specs.steps.Drafts.{closed_file, drafted_after, drafted_by, fault_with, faults_from, file_or_faults, draft_result, has_head, nothing_drafted, with_dialplan_fault, with_head}
+use Rattle.dp_tests.specs.declared.draft.TestDraft.{TestDraft}
 use Rattle.dp_tests.specs.declared.fault.TestFault.{TestFault}
 use Rattle.dp_tests.specs.declared.fault.TestFaultKind.{TestFaultKind}
 use Rattle.dp_tests.specs.declared.file.Act.{Act}
@@ -30,7 +30,7 @@ or_assoc : {X : Type 0} (a b c : Option X) → option_or (option_or a b) c ≡ o
 or_assoc None b c = refl
 or_assoc (Some x) b c = refl
 
-abbrev draft_of : Option HeadLine → Option HeadLine → Option HeadLine → Option HeadLine → List TestLine → List Test → Option Test → Draft
+abbrev draft_of : Option HeadLine → Option HeadLine → Option HeadLine → Option HeadLine → List TestLine → List Test → Option Test → TestDraft
 draft_of dialplan queues clock assume setup tests current =
     record { dialplan = dialplan; queues = queues; clock = clock; assume = assume; setup = setup; tests = tests; current = current }
 
@@ -46,7 +46,7 @@ head_for Queues dialplan queues clock assume = queues
 head_for Clock dialplan queues clock assume = clock
 head_for Assume dialplan queues clock assume = assume
 
-abbrev head_in : HeadWord → Draft → Option HeadLine
+abbrev head_in : HeadWord → TestDraft → Option HeadLine
 head_in word draft = head_for word draft.dialplan draft.queues draft.clock draft.assume
 
 -- the same with that of the lines to come, unless a test is open
@@ -54,13 +54,13 @@ abbrev head_total : Option HeadLine → HeadWord → Option Test → List MeantL
 head_total head word None lines = option_or head (head_of word lines)
 head_total head word (Some test) lines = head
 
-with_head-current : (draft : Draft) (word : HeadWord) (line : HeadLine) → (with_head draft word line).current ≡ draft.current
+with_head-current : (draft : TestDraft) (word : HeadWord) (line : HeadLine) → (with_head draft word line).current ≡ draft.current
 with_head-current draft Dialplan line = refl
 with_head-current draft Queues line = refl
 with_head-current draft Clock line = refl
 with_head-current draft Assume line = refl
 
-head_in-with_head : (word other : HeadWord) (draft : Draft) (line : HeadLine) → head_in word (with_head draft other line) ≡ option_or (head_in word draft) (head_by word other line)
+head_in-with_head : (word other : HeadWord) (draft : TestDraft) (line : HeadLine) → head_in word (with_head draft other line) ≡ option_or (head_in word draft) (head_by word other line)
 head_in-with_head Dialplan Dialplan draft line = refl
 head_in-with_head Dialplan Queues draft line = sym (or-none draft.dialplan)
 head_in-with_head Dialplan Clock draft line = sym (or-none draft.dialplan)
@@ -85,7 +85,7 @@ module _ (word : HeadWord) (dialplan queues clock assume : Option HeadLine) (set
   head-turn None Nothing = refl
   head-turn (Some test) Nothing = refl
   head-turn None (Head other text turns) =
-      let draft : Draft = draft_of dialplan queues clock assume setup tests None in
+      let draft : TestDraft = draft_of dialplan queues clock assume setup tests None in
       let line : HeadLine = record { line = number; text = text; turns = turns } in
       ap (λ (current : Option Test). head_total (head_in word (with_head draft other line)) word current lines) (with_head-current draft other line)
       ∙ (ap (λ (head : Option HeadLine). option_or head (head_of word lines)) (head_in-with_head word other draft line)
@@ -108,22 +108,22 @@ head-end head word None = sym (or-none head)
 head-end head word (Some test) = refl
 
 -- the head of what the lines make
-head-fold : (word : HeadWord) (draft : Draft) (lines : List MeantLine) → head_in word (fold drafted_after draft lines) ≡ head_total (head_in word draft) word draft.current lines
+head-fold : (word : HeadWord) (draft : TestDraft) (lines : List MeantLine) → head_in word (fold drafted_after draft lines) ≡ head_total (head_in word draft) word draft.current lines
 head-fold word draft [] = head-end (head_in word draft) word draft.current
 head-fold word draft (line ∷ lines) =
     head-fold word (drafted_after draft line) lines
     ∙ head-turn word draft.dialplan draft.queues draft.clock draft.assume draft.setup draft.tests lines line.line draft.current line.meaning
 
 -- the head of what all lines make. Before the first line the head has nothing
-undrafted-head : (word : HeadWord) → head_in word undrafted ≡ None
+undrafted-head : (word : HeadWord) → head_in word nothing_drafted ≡ None
 undrafted-head Dialplan = refl
 undrafted-head Queues = refl
 undrafted-head Clock = refl
 undrafted-head Assume = refl
 
-head-all : (word : HeadWord) (lines : List MeantLine) → head_in word (fold drafted_after undrafted lines) ≡ head_of word lines
+head-all : (word : HeadWord) (lines : List MeantLine) → head_in word (fold drafted_after nothing_drafted lines) ≡ head_of word lines
 head-all word lines =
-    head-fold word undrafted lines ∙ ap (λ (head : Option HeadLine). option_or head (head_of word lines)) (undrafted-head word)
+    head-fold word nothing_drafted lines ∙ ap (λ (head : Option HeadLine). option_or head (head_of word lines)) (undrafted-head word)
 
 -- ---- the setup
 
@@ -159,7 +159,7 @@ setup-end setup None = sym (append-nil setup)
 setup-end setup (Some test) = refl
 
 -- the setup of what the lines make
-setup-fold : (draft : Draft) (lines : List MeantLine) → (fold drafted_after draft lines).setup ≡ setup_total draft.setup draft.current lines
+setup-fold : (draft : TestDraft) (lines : List MeantLine) → (fold drafted_after draft lines).setup ≡ setup_total draft.setup draft.current lines
 setup-fold draft [] = setup-end draft.setup draft.current
 setup-fold draft (line ∷ lines) =
     setup-fold (drafted_after draft line) lines
@@ -216,7 +216,7 @@ tests-end tests (Some test) =
     ap (λ (inside : List TestLine). tests ++ (test_by test.name test.line inside ∷ [])) (sym (append-nil test.lines))
 
 -- the tests of what the lines make, with the one that is open at the end
-tests-fold : (draft : Draft) (lines : List MeantLine) → (fold drafted_after draft lines).tests ++ option_to_list (fold drafted_after draft lines).current ≡ tests_total draft.tests draft.current lines
+tests-fold : (draft : TestDraft) (lines : List MeantLine) → (fold drafted_after draft lines).tests ++ option_to_list (fold drafted_after draft lines).current ≡ tests_total draft.tests draft.current lines
 tests-fold draft [] = tests-end draft.tests draft.current
 tests-fold draft (line ∷ lines) =
     tests-fold (drafted_after draft line) lines
@@ -252,7 +252,7 @@ module _ (dialplan queues clock assume : Option HeadLine) (setup : List TestLine
   has_test-turn (Some test) (Faulty kind) = refl
 
 -- a test is open if one was open, or if a line begins one
-has_test-fold : (draft : Draft) (lines : List MeantLine) → is_some (fold drafted_after draft lines).current ≡ (is_some draft.current || list_any begins_test lines)
+has_test-fold : (draft : TestDraft) (lines : List MeantLine) → is_some (fold drafted_after draft lines).current ≡ (is_some draft.current || list_any begins_test lines)
 has_test-fold draft [] = sym (or-false (is_some draft.current))
 has_test-fold draft (line ∷ lines) =
     has_test-fold (drafted_after draft line) lines
@@ -260,15 +260,15 @@ has_test-fold draft (line ∷ lines) =
     (has_test-turn draft.dialplan draft.queues draft.clock draft.assume draft.setup draft.tests line.line draft.current line.meaning)
     ∙ or_assoc_bool (is_some draft.current) (begins_test line) (list_any begins_test lines))
 
-has_head-head_in : (draft : Draft) (word : HeadWord) → has_head draft word ≡ is_some (head_in word draft)
+has_head-head_in : (draft : TestDraft) (word : HeadWord) → has_head draft word ≡ is_some (head_in word draft)
 has_head-head_in draft Dialplan = refl
 has_head-head_in draft Queues = refl
 has_head-head_in draft Clock = refl
 has_head-head_in draft Assume = refl
 
 -- the result of the lines before
-abbrev made_of : List MeantLine → Draft
-made_of before = fold drafted_after undrafted before
+abbrev made_of : List MeantLine → TestDraft
+made_of before = fold drafted_after nothing_drafted before
 
 -- whether the head has a line with a word, by the lines
 has_head-made_of : (before : List MeantLine) (word : HeadWord) → has_head (made_of before) word ≡ is_some (head_of word before)
@@ -278,11 +278,11 @@ has_head-made_of before word = has_head-head_in (made_of before) word ∙ ap is_
 fault_with-made_of : (before : List MeantLine) (meaning : LineMeaning) → fault_with (made_of before) meaning ≡ fault_after before meaning
 fault_with-made_of before Nothing = refl
 fault_with-made_of before (Head word text turns) =
-    ap (λ (t : Bool). head_fault word t (has_head (made_of before) word)) (has_test-fold undrafted before)
+    ap (λ (t : Bool). head_fault word t (has_head (made_of before) word)) (has_test-fold nothing_drafted before)
     ∙ ap (head_fault word (list_any begins_test before)) (has_head-made_of before word)
 fault_with-made_of before (Begin name) = refl
 fault_with-made_of before (Event act) = refl
-fault_with-made_of before (Expect expectation) = ap expect_fault (has_test-fold undrafted before)
+fault_with-made_of before (Expect expectation) = ap expect_fault (has_test-fold nothing_drafted before)
 fault_with-made_of before (Faulty kind) = refl
 
 -- the faults that are found one after another are those of the lines
@@ -292,35 +292,35 @@ faults_from-made_of before (line ∷ lines) =
     ap (λ (kind : Option TestFaultKind). fault_at line.line kind ++ faults_from (drafted_after (made_of before) line) lines)
     (fault_with-made_of before line.meaning)
     ∙ ap (λ (rest : List TestFault). fault_at line.line (fault_after before line.meaning) ++ rest)
-    (ap (λ (draft : Draft). faults_from draft lines) (sym (fold-append drafted_after undrafted before (line ∷ [])))
+    (ap (λ (draft : TestDraft). faults_from draft lines) (sym (fold-append drafted_after nothing_drafted before (line ∷ [])))
     ∙ faults_from-made_of (before ++ line ∷ []) lines)
 
 -- ---- the file
 
 -- the result for these parts of a file
-abbrev made : Option HeadLine → Option HeadLine → Option HeadLine → Option HeadLine → List TestLine → List Test → List TestFault → Result TestFile (List TestFault)
-made dialplan queues clock assume setup tests faults =
+abbrev result_of_parts : Option HeadLine → Option HeadLine → Option HeadLine → Option HeadLine → List TestLine → List Test → List TestFault → Result TestFile (List TestFault)
+result_of_parts dialplan queues clock assume setup tests faults =
     file_or_faults (closed_file (draft_of dialplan queues clock assume setup tests None) dialplan)
     (with_dialplan_fault (is_some dialplan) faults)
 
 made-file_by : (lines : List MeantLine) (dialplan : Option HeadLine) (faults : List TestFault)
-    → made dialplan (head_of Queues lines) (head_of Clock lines) (head_of Assume lines) (setup_of lines) (tests_of lines) faults
+    → result_of_parts dialplan (head_of Queues lines) (head_of Clock lines) (head_of Assume lines) (setup_of lines) (tests_of lines) faults
     ≡ file_by lines dialplan (dialplan_fault dialplan ++ faults)
 made-file_by lines None faults = refl
 made-file_by lines (Some dialplan) [] = refl
 made-file_by lines (Some dialplan) (fault ∷ faults) = refl
 
 -- the result for all lines is the file that they are, or all their faults
-pub finished-file_in : (lines : List MeantLine) → finished (fold drafted_after undrafted lines) (faults_from undrafted lines) ≡ file_in lines
+pub finished-file_in : (lines : List MeantLine) → draft_result (fold drafted_after nothing_drafted lines) (faults_from nothing_drafted lines) ≡ file_in lines
 unfolding file_in
 finished-file_in lines =
-    let draft : Draft = fold drafted_after undrafted lines in
+    let draft : TestDraft = fold drafted_after nothing_drafted lines in
     let tests : List Test = draft.tests ++ option_to_list draft.current in
-    ap (λ (faults : List TestFault). made draft.dialplan draft.queues draft.clock draft.assume draft.setup tests faults) (faults_from-made_of [] lines)
-    ∙ (ap (λ (head : Option HeadLine). made head draft.queues draft.clock draft.assume draft.setup tests (faults_after [] lines)) (head-all Dialplan lines)
-    ∙ (ap (λ (head : Option HeadLine). made (head_of Dialplan lines) head draft.clock draft.assume draft.setup tests (faults_after [] lines)) (head-all Queues lines)
-    ∙ (ap (λ (head : Option HeadLine). made (head_of Dialplan lines) (head_of Queues lines) head draft.assume draft.setup tests (faults_after [] lines)) (head-all Clock lines)
-    ∙ (ap (λ (head : Option HeadLine). made (head_of Dialplan lines) (head_of Queues lines) (head_of Clock lines) head draft.setup tests (faults_after [] lines)) (head-all Assume lines)
-    ∙ (ap (λ (setup : List TestLine). made (head_of Dialplan lines) (head_of Queues lines) (head_of Clock lines) (head_of Assume lines) setup tests (faults_after [] lines)) (setup-fold undrafted lines)
-    ∙ (ap (λ (all : List Test). made (head_of Dialplan lines) (head_of Queues lines) (head_of Clock lines) (head_of Assume lines) (setup_of lines) all (faults_after [] lines)) (tests-fold undrafted lines)
+    ap (λ (faults : List TestFault). result_of_parts draft.dialplan draft.queues draft.clock draft.assume draft.setup tests faults) (faults_from-made_of [] lines)
+    ∙ (ap (λ (head : Option HeadLine). result_of_parts head draft.queues draft.clock draft.assume draft.setup tests (faults_after [] lines)) (head-all Dialplan lines)
+    ∙ (ap (λ (head : Option HeadLine). result_of_parts (head_of Dialplan lines) head draft.clock draft.assume draft.setup tests (faults_after [] lines)) (head-all Queues lines)
+    ∙ (ap (λ (head : Option HeadLine). result_of_parts (head_of Dialplan lines) (head_of Queues lines) head draft.assume draft.setup tests (faults_after [] lines)) (head-all Clock lines)
+    ∙ (ap (λ (head : Option HeadLine). result_of_parts (head_of Dialplan lines) (head_of Queues lines) (head_of Clock lines) head draft.setup tests (faults_after [] lines)) (head-all Assume lines)
+    ∙ (ap (λ (setup : List TestLine). result_of_parts (head_of Dialplan lines) (head_of Queues lines) (head_of Clock lines) (head_of Assume lines) setup tests (faults_after [] lines)) (setup-fold nothing_drafted lines)
+    ∙ (ap (λ (all : List Test). result_of_parts (head_of Dialplan lines) (head_of Queues lines) (head_of Clock lines) (head_of Assume lines) (setup_of lines) all (faults_after [] lines)) (tests-fold nothing_drafted lines)
     ∙ made-file_by lines (head_of Dialplan lines) (faults_after [] lines)))))))

@@ -15,34 +15,34 @@ use Rattle.dp_plan.specs.EntryLine.{without_last}
 use Rattle.dp_commands.specs.Debug.{is_comma, priority_in}
 use Rattle.dp_commands.specs.Script.{channel_in, number_within, words_of}
 use Rattle.dp_wide_runs.specs.Lines.{cut_word, setting_in}
-use Rattle.dp_tests.specs.declared.expectation.Call.{Call}
-use Rattle.dp_tests.specs.declared.expectation.Claim.{Claim}
-use Rattle.dp_tests.specs.declared.expectation.Claim.TheVariants.{State, Ran, Passed, At, Value, Rings, Waiting, Refused}
-use Rattle.dp_tests.specs.declared.expectation.EntryPlace.{EntryPlace}
+use Rattle.dp_tests.specs.declared.expectation.ExpectedCall.{ExpectedCall}
+use Rattle.dp_tests.specs.declared.expectation.LineClaim.{LineClaim}
+use Rattle.dp_tests.specs.declared.expectation.LineClaim.TheVariants.{State, Ran, Passed, At, Value, Rings, Waiting, Refused}
+use Rattle.dp_tests.specs.declared.expectation.ExpectedPlace.{ExpectedPlace}
 use Rattle.dp_tests.specs.declared.expectation.Expectation.{Expectation}
 
 -- ---- calls of applications
 
 -- an application, which has a name, with its arguments if they are given
-abbrev pub call_of : List ℕ → Option (List ℕ) → Option Call
+abbrev pub call_of : List ℕ → Option (List ℕ) → Option ExpectedCall
 call_of [] arguments = None
 call_of (byte ∷ name) arguments = Some (record { application = byte ∷ name; arguments = arguments })
 
 -- the same; the name of an application has no comma
-abbrev pub named_call : List ℕ → Option (List ℕ) → Option Call
+abbrev pub named_call : List ℕ → Option (List ℕ) → Option ExpectedCall
 named_call name arguments = if list_any is_comma name then None else call_of name arguments
 
 -- the call with this name before its `(`, and with this text after it: the arguments end at a final `)`
-abbrev pub call_with : List ℕ → List ℕ → Option Call
+abbrev pub call_with : List ℕ → List ℕ → Option ExpectedCall
 call_with name rest = option_and_then (λ arguments. named_call (trim name) (Some arguments)) (without_last 41 rest)
 
 -- the call of a text that was cut at its first `(`
-abbrev pub call_by : List ℕ → Option (List ℕ × List ℕ) → Option Call
+abbrev pub call_by : List ℕ → Option (List ℕ × List ℕ) → Option ExpectedCall
 call_by text None = named_call text None
 call_by text (Some cut) = call_with cut.0 cut.1
 
 -- the call that a text writes: `APP`, with any arguments, or `APP(ARGS)`
-abbrev pub call_in : List ℕ → Option Call
+abbrev pub call_in : List ℕ → Option ExpectedCall
 call_in text = call_by text (cut_once 40 text)
 
 -- ---- places of entries
@@ -57,21 +57,21 @@ abbrev pub name_in : List ℕ → Option Meaning
 name_in text = name_by (meaning_of text)
 
 -- the place of all entries of a name in a context, which has a name too
-abbrev pub named_place : List ℕ → Option Meaning → Option EntryPlace
+abbrev pub named_place : List ℕ → Option Meaning → Option ExpectedPlace
 named_place [] name = None
 named_place (byte ∷ context) None = None
 named_place (byte ∷ context) (Some name) = Some (record { context = byte ∷ context; name = name; priority = None })
 
-abbrev pub with_priority : ℕ → EntryPlace → EntryPlace
+abbrev pub with_priority : ℕ → ExpectedPlace → ExpectedPlace
 with_priority priority place = record place { priority = Some priority }
 
 -- the place of the entry with a priority too
-abbrev pub numbered_place : List ℕ → List ℕ → List ℕ → Option EntryPlace
+abbrev pub numbered_place : List ℕ → List ℕ → List ℕ → Option ExpectedPlace
 numbered_place context name word =
     option_and_then (λ priority. option_map (with_priority priority) (named_place context (name_in name))) (priority_in word)
 
 -- the place that the parts of a text write
-abbrev pub place_by : List (List ℕ) → Option EntryPlace
+abbrev pub place_by : List (List ℕ) → Option ExpectedPlace
 place_by [] = None
 place_by (context ∷ []) = None
 place_by (context ∷ name ∷ []) = named_place context (name_in name)
@@ -79,7 +79,7 @@ place_by (context ∷ name ∷ priority ∷ []) = numbered_place context name pr
 place_by (context ∷ name ∷ priority ∷ more ∷ parts) = None
 
 -- the place that a text writes: `CONTEXT,NAME` or `CONTEXT,NAME,PRIORITY`
-abbrev pub place_in : List ℕ → Option EntryPlace
+abbrev pub place_in : List ℕ → Option ExpectedPlace
 place_in text = place_by (arguments_of text)
 
 -- ---- refusals
@@ -110,23 +110,23 @@ refusal_in word = find (is_called word) refusals
 -- ---- claims on a channel
 
 -- `NAME=VALUE`, of a channel or of the global
-abbrev pub value_claim : Option ℕ → List ℕ → Option Claim
+abbrev pub value_claim : Option ℕ → List ℕ → Option LineClaim
 value_claim channel text = option_map (λ setting. Value channel setting.0 setting.1) (setting_in text)
 
 -- `ran APP[(ARGS)]`, given the text after `ran`
-abbrev pub ran_claim : ℕ → List ℕ → Option Claim
+abbrev pub ran_claim : ℕ → List ℕ → Option LineClaim
 ran_claim channel text = option_map (λ call. Ran channel call) (call_in text)
 
 -- `passed APP[(ARGS)]`, given the text after `passed`
-abbrev pub passed_claim : ℕ → List ℕ → Option Claim
+abbrev pub passed_claim : ℕ → List ℕ → Option LineClaim
 passed_claim channel text = option_map (λ call. Passed channel call) (call_in text)
 
 -- `at CONTEXT,NAME[,PRIORITY]`, given the text after `at`
-abbrev pub at_claim : ℕ → List ℕ → Option Claim
+abbrev pub at_claim : ℕ → List ℕ → Option LineClaim
 at_claim channel text = option_map (λ place. At channel place) (place_in text)
 
 -- a state, as it is printed
-abbrev pub state_claim : ℕ → List ℕ → Option Claim
+abbrev pub state_claim : ℕ → List ℕ → Option LineClaim
 state_claim channel text = Some (State channel text)
 
 -- whether the printed state of a channel can begin with a word
@@ -137,7 +137,7 @@ is_state_word word =
     || (same_text word (codes "ended") || same_text word (codes "unknown")))))))
 
 -- the claim on a channel, given the text after its number, and that text cut at its first word
-abbrev pub channel_claim : ℕ → List ℕ → List ℕ × List ℕ → Option Claim
+abbrev pub channel_claim : ℕ → List ℕ → List ℕ × List ℕ → Option LineClaim
 channel_claim channel text cut =
     if same_text cut.0 (codes "ran") then ran_claim channel cut.1
     else if same_text cut.0 (codes "passed") then passed_claim channel cut.1
@@ -146,13 +146,13 @@ channel_claim channel text cut =
     else value_claim (Some channel) text
 
 -- the claim of a word that writes the channel's number, and the text after it
-abbrev pub numbered_claim : List ℕ → List ℕ → Option Claim
+abbrev pub numbered_claim : List ℕ → List ℕ → Option LineClaim
 numbered_claim word rest = option_and_then (λ channel. channel_claim channel rest (cut_word rest)) (channel_in word)
 
 -- ---- other claims
 
 -- `rings AGENT..`, given the words after `rings`
-abbrev pub rings_claim : List (List ℕ) → Option Claim
+abbrev pub rings_claim : List (List ℕ) → Option LineClaim
 rings_claim [] = None
 rings_claim (agent ∷ agents) = Some (Rings (agent ∷ agents))
 
@@ -161,28 +161,28 @@ abbrev pub most_waiting : ℕ
 most_waiting = 4294967295
 
 -- `waiting QUEUE N`, given its words
-abbrev pub waiting_by : List ℕ → List ℕ → Option Claim
+abbrev pub waiting_by : List ℕ → List ℕ → Option LineClaim
 waiting_by queue word = option_map (λ count. Waiting queue count) (number_within most_waiting word)
 
 -- the same, given the words after `waiting`
-abbrev pub waiting_claim : List (List ℕ) → Option Claim
+abbrev pub waiting_claim : List (List ℕ) → Option LineClaim
 waiting_claim [] = None
 waiting_claim (queue ∷ []) = None
 waiting_claim (queue ∷ count ∷ []) = waiting_by queue count
 waiting_claim (queue ∷ count ∷ more ∷ words) = None
 
 -- `refused CODE`, given the code
-abbrev pub refused_by : List ℕ → Option Claim
+abbrev pub refused_by : List ℕ → Option LineClaim
 refused_by word = option_map (λ refusal. Refused (Some refusal)) (refusal_in word)
 
 -- `refused [CODE]`, given the words after `refused`
-abbrev pub refused_claim : List (List ℕ) → Option Claim
+abbrev pub refused_claim : List (List ℕ) → Option LineClaim
 refused_claim [] = Some (Refused None)
 refused_claim (code ∷ []) = refused_by code
 refused_claim (code ∷ more ∷ words) = None
 
 -- the claim that a first word and the text after it make
-abbrev pub claim_by : List ℕ × List ℕ → Option Claim
+abbrev pub claim_by : List ℕ × List ℕ → Option LineClaim
 claim_by cut =
     if same_text cut.0 (codes "global") then value_claim None cut.1
     else if same_text cut.0 (codes "rings") then rings_claim (words_of cut.1)
@@ -193,7 +193,7 @@ claim_by cut =
 -- ---- expectations
 
 -- that a claim holds, or that it does not
-abbrev pub expects : Bool → Claim → Expectation
+abbrev pub expects : Bool → LineClaim → Expectation
 expects is_negated claim = record { is_negated = is_negated; claim = claim }
 
 -- the expectation of a first word and the text after it; after `not` comes the claim that does not hold

@@ -4,7 +4,7 @@ ghost use Rattle.std.specs.Option.{option_map};
 ghost use Rattle.dp_wide_runs.specs.Lines.{cut_word};
 ghost use Rattle.dp_tests.specs.Expectations as spec;
 
-use crate::expectation::{Claim, Expectation};
+use crate::expectation::{Expectation, LineClaim};
 use crate::items::Items;
 use crate::places::{read_call, read_place};
 use crate::refusals::read_refusal;
@@ -28,7 +28,11 @@ fn is_state_word(word: &[u8]) -> bool
 }
 
 /// The claim on a value, for a channel or as the global, that a text `NAME=VALUE` makes.
-fn read_value(alloc: Global, channel: Option<u32>, text: &[u8]) -> Result<Option<Claim>, NoMemory>
+fn read_value(
+    alloc: Global,
+    channel: Option<u32>,
+    text: &[u8],
+) -> Result<Option<LineClaim>, NoMemory>
     ensures { IfOk result (λ claim. claim ≡ spec.value_claim channel text.now) }
 {
     let Some((name, value)) = setting_in(text) else {
@@ -36,7 +40,7 @@ fn read_value(alloc: Global, channel: Option<u32>, text: &[u8]) -> Result<Option
     };
     let name = Text::copy_of(alloc, name)?;
     let value = Text::copy_of(alloc, value)?;
-    Ok(Some(Claim::Value {
+    Ok(Some(LineClaim::Value {
         channel,
         name,
         value,
@@ -44,45 +48,49 @@ fn read_value(alloc: Global, channel: Option<u32>, text: &[u8]) -> Result<Option
 }
 
 /// The claim that the last entry that a channel ran is the call in a text.
-fn read_ran(alloc: Global, channel: u32, text: &[u8]) -> Result<Option<Claim>, NoMemory>
+fn read_ran(alloc: Global, channel: u32, text: &[u8]) -> Result<Option<LineClaim>, NoMemory>
     ensures { IfOk result (λ claim. claim ≡ spec.ran_claim channel text.now) }
 {
     match read_call(alloc, text)? {
-        Some(call) => Ok(Some(Claim::Ran { channel, call })),
+        Some(call) => Ok(Some(LineClaim::Ran { channel, call })),
         None => Ok(None),
     }
 }
 
 /// The claim that a channel ran the call in a text.
-fn read_passed(alloc: Global, channel: u32, text: &[u8]) -> Result<Option<Claim>, NoMemory>
+fn read_passed(alloc: Global, channel: u32, text: &[u8]) -> Result<Option<LineClaim>, NoMemory>
     ensures { IfOk result (λ claim. claim ≡ spec.passed_claim channel text.now) }
 {
     match read_call(alloc, text)? {
-        Some(call) => Ok(Some(Claim::Passed { channel, call })),
+        Some(call) => Ok(Some(LineClaim::Passed { channel, call })),
         None => Ok(None),
     }
 }
 
 /// The claim that the last entry that a channel ran is at the place in a text.
-fn read_at(alloc: Global, channel: u32, text: &[u8]) -> Result<Option<Claim>, NoMemory>
+fn read_at(alloc: Global, channel: u32, text: &[u8]) -> Result<Option<LineClaim>, NoMemory>
     ensures { IfOk result (λ claim. claim ≡ spec.at_claim channel text.now) }
 {
     match read_place(alloc, text)? {
-        Some(place) => Ok(Some(Claim::At { channel, place })),
+        Some(place) => Ok(Some(LineClaim::At { channel, place })),
         None => Ok(None),
     }
 }
 
 /// The claim on a channel's state.
-fn state_claim(alloc: Global, channel: u32, text: &[u8]) -> Result<Option<Claim>, NoMemory>
+fn state_claim(alloc: Global, channel: u32, text: &[u8]) -> Result<Option<LineClaim>, NoMemory>
     ensures { IfOk result (λ claim. claim ≡ spec.state_claim channel text.now) }
 {
     let state = Text::copy_of(alloc, text)?;
-    Ok(Some(Claim::State { channel, state }))
+    Ok(Some(LineClaim::State { channel, state }))
 }
 
 /// The claim on a channel that the text after the channel's number makes.
-fn read_channel_claim(alloc: Global, channel: u32, text: &[u8]) -> Result<Option<Claim>, NoMemory>
+fn read_channel_claim(
+    alloc: Global,
+    channel: u32,
+    text: &[u8],
+) -> Result<Option<LineClaim>, NoMemory>
     ensures { IfOk result (λ claim. claim ≡ spec.channel_claim channel text.now (cut_word text.now)) }
 {
     let (word, rest) = cut_word(text);
@@ -112,7 +120,7 @@ fn push_copies(alloc: Global, agents: &mut Items<Text>, words: &[&[u8]]) -> Resu
 }
 
 /// `rings AGENT..`, given the words after `rings`.
-fn read_rings(alloc: Global, words: &[&[u8]]) -> Result<Option<Claim>, NoMemory>
+fn read_rings(alloc: Global, words: &[&[u8]]) -> Result<Option<LineClaim>, NoMemory>
     ensures { IfOk result (λ claim. claim ≡ spec.rings_claim (map (λ word. word.now) words.now)) }
 {
     if words.is_empty() {
@@ -120,22 +128,22 @@ fn read_rings(alloc: Global, words: &[&[u8]]) -> Result<Option<Claim>, NoMemory>
     }
     let mut agents = Items::none(alloc);
     push_copies(alloc, &mut agents, words)?;
-    Ok(Some(Claim::Rings { agents }))
+    Ok(Some(LineClaim::Rings { agents }))
 }
 
 /// The claim that this number of channels wait in a queue, or None if the word is not a number.
-fn waiting_claim(alloc: Global, queue: &[u8], word: &[u8]) -> Result<Option<Claim>, NoMemory>
+fn waiting_claim(alloc: Global, queue: &[u8], word: &[u8]) -> Result<Option<LineClaim>, NoMemory>
     ensures { IfOk result (λ claim. claim ≡ spec.waiting_by queue.now word.now) }
 {
     let Some(count) = number_within(u32::MAX, word) else {
         return Ok(None);
     };
     let queue = Text::copy_of(alloc, queue)?;
-    Ok(Some(Claim::Waiting { queue, count }))
+    Ok(Some(LineClaim::Waiting { queue, count }))
 }
 
 /// `waiting QUEUE N`, given the words after `waiting`.
-fn read_waiting(alloc: Global, words: &[&[u8]]) -> Result<Option<Claim>, NoMemory>
+fn read_waiting(alloc: Global, words: &[&[u8]]) -> Result<Option<LineClaim>, NoMemory>
     ensures { IfOk result (λ claim. claim ≡ spec.waiting_claim (map (λ word. word.now) words.now)) }
 {
     match words {
@@ -145,11 +153,11 @@ fn read_waiting(alloc: Global, words: &[&[u8]]) -> Result<Option<Claim>, NoMemor
 }
 
 /// The claim that an event was refused for the reason that a word names, or None if the word names no reason.
-fn refused_by(word: &[u8]) -> Option<Claim>
+fn refused_by(word: &[u8]) -> Option<LineClaim>
     ensures { result ≡ spec.refused_by word.now }
 {
     match read_refusal(word) {
-        Some(refusal) => Some(Claim::Refused {
+        Some(refusal) => Some(LineClaim::Refused {
             refusal: Some(refusal),
         }),
         None => None,
@@ -157,18 +165,18 @@ fn refused_by(word: &[u8]) -> Option<Claim>
 }
 
 /// `refused [CODE]`, given the words after `refused`.
-fn read_refused(words: &[&[u8]]) -> Option<Claim>
+fn read_refused(words: &[&[u8]]) -> Option<LineClaim>
     ensures { result ≡ spec.refused_claim (map (λ word. word.now) words.now) }
 {
     match words {
-        [] => Some(Claim::Refused { refusal: None }),
+        [] => Some(LineClaim::Refused { refusal: None }),
         [code] => refused_by(code),
         _ => None,
     }
 }
 
 /// The claim on a channel that a first word and the text after it make.
-fn read_numbered(alloc: Global, word: &[u8], rest: &[u8]) -> Result<Option<Claim>, NoMemory>
+fn read_numbered(alloc: Global, word: &[u8], rest: &[u8]) -> Result<Option<LineClaim>, NoMemory>
     ensures { IfOk result (λ claim. claim ≡ spec.numbered_claim word.now rest.now) }
 {
     match read_channel(word) {
@@ -178,7 +186,7 @@ fn read_numbered(alloc: Global, word: &[u8], rest: &[u8]) -> Result<Option<Claim
 }
 
 /// The claim that a first word and the text after it make, or None if they do not make one.
-fn read_claim(alloc: Global, word: &[u8], rest: &[u8]) -> Result<Option<Claim>, NoMemory>
+fn read_claim(alloc: Global, word: &[u8], rest: &[u8]) -> Result<Option<LineClaim>, NoMemory>
     ensures { IfOk result (λ claim. claim ≡ spec.claim_by (word.now, rest.now)) }
 {
     if word == b"global".as_slice() {
@@ -200,7 +208,7 @@ fn read_claim(alloc: Global, word: &[u8], rest: &[u8]) -> Result<Option<Claim>, 
 }
 
 /// The expectation of a claim, if there is one.
-fn expects(is_negated: bool, claim: Option<Claim>) -> Option<Expectation>
+fn expects(is_negated: bool, claim: Option<LineClaim>) -> Option<Expectation>
     ensures { result ≡ option_map (spec.expects is_negated) claim }
 {
     match claim {

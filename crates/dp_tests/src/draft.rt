@@ -15,7 +15,7 @@ use std::alloc::Global;
 
 /// What the lines so far make. The last test is open until another begins.
 #[derive(Drop)]
-pub(crate) struct Draft {
+pub(crate) struct TestDraft {
     dialplan: Option<HeadLine>,
     queues: Option<HeadLine>,
     clock: Option<HeadLine>,
@@ -34,12 +34,12 @@ fn keep(slot: &mut Option<HeadLine>, line: HeadLine)
     }
 }
 
-impl Draft {
+impl TestDraft {
     /// Before the first line.
     pub(crate) fn new(alloc: Global) -> Self
-        ensures { result ≡ spec.undrafted }
+        ensures { result ≡ spec.nothing_drafted }
     {
-        Draft {
+        TestDraft {
             dialplan: None,
             queues: None,
             clock: None,
@@ -52,7 +52,7 @@ impl Draft {
 
     /// Ends the open test.
     fn close(&mut self) -> Result<(), NoMemory>
-        ensures { OnOk result (self.new ≡ spec.closed self.old) }
+        ensures { OnOk result (self.new ≡ spec.with_test_closed self.old) }
     {
         match self.current.take() {
             Some(test) => self.tests.push(test),
@@ -62,7 +62,7 @@ impl Draft {
 
     /// Begins a test.
     fn begin(&mut self, alloc: Global, line: usize, name: Text) -> Result<(), NoMemory>
-        ensures { OnOk result (self.new ≡ spec.begun self.old line name) }
+        ensures { OnOk result (self.new ≡ spec.with_new_test self.old line name) }
     {
         self.close()?;
         self.current = Some(Test {
@@ -200,7 +200,7 @@ impl Draft {
     fn closed_file(self) -> Option<TestFile>
         ensures { result ≡ spec.closed_file self self.dialplan }
     {
-        let Draft {
+        let TestDraft {
             dialplan,
             queues,
             clock,

@@ -5,14 +5,14 @@ use dp_plan::{SharedName, Text};
 
 /// An application as it was called: its name, and its expanded arguments if the line gives them.
 #[derive(Drop)]
-pub struct Call {
+pub struct ExpectedCall {
     pub application: Text,
     pub arguments: Option<Text>,
 }
 
 /// The place of an entry: its context, its name by its meaning, and its priority if the line gives one.
 #[derive(Drop)]
-pub struct EntryPlace {
+pub struct ExpectedPlace {
     pub context: Text,
     pub name: SharedName,
     pub priority: Option<u32>,
@@ -20,7 +20,7 @@ pub struct EntryPlace {
 
 /// What a line claims.
 #[derive(Drop)]
-pub enum Claim {
+pub enum LineClaim {
     /// `CH STATE`: the channel's state, as it is printed, begins with this text.
     State {
         channel: u32,
@@ -29,17 +29,17 @@ pub enum Claim {
     /// `CH ran APP[(ARGS)]`: the last entry that the channel ran is this call.
     Ran {
         channel: u32,
-        call: Call,
+        call: ExpectedCall,
     },
     /// `CH passed APP[(ARGS)]`: the channel ran such a call in this test.
     Passed {
         channel: u32,
-        call: Call,
+        call: ExpectedCall,
     },
     /// `CH at CONTEXT,NAME[,PRIORITY]`: the last entry that the channel ran is at this place.
     At {
         channel: u32,
-        place: EntryPlace,
+        place: ExpectedPlace,
     },
     /// `CH NAME=VALUE` or, without a channel, `global NAME=VALUE`: the name has this value.
     Value {
@@ -66,5 +66,5 @@ pub enum Claim {
 #[derive(Drop)]
 pub struct Expectation {
     pub is_negated: bool,
-    pub claim: Claim,
+    pub claim: LineClaim,
 }

@@ -30,7 +30,7 @@ mod refusals;
 mod words;
 
 pub use dp_plan::NoMemory;
-pub use expectation::{Call, Claim, EntryPlace, Expectation};
+pub use expectation::{Expectation, ExpectedCall, ExpectedPlace, LineClaim};
 pub use fault::{TestFault, TestFaultKind, TestFaults};
 pub use file::{Act, HeadLine, Test, TestFile, TestLine, Turns};
 pub use items::Items;

@@ -4,7 +4,7 @@ ghost use Rattle.std.specs.Option.{option_map};
 ghost use Rattle.dp_commands.specs.Debug.{priority_in};
 ghost use Rattle.dp_tests.specs.Expectations as spec;
 
-use crate::expectation::{Call, EntryPlace};
+use crate::expectation::{ExpectedCall, ExpectedPlace};
 use crate::words::before_closing;
 use dp_commands::number_within;
 use dp_conf::{cut_once, split_args, trim};
@@ -30,7 +30,7 @@ fn named_call(
     alloc: Global,
     name: &[u8],
     arguments: Option<&[u8]>,
-) -> Result<Option<Call>, NoMemory>
+) -> Result<Option<ExpectedCall>, NoMemory>
     ensures { IfOk result (λ call. call ≡ spec.named_call name.now (option_map (λ text. text.now) arguments.entry)) }
 {
     if name.contains(&b',') {
@@ -41,14 +41,14 @@ fn named_call(
     }
     let application = Text::copy_of(alloc, name)?;
     let arguments = copy_arguments(alloc, arguments)?;
-    Ok(Some(Call {
+    Ok(Some(ExpectedCall {
         application,
         arguments,
     }))
 }
 
 /// The call that the parts of a text before and after its first `(` write.
-fn call_with(alloc: Global, name: &[u8], rest: &[u8]) -> Result<Option<Call>, NoMemory>
+fn call_with(alloc: Global, name: &[u8], rest: &[u8]) -> Result<Option<ExpectedCall>, NoMemory>
     ensures { IfOk result (λ call. call ≡ spec.call_with name.now rest.now) }
 {
     match before_closing(rest) {
@@ -58,7 +58,7 @@ fn call_with(alloc: Global, name: &[u8], rest: &[u8]) -> Result<Option<Call>, No
 }
 
 /// The call that a text writes, `APP` or `APP(ARGS)`, or None if it does not write one.
-pub(crate) fn read_call(alloc: Global, text: &[u8]) -> Result<Option<Call>, NoMemory>
+pub(crate) fn read_call(alloc: Global, text: &[u8]) -> Result<Option<ExpectedCall>, NoMemory>
     ensures { IfOk result (λ call. call ≡ spec.call_in text.now) }
 {
     match cut_once(text, b'(') {
@@ -93,7 +93,11 @@ fn read_priority(word: &[u8]) -> Option<u32>
 }
 
 /// The place of the entries with this name in this context, or None if the context is empty or the name is malformed.
-fn named_place(alloc: Global, context: &[u8], name: &[u8]) -> Result<Option<EntryPlace>, NoMemory>
+fn named_place(
+    alloc: Global,
+    context: &[u8],
+    name: &[u8],
+) -> Result<Option<ExpectedPlace>, NoMemory>
     ensures { IfOk result (λ place. place ≡ spec.named_place context.now (spec.name_in name.now)) }
 {
     if context.is_empty() {
@@ -103,7 +107,7 @@ fn named_place(alloc: Global, context: &[u8], name: &[u8]) -> Result<Option<Entr
         return Ok(None);
     };
     let context = Text::copy_of(alloc, context)?;
-    Ok(Some(EntryPlace {
+    Ok(Some(ExpectedPlace {
         context,
         name,
         priority: None,
@@ -111,15 +115,15 @@ fn named_place(alloc: Global, context: &[u8], name: &[u8]) -> Result<Option<Entr
 }
 
 /// The place with this priority.
-fn with_priority(place: EntryPlace, priority: u32) -> EntryPlace
+fn with_priority(place: ExpectedPlace, priority: u32) -> ExpectedPlace
     ensures { result ≡ spec.with_priority priority place }
 {
-    let EntryPlace {
+    let ExpectedPlace {
         context,
         name,
         priority: _,
     } = place;
-    EntryPlace {
+    ExpectedPlace {
         context,
         name,
         priority: Some(priority),
@@ -132,7 +136,7 @@ fn numbered_place(
     context: &[u8],
     name: &[u8],
     word: &[u8],
-) -> Result<Option<EntryPlace>, NoMemory>
+) -> Result<Option<ExpectedPlace>, NoMemory>
     ensures { IfOk result (λ place. place ≡ spec.numbered_place context.now name.now word.now) }
 {
     let Some(priority) = read_priority(word) else {
@@ -145,7 +149,7 @@ fn numbered_place(
 }
 
 /// The place that these parts write, or None if they do not write one.
-fn place_by(alloc: Global, parts: &[&[u8]]) -> Result<Option<EntryPlace>, NoMemory>
+fn place_by(alloc: Global, parts: &[&[u8]]) -> Result<Option<ExpectedPlace>, NoMemory>
     ensures { IfOk result (λ place. place ≡ spec.place_by (map (λ part. part.now) parts.now)) }
 {
     match parts {
@@ -156,7 +160,7 @@ fn place_by(alloc: Global, parts: &[&[u8]]) -> Result<Option<EntryPlace>, NoMemo
 }
 
 /// The place that a text writes, `CONTEXT,NAME` or `CONTEXT,NAME,PRIORITY`, or None if it does not write one.
-pub(crate) fn read_place(alloc: Global, text: &[u8]) -> Result<Option<EntryPlace>, NoMemory>
+pub(crate) fn read_place(alloc: Global, text: &[u8]) -> Result<Option<ExpectedPlace>, NoMemory>
     ensures { IfOk result (λ place. place ≡ spec.place_in text.now) }
 {
     let parts = split_args(alloc, text)?;

@@ -5,7 +5,7 @@ ghost use Rattle.dp_tests.specs.Faults.{reason_of};
 ghost use Rattle.dp_tests.specs.Files.{fault_at, file_of, lines_of};
 ghost use Rattle.dp_tests.specs.steps.Drafts as spec;
 
-use crate::draft::Draft;
+use crate::draft::TestDraft;
 use crate::fault::{TestFault, TestFaultKind, TestFaults};
 use crate::file::TestFile;
 use crate::items::Items;
@@ -17,8 +17,8 @@ use std::alloc::Global;
 
 /// What the lines of a text make, and the faults that each has.
 #[derive(Drop)]
-struct Reading {
-    draft: Draft,
+struct TestReading {
+    draft: TestDraft,
     faults: Items<TestFault>,
 }
 
@@ -37,11 +37,11 @@ fn push_fault(
 }
 
 /// Reads all lines of a text.
-fn read_all(alloc: Global, text: &[u8]) -> Result<Reading, NoMemory>
-    ensures draft { IfOk result (λ reading. reading.draft ≡ fold spec.drafted_after spec.undrafted (lines_of text.now)) }
-    ensures faults { IfOk result (λ reading. reading.faults ≡ spec.faults_from spec.undrafted (lines_of text.now)) }
+fn read_all(alloc: Global, text: &[u8]) -> Result<TestReading, NoMemory>
+    ensures draft { IfOk result (λ reading. reading.draft ≡ fold spec.drafted_after spec.nothing_drafted (lines_of text.now)) }
+    ensures faults { IfOk result (λ reading. reading.faults ≡ spec.faults_from spec.nothing_drafted (lines_of text.now)) }
 {
-    let mut draft = Draft::new(alloc);
+    let mut draft = TestDraft::new(alloc);
     let mut faults = Items::none(alloc);
     let mut number: usize = 0;
     let mut rest = Some(text);
@@ -53,7 +53,7 @@ fn read_all(alloc: Global, text: &[u8]) -> Result<Reading, NoMemory>
         draft.take(alloc, meant)?;
         rest = after;
     }
-    Ok(Reading { draft, faults })
+    Ok(TestReading { draft, faults })
 }
 
 /// Adds, before the other faults, that the head names no dialplan, if that is so.
@@ -83,10 +83,10 @@ fn file_or_faults(file: Option<TestFile>, faults: Items<TestFault>) -> Result<Te
 }
 
 /// The file of all lines, or all their faults.
-fn finish(reading: Reading) -> Result<TestFile, TestFaults>
-    ensures { Answers (λ file. file) reason_of result (spec.finished reading.draft reading.faults) }
+fn finish(reading: TestReading) -> Result<TestFile, TestFaults>
+    ensures { Answers (λ file. file) reason_of result (spec.draft_result reading.draft reading.faults) }
 {
-    let Reading { draft, mut faults } = reading;
+    let TestReading { draft, mut faults } = reading;
     add_dialplan_fault(draft.has_head(HeadWord::Dialplan), &mut faults)?;
     let file = draft.into_file()?;
     file_or_faults(file, faults)

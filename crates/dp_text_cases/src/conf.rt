@@ -6,19 +6,19 @@ mod items;
 mod terms;
 mod texts;
 
-use crate::conf::args::{ARGUMENTS, Arguments, TRIMMED, Trimmed};
-use crate::conf::terms::{CUTS, Cut, NUMBERS, Number, WORDS, Words};
-use crate::conf::texts::{PLACES, Places, SAME, Same};
+use crate::conf::args::{ARGUMENTS, SplitArguments, TRIMMED, Trimmed};
+use crate::conf::terms::{CUTS, FirstComma, NUMBERS, Number, SameWords, WORDS};
+use crate::conf::texts::{MapPlaces, PLACES, SAME, SameClone};
 use dp_case_tables::check;
 use std::alloc::Global;
 use std::test::Fail;
 
 fn check_parts(alloc: Global) -> Result<(), Fail> {
-    check::<Arguments>(alloc, ARGUMENTS)?;
+    check::<SplitArguments>(alloc, ARGUMENTS)?;
     check::<Trimmed>(alloc, TRIMMED)?;
-    check::<Words>(alloc, WORDS)?;
+    check::<SameWords>(alloc, WORDS)?;
     check::<Number>(alloc, NUMBERS)?;
-    check::<Cut>(alloc, CUTS)
+    check::<FirstComma>(alloc, CUTS)
 }
 
 /// Arguments, texts without blanks at their ends, words without regard to case, numbers, and texts cut once.
@@ -28,8 +28,8 @@ fn parts_of_texts(rt: HostRuntime) -> Result<(), Fail> {
 }
 
 fn check_texts(alloc: Global) -> Result<(), Fail> {
-    check::<Same>(alloc, SAME)?;
-    check::<Places>(alloc, PLACES)
+    check::<SameClone>(alloc, SAME)?;
+    check::<MapPlaces>(alloc, PLACES)
 }
 
 /// A text is its bytes, and the key of a map by them.

@@ -3,8 +3,8 @@
 use dp_case_tables::{Question, bytes_of, check, check_same, push_bytes};
 use dp_conf::Text;
 use dp_files::{
-    DialplanFiles, Fault, FileMap, MadeLine, NamedText, NoMemory, Note, ReadingFault, Remark,
-    RemarkKind, SourceFile, SourceLine, matches_wildcard, read_dialplan, text_of,
+    DialplanFiles, Fault, FileMap, LineNote, LineRemark, MadeLine, NamedText, NoMemory,
+    ReadingFault, RemarkKind, SourceFile, SourceLine, matches_wildcard, read_dialplan, text_of,
 };
 use std::alloc::Global;
 use std::str;
@@ -58,17 +58,17 @@ x?.conf|x.conf→false
 ";
 
 /// The name of a note.
-fn note_name(note: Note) -> &'static str {
+fn note_name(note: LineNote) -> &'static str {
     match note {
-        Note::OpenComment => "OpenComment",
-        Note::Exec => "Exec",
-        Note::AfterHint => "AfterHint",
-        Note::DoubleLabel => "DoubleLabel",
-        Note::Hint => "Hint",
-        Note::IgnorePat => "IgnorePat",
-        Note::Switch => "Switch",
-        Note::AutoFallThrough => "AutoFallThrough",
-        Note::CallerId => "CallerId",
+        LineNote::OpenComment => "OpenComment",
+        LineNote::Exec => "Exec",
+        LineNote::AfterHint => "AfterHint",
+        LineNote::DoubleLabel => "DoubleLabel",
+        LineNote::Hint => "Hint",
+        LineNote::IgnorePat => "IgnorePat",
+        LineNote::Switch => "Switch",
+        LineNote::AutoFallThrough => "AutoFallThrough",
+        LineNote::CallerId => "CallerId",
     }
 }
 
@@ -100,7 +100,11 @@ fn push_made(out: &mut String, read: &DialplanFiles, made: &MadeLine) -> Result<
     push_bytes(out, made.text.bytes())
 }
 
-fn push_remark(out: &mut String, read: &DialplanFiles, remark: &Remark) -> Result<(), NoMemory> {
+fn push_remark(
+    out: &mut String,
+    read: &DialplanFiles,
+    remark: &LineRemark,
+) -> Result<(), NoMemory> {
     push_source(out, &read.files, read.lines.get(remark.source))?;
     push_kind(out, remark.kind)
 }
@@ -147,9 +151,9 @@ fn push_read(out: &mut String, read: &DialplanFiles) -> Result<(), NoMemory> {
 }
 
 /// Files, and what is made from them.
-struct Files;
+struct IncludedFiles;
 
-impl Question for Files {
+impl Question for IncludedFiles {
     fn answer(alloc: Global, asked: &str) -> Result<String, Fail> {
         let mut map = files_of(alloc, asked)?;
         let mut out = String::new(alloc);
@@ -179,7 +183,7 @@ impl Question for Wildcards {
 }
 
 fn check_files(alloc: Global) -> Result<(), Fail> {
-    check::<Files>(alloc, FILES)?;
+    check::<IncludedFiles>(alloc, FILES)?;
     check::<Wildcards>(alloc, WILDCARDS)
 }
 

@@ -100,7 +100,7 @@ fn disk_of(alloc: Global, files: &str) -> Result<Disk, Fail> {
 }
 
 /// The paths at which files were opened, and the number of remarks.
-fn opened(alloc: Global, first: &str, read: &DialplanFiles) -> Result<String, Fail> {
+fn opened_paths(alloc: Global, first: &str, read: &DialplanFiles) -> Result<String, Fail> {
     let mut out = String::new(alloc);
     for (at, file) in read.files.iter().enumerate() {
         if at > 0 {
@@ -120,7 +120,7 @@ impl Question for Folders {
         let (first, files) = asked.split_once('‖').ok_or("no first path")?;
         let disk = disk_of(alloc, files)?;
         match read_folder_dialplan(alloc, &disk, first) {
-            Ok(read) => opened(alloc, first, &read),
+            Ok(read) => opened_paths(alloc, first, &read),
             Err(_) => text_of(alloc, "not found"),
         }
     }

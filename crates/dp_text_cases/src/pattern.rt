@@ -19,9 +19,9 @@ use std::test::Fail;
 /// `read NAME` is the name's spelling or `fault CODE`; `matches NAME|TEXT` and `goes_on NAME|TEXT` are `yes` or `no`;
 /// `order NAME|NAME` is `before`, `after` or `same`, and `copy NAME` that of a name and its clone; `parts NAME` is what
 /// the name is made of, and `classes NAME` how its first class stands to its second, and this to its clone.
-struct Names;
+struct NameQuestions;
 
-impl Question for Names {
+impl Question for NameQuestions {
     fn answer(alloc: Global, asked: &str) -> Result<String, Fail> {
         let (word, cells) = asked.split_once(' ').ok_or("no question")?;
         let mut out = String::new(alloc);
@@ -202,5 +202,5 @@ const TABLES: &[&str] = &[
 #[test]
 fn names_have_these_answers(rt: HostRuntime) -> Result<(), Fail> {
     order_is_total();
-    check_all::<Names>(rt.alloc(), TABLES)
+    check_all::<NameQuestions>(rt.alloc(), TABLES)
 }

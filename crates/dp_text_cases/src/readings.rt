@@ -82,9 +82,9 @@ a = 1.0→unknown
 "#;
 
 /// How an expression is read.
-struct Reading;
+struct AsteriskReading;
 
-impl Question for Reading {
+impl Question for AsteriskReading {
     fn answer(alloc: Global, asked: &str) -> Result<String, Fail> {
         let text = bytes_of(alloc, asked)?;
         match asterisk_reading(alloc, &text)? {
@@ -98,5 +98,5 @@ impl Question for Reading {
 /// Expressions are read as Asterisk reads them, or are unknown.
 #[test]
 fn expressions_are_read_as_asterisk_does(rt: HostRuntime) -> Result<(), Fail> {
-    check::<Reading>(rt.alloc(), READINGS)
+    check::<AsteriskReading>(rt.alloc(), READINGS)
 }

@@ -7,7 +7,7 @@ use Rattle.std.proofs.lemmas.Option.{slice_get-get_or, slice_get_within, same_So
 use Rattle.dp_pattern.specs.Name.{is_one_of}
 use Rattle.dp_trie.specs.Asked.{Wanted}
 use Rattle.dp_trie.specs.steps.Leaps.{IsOutside, IsPassed, Passes, IsLeap, AreLeaps, Leads}
-use Rattle.dp_trie.specs.Tree.{AreLinked, step_visit}
+use Rattle.dp_trie.specs.Tree.{HaveEnds, step_visit}
 use Rattle.dp_trie.specs.declared.leap.Leap.{Leap}
 use Rattle.dp_trie.specs.declared.node.HeldEntry.{HeldEntry}
 use Rattle.dp_trie.specs.declared.node.Node.{Node}
@@ -112,7 +112,7 @@ passes-more nodes ends old now count from until class passes kept outside here =
 
 -- ---- a leap of a walk
 
-module _ (held : List HeldEntry) (more : Bool) (wanted : Wanted) (digits : List ℕ) (nodes : List Node) (ends : List ℕ) (linked : AreLinked nodes ends) where
+module _ (held : List HeldEntry) (more : Bool) (wanted : Wanted) (digits : List ℕ) (nodes : List Node) (ends : List ℕ) (linked : HaveEnds nodes ends) where
   after-passes : (marks : List Bool) (byte : ℕ) → slice_get digits 0 ≡ Some byte → slice_get marks byte ≡ Some false
       → (passed place until count : ℕ) → Passes nodes ends marks passed place until
       → IsAt held more wanted digits nodes place count → IsAt held more wanted digits nodes until count

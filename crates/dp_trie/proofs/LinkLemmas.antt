@@ -3,7 +3,7 @@ use Rattle.std.proofs.Common.{◌≡◌, ℕ, ◌+◌, ◌-◌, ◌<◌, ◌≤�
 use Rattle.std.specs.Prelude.{slice_get, slice_index, nat_lt}
 use Rattle.std.proofs.lemmas.Bool.{ltb-true, lt-ltb, le-ltb, cases_eq}
 use Rattle.std.proofs.lemmas.Option.{slice_get_within}
-use Rattle.dp_trie.specs.Tree.{nodes_past, IsEnd, IsEndOf, AreLinkedFrom, AreLinked}
+use Rattle.dp_trie.specs.Tree.{nodes_past, IsEnd, IsEndOf, AreLinkedFrom, HaveEnds}
 use Rattle.dp_trie.specs.declared.node.Node.{Node}
 use Rattle.dp_trie.proofs.TreeLemmas.{drop-get, drop-end}
 
@@ -73,7 +73,7 @@ linked-start nodes ends count = record {
   each = λ k few node here. (let inside = slice_get_within nodes k node here in absurd (omega (arith, inside, few)));
 }
 
-pub linked-end : (nodes : List Node) (ends : List ℕ) (place : ℕ) → place ≤ 0 → AreLinkedFrom place nodes ends → AreLinked nodes ends
+pub linked-end : (nodes : List Node) (ends : List ℕ) (place : ℕ) → place ≤ 0 → AreLinkedFrom place nodes ends → HaveEnds nodes ends
 linked-end nodes ends place none linked = record { count = linked.count; each = λ k. linked.each k (omega (arith, none)) }
 
 -- the last of the first nodes, and those after it

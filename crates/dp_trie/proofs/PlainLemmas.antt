@@ -55,18 +55,18 @@ side_short zero (d ∷ digits) = (λ few. refl, λ many. absurd (omega (arith, m
 side_short (suc n) [] = (λ few. absurd (omega (arith, few)), λ many. refl)
 side_short (suc n) (d ∷ digits) = (λ few. (side_short n digits).0 (omega (arith, few)), λ many. (side_short n digits).1 (omega (arith, many)))
 
-ended : (name : List ℕ) (n : ℕ) → length name ≤ n → drop n name ≡ []
-ended [] zero few = refl
-ended [] (suc n) few = refl
-ended (b ∷ name) zero few = absurd (omega (arith, few))
-ended (b ∷ name) (suc n) few = ended name n (omega (arith, few))
+nothing_left : (name : List ℕ) (n : ℕ) → length name ≤ n → drop n name ≡ []
+nothing_left [] zero few = refl
+nothing_left [] (suc n) few = refl
+nothing_left (b ∷ name) zero few = absurd (omega (arith, few))
+nothing_left (b ∷ name) (suc n) few = nothing_left name n (omega (arith, few))
 
 -- if the name has ended
 pub side-before : (name digits : List ℕ) (n : ℕ) → length name ≤ n → n < length digits → side_of (drop n name) (drop n digits) ≡ Before
-side-before name digits n few more = ap (λ l. side_of l (drop n digits)) (ended name n few) ∙ (side_short n digits).0 more
+side-before name digits n few more = ap (λ l. side_of l (drop n digits)) (nothing_left name n few) ∙ (side_short n digits).0 more
 
 pub side-same : (name digits : List ℕ) (n : ℕ) → length name ≤ n → length digits ≤ n → side_of (drop n name) (drop n digits) ≡ Same
-side-same name digits n few many = ap (λ l. side_of l (drop n digits)) (ended name n few) ∙ (side_short n digits).1 many
+side-same name digits n few many = ap (λ l. side_of l (drop n digits)) (nothing_left name n few) ∙ (side_short n digits).1 many
 
 -- the side, given the order of bytes and whether the name begins with the digits
 abbrev pub side_by : Ordering → Bool → Side

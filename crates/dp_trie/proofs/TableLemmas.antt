@@ -6,7 +6,7 @@ use Rattle.std.proofs.lemmas.List.Sums.{sum_by-append}
 use Rattle.dp_trie.specs.Known.{Known, most_added, most_nodes}
 use Rattle.dp_trie.specs.Names.{known_plain, ArePlainRanges}
 use Rattle.dp_trie.specs.steps.Ranked.{known_now, hold_of, known_cmp, AreInOrder}
-use Rattle.dp_trie.specs.Tree.{known_from, AreLinked, IsRooted, AreRanges, IsTree}
+use Rattle.dp_trie.specs.Tree.{known_from, HaveEnds, IsRooted, AreRanges, IsTree}
 use Rattle.dp_trie.specs.declared.node.HeldEntry.{HeldEntry}
 use Rattle.dp_trie.specs.declared.node.Node.{Node}
 use Rattle.dp_trie.specs.declared.plain.PlainName.{PlainName}
@@ -45,7 +45,7 @@ module _ (rest : List Ranked) (held : List HeldEntry) (nodes : List Node) (same 
   pub tree-known : known_from held [] nodes ≡ map known_now rest
   tree-known = ap (λ h. known_from h [] nodes) same ∙ known
 
-  pub is-tree : (ends : List ℕ) → AreInOrder (map known_now rest) → AreLinked nodes ends → IsRooted 0 nodes → AreRanges (length rest) nodes → IsTree held nodes ends
+  pub is-tree : (ends : List ℕ) → AreInOrder (map known_now rest) → HaveEnds nodes ends → IsRooted 0 nodes → AreRanges (length rest) nodes → IsTree held nodes ends
   is-tree ends order linked rooted ranges = record {
     linked = linked;
     rooted = rooted;

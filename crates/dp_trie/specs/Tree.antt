@@ -77,7 +77,7 @@ pub record AreLinkedFrom (first : ℕ) (nodes : List Node) (ends : List ℕ) : T
   pub each : (place : ℕ) → first ≤ place → IsEndOf nodes place (slice_index ends place)
 
 -- each node has its end next to it
-pub record AreLinked (nodes : List Node) (ends : List ℕ) : Type 0 where
+pub record HaveEnds (nodes : List Node) (ends : List ℕ) : Type 0 where
   pub count : length ends ≡ length nodes
   pub each : (place : ℕ) → IsEndOf nodes place (slice_index ends place)
 
@@ -97,7 +97,7 @@ Rises held (Leaf leaf) = Rise (slice_range held leaf.from leaf.until)
 
 -- the nodes are a tree over the held entries
 pub record IsTree (held : List HeldEntry) (nodes : List Node) (ends : List ℕ) : Type 0 where
-  pub linked : AreLinked nodes ends
+  pub linked : HaveEnds nodes ends
   pub rooted : IsRooted 0 nodes
   pub ranges : AreRanges (length held) nodes
   pub rise : (place : ℕ) (node : Node) → slice_get nodes place ≡ Some node → Rises held node.step

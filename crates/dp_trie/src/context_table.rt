@@ -17,7 +17,7 @@ use crate::link::link;
 use crate::node::{HeldEntry, Node};
 use crate::plain::{PlainName, find_plain, plain_names};
 use crate::ranked::{Ranked, hold_all, name_of, rank};
-use crate::walk::{Counted, Tree};
+use crate::walk::{Counted, PatternTree};
 use dp_lookup::{Dialplan, NoMemory};
 use dp_pattern::{Name, Parts};
 use std::alloc::Global;
@@ -159,7 +159,7 @@ impl ContextTable {
                         count: 0,
                     };
                 }
-                let tree = Tree {
+                let tree = PatternTree {
                     nodes: &self.nodes,
                     ends: &self.ends,
                     leaps: &self.leaps,

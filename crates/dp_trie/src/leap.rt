@@ -1,7 +1,7 @@
 //! Leaps over the roots of a tree: each passes many classes at once if none of them has the first digit.
 ghost use Rattle.std.specs.Prelude.{◌≡◌, ℕ, ◌≤◌, false, slice_get, Some, IfOk, IfSome};
 ghost use Rattle.dp_trie.specs.steps.Leaps.{IsOutside, IsLeap, AreLeaps, Leads};
-ghost use Rattle.dp_trie.specs.Tree.{AreLinked};
+ghost use Rattle.dp_trie.specs.Tree.{HaveEnds};
 
 use crate::node::{Node, Step};
 use dp_lookup::NoMemory;
@@ -44,7 +44,7 @@ fn root_class(nodes: &[Node], place: usize) -> Option<&Class>
 
 /// The leap from a place, over the classes there.
 fn leap_from(nodes: &[Node], ends: &[usize], from: usize) -> Leap
-    requires { AreLinked nodes.now ends.now }
+    requires { HaveEnds nodes.now ends.now }
     ensures from { result.from ≡ from }
     ensures leap { IsLeap nodes.now ends.now result }
 {
@@ -64,7 +64,7 @@ fn leap_from(nodes: &[Node], ends: &[usize], from: usize) -> Leap
 
 /// The leaps over the roots of a tree, in the order of their places.
 pub(crate) fn leaps_of(alloc: Global, nodes: &[Node], ends: &[usize]) -> Result<Vec<Leap>, NoMemory>
-    requires { AreLinked nodes.now ends.now }
+    requires { HaveEnds nodes.now ends.now }
     ensures { IfOk result (λ leaps. AreLeaps nodes.now ends.now leaps.items) }
 {
     let mut leaps = Vec::new(alloc);

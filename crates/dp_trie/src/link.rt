@@ -1,6 +1,6 @@
 //! The ends of nodes: for each node of a tree the place after everything below it.
 ghost use Rattle.std.specs.Prelude.{◌≡◌, ◌+◌, ◌<◌, length, replicate, IfOk};
-ghost use Rattle.dp_trie.specs.Tree.{AreLinked, AreLinkedFrom, IsEndOf};
+ghost use Rattle.dp_trie.specs.Tree.{HaveEnds, AreLinkedFrom, IsEndOf};
 
 use crate::node::Node;
 use dp_lookup::NoMemory;
@@ -36,7 +36,7 @@ fn end_of(nodes: &[Node], ends: &[usize], place: usize) -> usize
 
 /// The ends of all nodes, from the last node to the first. Each is found by going from end to end over the nodes below it.
 pub(crate) fn link(alloc: Global, nodes: &[Node]) -> Result<Vec<usize>, NoMemory>
-    ensures { IfOk result (λ ends. AreLinked nodes.now ends.items) }
+    ensures { IfOk result (λ ends. HaveEnds nodes.now ends.items) }
 {
     let mut ends = zeros(alloc, nodes.len())?;
     let mut place = nodes.len();

@@ -111,14 +111,14 @@ fn visit_node(
 
 /// A tree of patterns: its nodes, the end of each, the leaps over its roots, and the entries of its leaves.
 #[derive(Clone, Copy)]
-pub(crate) struct Tree<'a> {
+pub(crate) struct PatternTree<'a> {
     pub(crate) nodes: &'a [Node],
     pub(crate) ends: &'a [usize],
     pub(crate) leaps: &'a [Leap],
     pub(crate) held: &'a [HeldEntry],
 }
 
-impl Tree<'_> {
+impl PatternTree<'_> {
     /// The first entry that the question asks for, in the order in which a walk meets them. A node that fails ends only the walk below it,
     /// and a leap passes many failing roots.
     pub(crate) fn find(&self, question: EntryQuestion, digits: &Digits<'_>) -> Counted

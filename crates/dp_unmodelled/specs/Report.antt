@@ -9,7 +9,7 @@ use Rattle.dp_plan.specs.declared.entry.Entry.{Entry}
 use Rattle.dp_app.specs.Rows.{has_row}
 use Rattle.dp_machine.specs.World.{opening_with}
 use Rattle.dp_table.specs.Standard.{standard_rows}
-use Rattle.dp_commands.specs.Run.{RunContents, contents_of}
+use Rattle.dp_commands.specs.Run.{RunContentsOf, contents_of}
 use Rattle.dp_commands.specs.Script.{turns_of}
 use Rattle.dp_commands.specs.Turns.{lines_of}
 use Rattle.dp_commands.specs.declared.fault.PbxFault.{PbxFault}
@@ -34,11 +34,11 @@ abbrev pub meets_nothing : Option (List ℕ) → PlanOf → Bool
 meets_nothing second_plan plan = is_none second_plan && not (plan_may_meet plan)
 
 -- the lines of the names that a run meets
-abbrev pub met_lines : RunContents → List ℕ
+abbrev pub met_lines : RunContentsOf → List ℕ
 met_lines contents = lines_of meeting_turn ([], opening_with modelled_functions contents.plan contents.queues) (turns_of contents.lines)
 
 -- the same, and none if the run meets nothing
-abbrev pub reported_lines : Option (List ℕ) → RunContents → List ℕ
+abbrev pub reported_lines : Option (List ℕ) → RunContentsOf → List ℕ
 reported_lines second_plan contents = if meets_nothing second_plan contents.plan then [] else met_lines contents
 
 -- the lines of a dialplan, its queues, an optional second dialplan and a script, or the first fault

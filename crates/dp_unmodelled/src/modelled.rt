@@ -6,7 +6,7 @@ use dp_conf::NoMemory;
 use dp_table::StandardApps;
 use dp_vars::{
     Counts, ExpressionReading, FoundValue, FunctionName, FunctionValue, Functions, Scope,
-    StandardFunctions, Target,
+    SetTarget, StandardFunctions,
 };
 use std::alloc::Global;
 
@@ -27,7 +27,7 @@ impl Functions for ModelledFunctions {
         let found = StandardFunctions::value(alloc, scope, name, argument)?;
         Ok(FunctionValue {
             value: found.value,
-            is_known: name.known().is_some(),
+            is_known: name.known_function().is_some(),
         })
     }
 
@@ -47,8 +47,8 @@ impl Functions for ModelledFunctions {
         Ok(ExpressionReading::Value)
     }
 
-    fn target(name: &[u8]) -> Target<'_> {
-        Target::Variable(name)
+    fn target(name: &[u8]) -> SetTarget<'_> {
+        SetTarget::Variable(name)
     }
 }
 
@@ -94,7 +94,7 @@ impl KnownTable for ModelledApps {
         true
     }
 
-    fn asked<B, C: Counts>(
+    fn unknown_need<B, C: Counts>(
         alloc: Global,
         _scope: &Scope<'_, B, C>,
         _name: &[u8],

@@ -104,11 +104,7 @@ pub struct RunReport {
 }
 
 /// The lines of a run whose texts have no fault, so that the error is only that memory ran out. A quiet run meets nothing, and has none.
-fn report_lines(
-    alloc: Global,
-    is_quiet: bool,
-    texts: RunTexts<'_>,
-) -> Result<Vec<u8>, NoMemory>
+fn report_lines(alloc: Global, is_quiet: bool, texts: RunTexts<'_>) -> Result<Vec<u8>, NoMemory>
     ensures { IfOk result (λ lines. Ok lines.items ≡ (if is_quiet then Ok [] else spec.unmodelled_in texts.entry)) }
 {
     if is_quiet {

@@ -4,7 +4,7 @@ use Rattle.std.specs.List.{position_or_len}
 use Rattle.std.specs.Cmp.Lexicographic.{pointwise}
 use Rattle.std.proofs.lemmas.Bool.Decides.{eqb_tells}
 use Rattle.std.proofs.lemmas.List.{length-append}
-use Rattle.dp_vars.specs.steps.Bindings.{Falls, with_binding, bound_below, rebound, unbound}
+use Rattle.dp_vars.specs.steps.Bindings.{Falls, with_binding, bound_below, with_innermost_value, without_binding_at}
 use Rattle.dp_vars.specs.steps.Tables.{AreHeld, Entries, IsAmong, IsBound, IsHeld, names_of, with_number, numbers_at, stack_at, stack_of, unbound_at, with_stack}
 use Rattle.dp_vars.specs.declared.frame.HeldFrame.{HeldFrame}
 use Rattle.dp_vars.specs.declared.binding_stack.Binding.{Binding}
@@ -46,7 +46,7 @@ eqb_step m n = by (eqb_tells m n)
     by (inr p) = p.0 ∙ sym (other (suc m) (suc n) (λ same. p.1 (omega arith)))
 
 -- removing a binding at a number
-pub stack_at-unbound_at : (d : ℕ) (es : Entries) (j i : ℕ) → stack_at (unbound_at d es j) i ≡ cond (eqb j i) (unbound d (stack_at es i)) (stack_at es i)
+pub stack_at-unbound_at : (d : ℕ) (es : Entries) (j i : ℕ) → stack_at (unbound_at d es j) i ≡ cond (eqb j i) (without_binding_at d (stack_at es i)) (stack_at es i)
 stack_at-unbound_at d [] j i = by (eqb j i)
   where
     by : (b : Bool) → ◌≡◌ {A = List Binding} [] (cond b [] [])
@@ -54,10 +54,10 @@ stack_at-unbound_at d [] j i = by (eqb j i)
     by false = refl
 stack_at-unbound_at d (e ∷ es) zero zero = refl
 stack_at-unbound_at d (e ∷ es) zero (suc i) =
-    ap (λ b. cond b (unbound d (stack_at es i)) (stack_at es i)) (sym (other 0 (suc i) (λ same. omega arith)))
-stack_at-unbound_at d (e ∷ es) (suc j) zero = ap (λ b. cond b (unbound d e.1) e.1) (sym (other (suc j) 0 (λ same. omega arith)))
+    ap (λ b. cond b (without_binding_at d (stack_at es i)) (stack_at es i)) (sym (other 0 (suc i) (λ same. omega arith)))
+stack_at-unbound_at d (e ∷ es) (suc j) zero = ap (λ b. cond b (without_binding_at d e.1) e.1) (sym (other (suc j) 0 (λ same. omega arith)))
 stack_at-unbound_at d (e ∷ es) (suc j) (suc i) =
-    stack_at-unbound_at d es j i ∙ ap (λ b. cond b (unbound d (stack_at es i)) (stack_at es i)) (eqb_step j i)
+    stack_at-unbound_at d es j i ∙ ap (λ b. cond b (without_binding_at d (stack_at es i)) (stack_at es i)) (eqb_step j i)
 
 -- removing the bindings at all numbers that have one at the depth
 pub falls_all : (d i : ℕ) (ns : List ℕ) (es : Entries) → Falls (suc d) (stack_at es i) → IsAmong i ns ⊎ Falls d (stack_at es i)
@@ -69,11 +69,11 @@ falls_all d i (n ∷ ns) es falls met =
     (subst (Falls (suc d)) (sym (stack_at-unbound_at d es n i)) (stays (eqb n i)))
     (still (eqb_tells n i) met)
   where
-    stays : (b : Bool) → Falls (suc d) (cond b (unbound d (stack_at es i)) (stack_at es i))
-    stays true = falls_under d (suc d) (unbound d (stack_at es i)) (omega arith) (falls-unbound d (stack_at es i) falls)
+    stays : (b : Bool) → Falls (suc d) (cond b (without_binding_at d (stack_at es i)) (stack_at es i))
+    stays true = falls_under d (suc d) (without_binding_at d (stack_at es i)) (omega arith) (falls-unbound d (stack_at es i) falls)
     stays false = falls
 
-    done : (b : Bool) → b ≡ true ⊎ Falls d (stack_at es i) → Falls d (cond b (unbound d (stack_at es i)) (stack_at es i))
+    done : (b : Bool) → b ≡ true ⊎ Falls d (stack_at es i) → Falls d (cond b (without_binding_at d (stack_at es i)) (stack_at es i))
     done true is = falls-unbound d (stack_at es i) falls
     done false (inl is) = (cc)
     done false (inr is) = is
@@ -101,7 +101,7 @@ module _ {B : Type 0} where
       one (suc place) below h = known place below h
 
   module _ (hs : List (HeldFrame B)) (i : ℕ) where
-    pub held-unbound : (d : ℕ) (bs : List Binding) → AreHeld hs i bs → AreHeld hs i (unbound d bs)
+    pub held-unbound : (d : ℕ) (bs : List Binding) → AreHeld hs i bs → AreHeld hs i (without_binding_at d bs)
     held-unbound d [] held = tt
     held-unbound d (b ∷ bs) held = by (eqb b.depth d)
       where
@@ -112,7 +112,7 @@ module _ {B : Type 0} where
     pub held-with_binding : (d : ℕ) (value : List ℕ) (bs : List Binding) → IsHeld hs i d → AreHeld hs i bs → AreHeld hs i (with_binding d value bs)
     held-with_binding d value bs known held = (known, held-unbound d bs held)
 
-    pub held-rebound : (value : List ℕ) (bs : List Binding) → AreHeld hs i bs → AreHeld hs i (rebound value bs)
+    pub held-rebound : (value : List ℕ) (bs : List Binding) → AreHeld hs i bs → AreHeld hs i (with_innermost_value value bs)
     held-rebound value [] held = (tt, tt)
     held-rebound value (b ∷ bs) held = (held.0, held-unbound b.depth (b ∷ bs) held)
 
@@ -120,7 +120,7 @@ module _ {B : Type 0} where
     held-bound_below d value [] held = (tt, tt)
     held-bound_below d value (b ∷ bs) held = by (eqb b.depth d)
       where
-        by : (c : Bool) → AreHeld hs i (cond c (b ∷ rebound value bs) (rebound value (b ∷ bs)))
+        by : (c : Bool) → AreHeld hs i (cond c (b ∷ with_innermost_value value bs) (with_innermost_value value (b ∷ bs)))
         by true = (held.0, held-rebound value bs held.1)
         by false = held-rebound value (b ∷ bs) held
 
@@ -211,7 +211,7 @@ module _ {B : Type 0} where
   held-unbound_all hs i d (n ∷ ns) es held = held-unbound_all hs i d ns (unbound_at d es n)
       (subst (AreHeld hs i) (sym (stack_at-unbound_at d es n i)) (by (eqb n i)))
     where
-      by : (b : Bool) → AreHeld hs i (cond b (unbound d (stack_at es i)) (stack_at es i))
+      by : (b : Bool) → AreHeld hs i (cond b (without_binding_at d (stack_at es i)) (stack_at es i))
       by true = held-unbound hs i d (stack_at es i) held
       by false = held
 

@@ -15,7 +15,7 @@ use Rattle.dp_conf.specs.declared.groups.GroupKind.TheVariants.{Braces, Brackets
 use Rattle.dp_expr.specs.Expression.{expression_value}
 use Rattle.dp_vars.specs.Unknown.{earlier, unknown_body, unknown_expression, unknown_group}
 use Rattle.dp_vars.specs.Values.{group_value_with, body_by_with, expansion_of_with, expansion_with, value_read}
-use Rattle.dp_vars.specs.Expanding.{Written, with_value, after_group, after}
+use Rattle.dp_vars.specs.Expanding.{WrittenSoFar, with_value, after_group, after}
 use Rattle.dp_vars.specs.steps.Expanding.{kinds_of, StandIn, AreWritten}
 use Rattle.dp_vars.specs.steps.Told.{body_name, knows_body}
 use Rattle.dp_vars.specs.declared.expanding.WaitingOpening.{WaitingOpening}
@@ -113,7 +113,7 @@ module _ (functions : FunctionTable) (sight : Sight) where
   come-end (w ∷ waiting) bytes unknown beyond = ap (λ bs. come waiting (with_value functions sight w bs) (beyond (kinds_of waiting) 0)) (sym (append-nil bytes))
 
   -- a mark does not change the expansion of the whole
-  pub come-mark : (m : Mark) (written : Written) (beyond : List GroupKind → ℕ → Levels)
+  pub come-mark : (m : Mark) (written : WrittenSoFar) (beyond : List GroupKind → ℕ → Levels)
       → come (after functions sight m written).waiting (after functions sight m written).bytes (beyond (kinds_of (after functions sight m written).waiting) 0)
       ≡ come written.waiting written.bytes (with_mark m beyond 0 (kinds_of written.waiting))
   come-mark End written beyond = come-end written.waiting written.bytes written.unknown beyond
@@ -130,7 +130,7 @@ module _ (functions : FunctionTable) (sight : Sight) where
   come-text text = ap (come [] []) (levels-last text)
 
   -- the waiting openings are within what is written
-  pub AreWritten-after : (m : Mark) (written : Written) → AreWritten written → AreWritten (after functions sight m written)
+  pub AreWritten-after : (m : Mark) (written : WrittenSoFar) → AreWritten written → AreWritten (after functions sight m written)
   AreWritten-after End written stand = by written.waiting stand
     where
       by : (ws : List WaitingOpening) → StandIn ws (length written.bytes) → AreWritten (after_group functions sight ws written.bytes written.unknown)

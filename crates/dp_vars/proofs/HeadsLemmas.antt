@@ -16,7 +16,7 @@ use Rattle.dp_vars.specs.Functions.{FunctionTable}
 use Rattle.dp_vars.specs.Sights.{Sight}
 use Rattle.dp_vars.specs.Spans.{text_at}
 use Rattle.dp_vars.specs.steps.Spans.{front_of, after_of}
-use Rattle.dp_vars.specs.Expanding.{Written}
+use Rattle.dp_vars.specs.Expanding.{WrittenSoFar}
 use Rattle.dp_vars.specs.Pieces.{with_cut, with_found, with_head}
 use Rattle.dp_vars.specs.steps.Pieces.{with_group}
 use Rattle.dp_vars.specs.Unknown.{unknown_body, unknown_calls, unknown_group, unknown_head}
@@ -212,7 +212,7 @@ module _ (functions : FunctionTable) (sight : Sight) (text : List ℕ) where
       ∙ ap (body_by_with functions sight (text_at text place)) (sym cut_is)
 
   -- the same with the names and calls that are not known
-  pub full-found : (place : Span) (head : Head) (written : Written) → cut_outside 58 (text_at text place) ≡ None
+  pub full-found : (place : Span) (head : Head) (written : WrittenSoFar) → cut_outside 58 (text_at text place) ≡ None
       → ((f : FunctionTable) (s : Sight) → head_seen f s text head ≡ head_value_with f s (text_at text place))
       → with_head functions sight text written head ≡ with_group functions sight Braces written (text_at text place)
   unfolding unknown_group
@@ -221,7 +221,7 @@ module _ (functions : FunctionTable) (sight : Sight) (text : List ℕ) where
       let call = is (unknown_calls functions sight) sight ∙ ap (unknown_body functions sight (text_at text place)) (sym none) in
       λ i. with_found written (value i) (call i)
 
-  pub part-found : (place : Span) (head tail : List ℕ) (cut : CutPart) (written : Written) → cut_outside 58 (text_at text place) ≡ Some (head, tail)
+  pub part-found : (place : Span) (head tail : List ℕ) (cut : CutPart) (written : WrittenSoFar) → cut_outside 58 (text_at text place) ≡ Some (head, tail)
       → ((f : FunctionTable) (s : Sight) → head_seen f s text cut.head ≡ head_value_with f s (text_at text (front_of place (length head))))
       → cut.tail ≡ after_of place (length (text_at text place) - length tail)
       → cut.asked ≡ asked_at_most (asked_of (Some tail))

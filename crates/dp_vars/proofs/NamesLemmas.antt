@@ -5,7 +5,7 @@ use Rattle.std.specs.Option.{option_map}
 use Rattle.std.specs.Cmp.Lexicographic.{nat_list_eq_equiv, pointwise}
 use Rattle.std.proofs.lemmas.Bool.Decides.{nat_tests}
 use Rattle.std.proofs.lemmas.Map.Keys.{IsDistinct-cons, IsDistinct-head, IsDistinct-push, IsDistinct-tail}
-use Rattle.dp_vars.proofs.VariablesLemmas.{apart, swapped}
+use Rattle.dp_vars.proofs.VariablesLemmas.{apart, conds_swap}
 use Rattle.dp_vars.specs.Stores.{slot}
 
 some_by : (b : Bool) (m i : ℕ) → cond b (Some m) None ≡ Some i → (b ≡ true) × (m ≡ i)
@@ -105,7 +105,7 @@ slot-push (n ∷ names) name q is =
     slot-cons n (names ++ name ∷ []) q
     ∙ ap (λ o. cond (pointwise nat_eq q n) (Some 0) (option_map (λ m. suc m) o)) (slot-push names name q new.1)
     ∙ ap (cond (pointwise nat_eq q n) (Some 0)) (mapped (pointwise nat_eq q name) (length names) (slot names q))
-    ∙ swapped (pointwise nat_eq q name) (pointwise nat_eq q n) (Some (suc (length names))) (Some 0)
+    ∙ conds_swap (pointwise nat_eq q name) (pointwise nat_eq q n) (Some (suc (length names))) (Some 0)
     (option_map (λ m. suc m) (slot names q)) (apart q name n new.0)
     ∙ ap (cond (pointwise nat_eq q name) (Some (suc (length names)))) (sym (slot-cons n names q))
   where

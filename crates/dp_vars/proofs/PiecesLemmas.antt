@@ -8,7 +8,7 @@ use Rattle.dp_conf.specs.declared.groups.Mark.{Mark}
 use Rattle.dp_conf.specs.declared.groups.Mark.TheVariants.{End, Opening, Byte}
 use Rattle.dp_conf.specs.Groups.{opener, closer, text_of_reading, Over}
 use Rattle.dp_conf.specs.GroupsRead.{Levels, Last, Within, with_byte, with_opening, with_mark, levels, outer_of, reading_of}
-use Rattle.dp_vars.specs.Expanding.{Written, after_group, after}
+use Rattle.dp_vars.specs.Expanding.{WrittenSoFar, after_group, after}
 use Rattle.dp_vars.specs.steps.Expanding.{kinds_of, AreWritten}
 use Rattle.dp_vars.specs.Heads.{head_seen, part_seen}
 use Rattle.dp_vars.specs.Pieces.{Come, with_bytes, past, blank, past_all}
@@ -90,13 +90,13 @@ text_at-at text place = let none : place - place ≡ 0 = omega arith in ap (λ n
 
 -- ---- what is written after a mark
 
-with_none : (written : Written) (bytes : List ℕ) → bytes ≡ [] → with_bytes written bytes ≡ written
+with_none : (written : WrittenSoFar) (bytes : List ℕ) → bytes ≡ [] → with_bytes written bytes ≡ written
 with_none written bytes is = ap (with_bytes written) is ∙ ap (λ bs. record written { bytes = bs }) (append-nil written.bytes)
 
 text_at-none : (text : List ℕ) (run : Span) → run.to ≤ run.from → text_at text run ≡ []
 text_at-none text run none = let size : run.to - run.from ≡ 0 = omega arith in ap (λ n. take n (drop run.from text)) size
 
-AreWritten-more : (written : Written) (bytes : List ℕ) → AreWritten written → AreWritten (with_bytes written bytes)
+AreWritten-more : (written : WrittenSoFar) (bytes : List ℕ) → AreWritten written → AreWritten (with_bytes written bytes)
 AreWritten-more written bytes stand =
     StandIn-more written.waiting (length written.bytes) (length (written.bytes ++ bytes)) (omega (arith, length-append written.bytes bytes)) stand
 
@@ -111,7 +111,7 @@ module _ (functions : FunctionTable) (sight : Sight) (text : List ℕ) where
       by false is = sym (with_none (past_last functions sight text pieces) (text_at text run) (text_at-none text run (ltb-false run.from run.to is)))
 
   -- after a group that contains no group, which replaces its opening
-  past-leaf : (run : Span) (place : ℕ) (kind : GroupKind) (written : Written)
+  past-leaf : (run : Span) (place : ℕ) (kind : GroupKind) (written : WrittenSoFar)
       → with_bytes (with_group functions sight kind written (text_at text run)) (text_at text (span_at place))
       ≡ after functions sight End (with_bytes (after functions sight (Opening kind) written) (text_at text run))
   past-leaf run place kind written =
@@ -123,7 +123,7 @@ module _ (functions : FunctionTable) (sight : Sight) (text : List ℕ) where
       })
 
   -- pieces with the last one first are the same pieces
-  onto : Written → List TextPiece → Written
+  onto : WrittenSoFar → List TextPiece → WrittenSoFar
   onto written [] = written
   onto written (piece ∷ pieces) = past functions sight text (onto written pieces) piece
 
@@ -132,12 +132,12 @@ module _ (functions : FunctionTable) (sight : Sight) (text : List ℕ) where
   onto-blank [] = refl
   onto-blank (piece ∷ pieces) = ap (λ w. past functions sight text w piece) (onto-blank pieces)
 
-  onto-append : (written : Written) (xs ys : List TextPiece) → onto written (xs ++ ys) ≡ onto (onto written ys) xs
+  onto-append : (written : WrittenSoFar) (xs ys : List TextPiece) → onto written (xs ++ ys) ≡ onto (onto written ys) xs
   unfolding onto
   onto-append written [] ys = refl
   onto-append written (x ∷ xs) ys = ap (λ w. past functions sight text w x) (onto-append written xs ys)
 
-  onto-reverse : (written : Written) (pieces : List TextPiece) → onto written (reverse pieces) ≡ fold (past functions sight text) written pieces
+  onto-reverse : (written : WrittenSoFar) (pieces : List TextPiece) → onto written (reverse pieces) ≡ fold (past functions sight text) written pieces
   unfolding onto
   onto-reverse written [] = refl
   onto-reverse written (piece ∷ pieces) =
@@ -147,7 +147,7 @@ module _ (functions : FunctionTable) (sight : Sight) (text : List ℕ) where
   past-reverse pieces = onto-blank (reverse pieces) ∙ onto-reverse blank pieces
 
   -- the waiting openings are within what is written
-  pub AreWritten-past : (piece : TextPiece) (written : Written) → AreWritten written → AreWritten (past functions sight text written piece)
+  pub AreWritten-past : (piece : TextPiece) (written : WrittenSoFar) → AreWritten written → AreWritten (past functions sight text written piece)
   AreWritten-past (Run span) written stand = AreWritten-more written (text_at text span) stand
   AreWritten-past (Name name) written stand = AreWritten-more written (head_seen functions sight text (heads.Name name)) stand
   AreWritten-past (Call function argument) written stand = AreWritten-more written (head_seen functions sight text (heads.Call function argument)) stand
@@ -160,14 +160,14 @@ module _ (functions : FunctionTable) (sight : Sight) (text : List ℕ) where
   AreWritten-past Ends written stand = AreWritten-after functions sight End written stand
 
   -- the waiting openings are within what is written, and the remaining pieces give the whole
-  pub record IsWriting (written : Written) (left whole : List TextPiece) : Type 0 where
+  pub record IsWriting (written : WrittenSoFar) (left whole : List TextPiece) : Type 0 where
     pub stands : AreWritten written
     pub comes : fold (past functions sight text) written left ≡ past_all functions sight text whole
 
   pub writing-first : (whole : List TextPiece) → IsWriting blank whole whole
   writing-first whole = record { stands = tt; comes = refl }
 
-  pub writing-next : (written new : Written) (piece : TextPiece) (left beyond whole : List TextPiece) → left ≡ piece ∷ beyond → new ≡ past functions sight text written piece
+  pub writing-next : (written new : WrittenSoFar) (piece : TextPiece) (left beyond whole : List TextPiece) → left ≡ piece ∷ beyond → new ≡ past functions sight text written piece
       → IsWriting written left whole → IsWriting new beyond whole
   writing-next written new piece left beyond whole left_is new_is writing = record {
     stands = subst AreWritten (sym new_is) (AreWritten-past piece written writing.stands);
@@ -276,7 +276,7 @@ stands-mark (Opening kind) kinds text rest beyond run place ordered is_rest is p
 stands-mark (Byte byte) kinds text rest beyond run place ordered is_rest is place_is =
     ap (λ p. text_at text (record { from = run.from; to = p })) place_is ∙ text_at-next text run byte beyond ordered (is_rest ∙ is)
 
-kinds_of-after : (functions : FunctionTable) (sight : Sight) (m : Mark) (written : Written) → kinds_of (after functions sight m written).waiting ≡ waiting_after m (kinds_of written.waiting)
+kinds_of-after : (functions : FunctionTable) (sight : Sight) (m : Mark) (written : WrittenSoFar) → kinds_of (after functions sight m written).waiting ≡ waiting_after m (kinds_of written.waiting)
 kinds_of-after functions sight (Opening kind) written = refl
 kinds_of-after functions sight (Byte byte) written = refl
 kinds_of-after functions sight End written = by written.waiting

@@ -5,7 +5,7 @@ use Rattle.std.proofs.Math.Seq.{take-append_seam}
 use Rattle.std.specs.Cmp.Lexicographic.{pointwise}
 use Rattle.std.specs.Result.{OnErr, OnOk}
 use Rattle.std.specs.FinMap.{empty}
-use Rattle.dp_vars.specs.Stores.{Frame, StoreOf, changed_at, set_local, with_frame, with_local, with_local_name, with_name, with_names, without_frame}
+use Rattle.dp_vars.specs.Stores.{StoreFrame, StoreOf, changed_at, set_local, with_frame, with_local, with_local_name, with_name, with_names, without_frame}
 use Rattle.dp_vars.specs.Variables.{map_of, map_with}
 use Rattle.dp_vars.specs.declared.local.Local.{Local}
 use Rattle.dp_vars.proofs.SettingLemmas.{length-push, take-push}
@@ -35,7 +35,7 @@ take-with_names vs ns = by (with_names-front vs ns)
     by (rest, is) = ap (take (length ns)) is ∙ take-append_seam ns rest
 
 module _ {B : Type 0} where
-  changed_last : (change : Frame B → Frame B) (fs : List (Frame B)) (f : Frame B) → changed_at change (length fs) (fs ++ f ∷ []) ≡ fs ++ change f ∷ []
+  changed_last : (change : StoreFrame B → StoreFrame B) (fs : List (StoreFrame B)) (f : StoreFrame B) → changed_at change (length fs) (fs ++ f ∷ []) ≡ fs ++ change f ∷ []
   changed_last change [] f = refl
   changed_last change (g ∷ fs) f = ap (λ more. g ∷ more) (changed_last change fs f)
 
@@ -51,7 +51,7 @@ module _ {B : Type 0} where
     names = (named store.frames (with_names store.names vs) ∙ sym (fold-append (λ known local. with_name known local.name) store.names vs (v ∷ []))) i;
   }
     where
-      named : (fs : List (Frame B)) (names : List (List ℕ)) → with_local_name (fs ++ record { back = back; locals = map_of vs } ∷ []) names v.name ≡ with_name names v.name
+      named : (fs : List (StoreFrame B)) (names : List (List ℕ)) → with_local_name (fs ++ record { back = back; locals = map_of vs } ∷ []) names v.name ≡ with_name names v.name
       named [] names = refl
       named (f ∷ fs) names = refl
 
@@ -66,7 +66,7 @@ module _ {B : Type 0} where
   unfolding set_local
   length-set_local store name value = by (length store.frames - 1) store.frames
     where
-      by : (place : ℕ) (fs : List (Frame B)) → length (changed_at (with_local name value) place fs) ≡ length fs
+      by : (place : ℕ) (fs : List (StoreFrame B)) → length (changed_at (with_local name value) place fs) ≡ length fs
       by place [] = refl
       by zero (f ∷ fs) = refl
       by (suc place) (f ∷ fs) = ap suc (by place fs)

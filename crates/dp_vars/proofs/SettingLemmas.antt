@@ -7,7 +7,7 @@ use Rattle.std.specs.FinMap.{empty, get-empty}
 use Rattle.std.specs.Ordering.{nat_cmp}
 use Rattle.std.specs.Cmp.Lexicographic.{slice_cmp}
 use Rattle.std.proofs.lemmas.List.{length-append}
-use Rattle.dp_vars.specs.steps.Bindings.{Falls, with_binding, bound_below, depth_of, find, rebound, unbound}
+use Rattle.dp_vars.specs.steps.Bindings.{Falls, with_binding, bound_below, depth_of, find, with_innermost_value, without_binding_at}
 use Rattle.dp_vars.specs.Stores.{innermost, popped_setting, set, set_local, with_frame, without_frame}
 use Rattle.dp_vars.specs.steps.Tables.{Entries, IsBound, IsHeld, frames_from, map_at, names_of, with_number, put_value, stack_of, store_of, unbound_at, with_stack}
 use Rattle.dp_vars.specs.declared.frame.HeldFrame.{HeldFrame}
@@ -18,14 +18,14 @@ use Rattle.dp_vars.proofs.TablesLemmas.{get-map_at, map_at-with_stack, names-wit
 
 module _ {B : Type 0} (es : Entries) (hs : List (HeldFrame B)) (name value : List ℕ) (is : IsBound es hs) where
   -- the value of the innermost binding is changed
-  pub set_view : store_of (with_stack es name (rebound value (stack_of es name))) hs ≡ set (store_of es hs) name value
-  set_view = set-is es (with_stack es name (rebound value (stack_of es name))) hs name value (stack_of es name) (falls_of es hs name is) (λ e below. refl)
-      (map_at-with_stack es name (rebound value (stack_of es name)) (depth_of (stack_of es name)) (Some value)
+  pub set_view : store_of (with_stack es name (with_innermost_value value (stack_of es name))) hs ≡ set (store_of es hs) name value
+  set_view = set-is es (with_stack es name (with_innermost_value value (stack_of es name))) hs name value (stack_of es name) (falls_of es hs name is) (λ e below. refl)
+      (map_at-with_stack es name (with_innermost_value value (stack_of es name)) (depth_of (stack_of es name)) (Some value)
       (λ e. find-with_binding (depth_of (stack_of es name)) e value (stack_of es name)))
-      (names-with_stack es name (rebound value (stack_of es name)))
+      (names-with_stack es name (with_innermost_value value (stack_of es name)))
 
-  pub set_bound : IsBound (with_stack es name (rebound value (stack_of es name))) hs
-  set_bound = with_stack-with_binding es hs name (rebound value (stack_of es name)) is
+  pub set_bound : IsBound (with_stack es name (with_innermost_value value (stack_of es name))) hs
+  set_bound = with_stack-with_binding es hs name (with_innermost_value value (stack_of es name)) is
       (falls-rebound (suc (length hs)) value (stack_of es name) (omega arith) (falls_of es hs name is))
       (held-rebound hs (position_or_len (pointwise nat_eq name) (names_of es)) value (stack_of es name) (held_of es hs name is))
 
@@ -130,10 +130,10 @@ module _ {B : Type 0} where
   below_view es outer h name value is =
       front (with_stack es name (bound_below (suc (length outer)) value (stack_of es name)))
       ∙ set-is es (with_stack es name (bound_below (suc (length outer)) value (stack_of es name))) outer name value
-      (unbound (suc (length outer)) (stack_of es name))
+      (without_binding_at (suc (length outer)) (stack_of es name))
       (falls-unbound (suc (length outer)) (stack_of es name) falls)
       (λ e below. find-unbound (suc (length outer)) e (stack_of es name) (λ same. omega arith))
-      (map_at-with_stack es name (bound_below (suc (length outer)) value (stack_of es name)) (depth_of (unbound (suc (length outer)) (stack_of es name))) (Some value)
+      (map_at-with_stack es name (bound_below (suc (length outer)) value (stack_of es name)) (depth_of (without_binding_at (suc (length outer)) (stack_of es name))) (Some value)
       (λ e. find-bound_below (suc (suc (length outer))) (suc (length outer)) e value (stack_of es name) falls (omega arith)))
       (names-with_stack es name (bound_below (suc (length outer)) value (stack_of es name)))
       ∙ ap (λ store. set store name value) (sym (front es))

@@ -5,7 +5,7 @@ use Rattle.std.proofs.lemmas.List.{map-append, reverse-append}
 use Rattle.std.specs.Option.{option_map, option_or}
 use Rattle.std.specs.FinMap.{get, insert}
 use Rattle.dp_vars.specs.steps.Bindings.{Falls, depth_of, find, innermost_value, is_at}
-use Rattle.dp_vars.specs.Stores.{Frame, all_locals, changed_at, holder, local_in, set, set_in, set_local, value_in, with_local, with_local_name, with_name}
+use Rattle.dp_vars.specs.Stores.{StoreFrame, all_locals, changed_at, holder, local_in, set, set_in, set_local, value_in, with_local, with_local_name, with_name}
 use Rattle.dp_vars.specs.steps.Tables.{Entries, frames_from, local_at, map_at, names_of, with_number, stack_of, store_of}
 use Rattle.dp_vars.specs.Variables.{Named, first_value}
 use Rattle.dp_vars.specs.declared.frame.HeldFrame.{HeldFrame}
@@ -83,9 +83,9 @@ module _ {B : Type 0} where
       ap (λ fs. record { back = h.back; locals = map_at d es } ∷ fs) (frames-append (suc d) es hs gs ∙ ap (λ e. frames_from (suc d) es hs ++ frames_from e es gs) (omega arith))
 
   -- the locals of one more frame
-  all_locals-cons : (frame : Frame B) (frames : List (Frame B)) → all_locals (frame ∷ frames) ≡ all_locals frames ++ frame.locals ∷ []
+  all_locals-cons : (frame : StoreFrame B) (frames : List (StoreFrame B)) → all_locals (frame ∷ frames) ≡ all_locals frames ++ frame.locals ∷ []
   all_locals-cons frame frames =
-      ap (map (λ (f : Frame B). f.locals)) (reverse-append (frame ∷ []) frames) ∙ map-append (λ (f : Frame B). f.locals) (reverse frames) (frame ∷ [])
+      ap (map (λ (f : StoreFrame B). f.locals)) (reverse-append (frame ∷ []) frames) ∙ map-append (λ (f : StoreFrame B). f.locals) (reverse frames) (frame ∷ [])
 
   module _ (es : Entries) (name : List ℕ) (bs : List Binding) where
     -- no frame further in than the bindings has the name

@@ -10,8 +10,8 @@ use Rattle.std.specs.Map.{lookup, remove_entry}
 use Rattle.std.specs.Option.{option_map}
 use Rattle.std.proofs.lemmas.List.{length-append, map-append}
 use Rattle.std.proofs.Math.Seq.{take-append_seam}
-use Rattle.dp_vars.proofs.VariablesLemmas.{apart, has_bytes, lookup-inserted, lookup-removed, shadowed, swapped}
-use Rattle.dp_vars.specs.steps.Bindings.{find, unbound}
+use Rattle.dp_vars.proofs.VariablesLemmas.{apart, has_bytes, lookup-inserted, lookup-removed, cond_shadows, conds_swap}
+use Rattle.dp_vars.specs.steps.Bindings.{find, without_binding_at}
 use Rattle.dp_vars.specs.Stores.{slot, with_name}
 use Rattle.dp_vars.specs.steps.Tables.{AreNumbered, Entries, map_at, names_of, put_value, stack_of, unbound_at, with_stack}
 use Rattle.dp_vars.specs.Variables.{Named, by_bytes, in_order}
@@ -53,11 +53,11 @@ stack_of-with_stack q (e ∷ es) name bs = by (pointwise nat_eq name e.0) refl (
         ≡ cond (pointwise nat_eq q name) bs (cond (pointwise nat_eq q e.0) e.1 (stack_of es q))
     by true same rest =
         ap (λ n. cond (pointwise nat_eq q n) bs (stack_of es q)) (sym ((bytes_decides name e.0).0 same))
-        ∙ shadowed (pointwise nat_eq q name) bs e.1 (stack_of es q)
+        ∙ cond_shadows (pointwise nat_eq q name) bs e.1 (stack_of es q)
         ∙ ap (λ n. cond (pointwise nat_eq q name) bs (cond (pointwise nat_eq q n) e.1 (stack_of es q))) ((bytes_decides name e.0).0 same)
     by false other rest =
         ap (cond (pointwise nat_eq q e.0) e.1) rest
-        ∙ swapped (pointwise nat_eq q name) (pointwise nat_eq q e.0) bs e.1 (stack_of es q) (apart q name e.0 other)
+        ∙ conds_swap (pointwise nat_eq q name) (pointwise nat_eq q e.0) bs e.1 (stack_of es q) (apart q name e.0 other)
 
 -- a new name is added at the end
 pub names-with_stack : (entries : Entries) (name : List ℕ) (bs : List Binding) → names_of (with_stack entries name bs) ≡ with_name (names_of entries) name
@@ -128,9 +128,9 @@ at_number name P here further (x ∷ es) number is =
     by false (Some m) other number is rest = subst (P (x ∷ es)) (next m number is) (further x es m other (rest m refl))
 
 -- writing at the number of a name writes for the name
-pub written : (es : Entries) (name : List ℕ) (number : ℕ) (e : List ℕ × List Binding) (bs : List Binding)
+pub set_at_number : (es : Entries) (name : List ℕ) (number : ℕ) (e : List ℕ × List Binding) (bs : List Binding)
     → slot (names_of es) name ≡ Some number → e ≡ get_or es number e → set es number (e.0, bs) ≡ with_stack es name bs
-written es name number e bs is =
+set_at_number es name number e bs is =
     at_number name (λ es number. e ≡ get_or es number e → set es number (e.0, bs) ≡ with_stack es name bs)
     (λ x es tied at. ap (λ y. (y.0, bs) ∷ es) at ∙ ap (λ b. cond b ((x.0, bs) ∷ es) (x ∷ with_stack es name bs)) (sym tied))
     (λ x es number other rest at.
@@ -138,9 +138,9 @@ written es name number e bs is =
     es number is
 
 -- the entry at the number of a name is found for the name
-pub found : (es : Entries) (name : List ℕ) (number : ℕ) (e : List ℕ × List Binding) → slot (names_of es) name ≡ Some number
+pub entry_at_number : (es : Entries) (name : List ℕ) (number : ℕ) (e : List ℕ × List Binding) → slot (names_of es) name ≡ Some number
     → e ≡ get_or es number e → lookup (pointwise nat_eq name) es ≡ Some e.1
-found es name number e is =
+entry_at_number es name number e is =
     at_number name (λ es number. e ≡ get_or es number e → lookup (pointwise nat_eq name) es ≡ Some e.1)
     (λ x es tied at. ap (λ b. cond b (Some x.1) (lookup (pointwise nat_eq name) es)) tied ∙ ap (λ y. Some y.1) (sym at))
     (λ x es number other rest at. ap (λ b. cond b (Some x.1) (lookup (pointwise nat_eq name) es)) other ∙ rest at)
@@ -175,9 +175,9 @@ stack_of-lookup entries name o is = found_stack entries name ∙ ap (λ r. unwra
 
 -- removing a binding at a number
 unbound_at-set : (depth : ℕ) (es : Entries) (number : ℕ) (e : List ℕ × List Binding) → e ≡ get_or es number e
-    → set es number (e.0, unbound depth e.1) ≡ unbound_at depth es number
+    → set es number (e.0, without_binding_at depth e.1) ≡ unbound_at depth es number
 unbound_at-set depth [] number e at = refl
-unbound_at-set depth (x ∷ es) zero e at = ap (λ y. (y.0, unbound depth y.1) ∷ es) at
+unbound_at-set depth (x ∷ es) zero e at = ap (λ y. (y.0, without_binding_at depth y.1) ∷ es) at
 unbound_at-set depth (x ∷ es) (suc number) e at = ap (λ more. x ∷ more) (unbound_at-set depth es number e at)
 
 -- an entry at a number, as its name and its bindings
@@ -188,12 +188,12 @@ module _ (es : Entries) (number : ℕ) (x : List ℕ × List Binding) (own : Lis
 
   -- a look-up of its name finds these bindings
   pub found-at : (name : List ℕ) → slot (names_of es) name ≡ Some number → lookup (pointwise nat_eq name) es ≡ Some old
-  found-at name is = found es name number (own, old) is here
+  found-at name is = entry_at_number es name number (own, old) is here
 
   -- other bindings at the number are other bindings for its name
   pub written-at : (name : List ℕ) (bs : List Binding) → slot (names_of es) name ≡ Some number
       → set es number (own, bs) ≡ with_stack es name bs
-  written-at name bs is = written es name number (own, old) bs is here
+  written-at name bs is = set_at_number es name number (own, old) bs is here
 
   -- and the names have their numbers as before
   pub numbered-at : (numbers : List (List ℕ × ℕ)) (bs : List Binding) → AreNumbered numbers (names_of es)
@@ -212,7 +212,7 @@ module _ (es : Entries) (number : ℕ) (x : List ℕ × List Binding) (own : Lis
       ∙ ap (λ entries. with_stack entries name (change (stack_of entries name))) view
 
   -- removing a binding at the number
-  pub unbound-at : (seen : Entries) → es ≡ seen → (depth : ℕ) (bs : List Binding) → bs ≡ unbound depth old
+  pub unbound-at : (seen : Entries) → es ≡ seen → (depth : ℕ) (bs : List Binding) → bs ≡ without_binding_at depth old
       → set es number (own, bs) ≡ unbound_at depth seen number
   unbound-at seen view depth bs made =
       ap (λ bs. set es number (own, bs)) made ∙ unbound_at-set depth es number (own, old) here

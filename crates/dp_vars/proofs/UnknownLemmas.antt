@@ -13,7 +13,7 @@ use Rattle.dp_expr.specs.Expression.{expression_value}
 use Rattle.dp_vars.specs.Functions.{FunctionTable}
 use Rattle.dp_vars.specs.Sights.{Sight}
 use Rattle.dp_vars.specs.Values.{group_value_with, expansion_of_with, value_read}
-use Rattle.dp_vars.specs.Expanding.{Written, body_in, with_value, after_group, after}
+use Rattle.dp_vars.specs.Expanding.{WrittenSoFar, body_in, with_value, after_group, after}
 use Rattle.dp_vars.specs.Pieces.{with_expression, with_found}
 use Rattle.dp_vars.specs.Spans.{text_at}
 use Rattle.dp_vars.specs.Unknown.{earlier, unknown_expression, unknown_group, unknown_of}
@@ -43,7 +43,7 @@ earlier-kept [] new some = absurd (some refl)
 earlier-kept (byte ∷ old) new some = refl
 
 -- an expression whose value is known
-pub with_brackets : (functions : FunctionTable) (sight : Sight) (text : List ℕ) (written : Written) (known : KnownExpression) (place : Span)
+pub with_brackets : (functions : FunctionTable) (sight : Sight) (text : List ℕ) (written : WrittenSoFar) (known : KnownExpression) (place : Span)
     → known.body ≡ place → known.value.items ≡ expression_value (text_at text place)
     → with_expression functions text written known ≡ with_group functions sight Brackets written (text_at text place)
 unfolding group_value_with unknown_group
@@ -122,7 +122,7 @@ module _ (functions : FunctionTable) (sight : Sight) where
       (earlier (sym (earlier-none unknown) i) (unknown_group functions sight w.kind (body_in w (sym (append-nil bytes) i)))) (beyond (kinds_of waiting) 0)
 
   -- a mark does not change the result for the whole
-  pub first-mark : (m : Mark) (written : Written) (beyond : List GroupKind → ℕ → Levels)
+  pub first-mark : (m : Mark) (written : WrittenSoFar) (beyond : List GroupKind → ℕ → Levels)
       → first (after functions sight m written).waiting (after functions sight m written).bytes (after functions sight m written).unknown
       (beyond (kinds_of (after functions sight m written).waiting) 0)
       ≡ first written.waiting written.bytes written.unknown (with_mark m beyond 0 (kinds_of written.waiting))

@@ -9,14 +9,14 @@ use Rattle.std.proofs.lemmas.Map.Entries.{lookup-filter-keys}
 use Rattle.std.specs.Map.{lookup, remove_entry, set_value}
 use Rattle.dp_vars.specs.Variables.{by_bytes, in_order}
 
-pub shadowed : {A : Type 0} (b : Bool) (x y z : A) → cond b x z ≡ cond b x (cond b y z)
-shadowed true x y z = refl
-shadowed false x y z = refl
+pub cond_shadows : {A : Type 0} (b : Bool) (x y z : A) → cond b x z ≡ cond b x (cond b y z)
+cond_shadows true x y z = refl
+cond_shadows false x y z = refl
 
-pub swapped : {A : Type 0} (a b : Bool) (x y z : A) → (b ≡ true → a ≡ false) → cond b y (cond a x z) ≡ cond a x (cond b y z)
-swapped true true x y z apart = ap (λ c. cond c y x) (apart refl)
-swapped true false x y z apart = refl
-swapped false b x y z apart = refl
+pub conds_swap : {A : Type 0} (a b : Bool) (x y z : A) → (b ≡ true → a ≡ false) → cond b y (cond a x z) ≡ cond a x (cond b y z)
+conds_swap true true x y z apart = ap (λ c. cond c y x) (apart refl)
+conds_swap true false x y z apart = refl
+conds_swap false b x y z apart = refl
 
 -- two different texts are not both equal to a third
 pub apart : (q k e : List ℕ) → pointwise nat_eq k e ≡ false → pointwise nat_eq q e ≡ true → pointwise nat_eq q k ≡ false
@@ -68,11 +68,11 @@ module _ {K X : Type 0} (bytes : K → List ℕ) where
       by Equal is rest =
           let same = same_by (bytes k) (bytes e.0) (other_by (bytes k) (bytes e.0) Equal is) in
           ap (λ bs. cond (pointwise nat_eq q bs) (Some v) (at_name es q)) (sym same)
-          ∙ shadowed (pointwise nat_eq q (bytes k)) (Some v) (Some e.1) (at_name es q)
+          ∙ cond_shadows (pointwise nat_eq q (bytes k)) (Some v) (Some e.1) (at_name es q)
           ∙ ap (λ bs. cond (pointwise nat_eq q (bytes k)) (Some v) (cond (pointwise nat_eq q bs) (Some e.1) (at_name es q))) same
       by Greater is rest =
           ap (cond (pointwise nat_eq q (bytes e.0)) (Some e.1)) rest
-          ∙ swapped (pointwise nat_eq q (bytes k)) (pointwise nat_eq q (bytes e.0)) (Some v) (Some e.1) (at_name es q)
+          ∙ conds_swap (pointwise nat_eq q (bytes k)) (pointwise nat_eq q (bytes e.0)) (Some v) (Some e.1) (at_name es q)
           (apart q (bytes k) (bytes e.0) (other_by (bytes k) (bytes e.0) Greater is))
 
   -- an entry that is skipped is found as before
@@ -81,7 +81,7 @@ module _ {K X : Type 0} (bytes : K → List ℕ) where
       → at_name (e ∷ rest) q ≡ cond (pointwise nat_eq q name) o (at_name (e ∷ es) q)
   passed q name e es rest o other is =
       ap (cond (pointwise nat_eq q (bytes e.0)) (Some e.1)) is
-      ∙ swapped (pointwise nat_eq q name) (pointwise nat_eq q (bytes e.0)) o (Some e.1) (at_name es q) (apart q name (bytes e.0) other)
+      ∙ conds_swap (pointwise nat_eq q name) (pointwise nat_eq q (bytes e.0)) o (Some e.1) (at_name es q) (apart q name (bytes e.0) other)
 
   -- an existing key has the value that is written for it, and each other key its old value
   pub lookup-written : (q name : List ℕ) (entries : List (K × X)) (v : X) → IsSome (lookup (has_bytes bytes name) entries)
@@ -97,7 +97,7 @@ module _ {K X : Type 0} (bytes : K → List ℕ) where
           ≡ cond (pointwise nat_eq q name) (Some v) (at_name (e ∷ es) q)
       by true tied there rest =
           ap (λ bs. cond (pointwise nat_eq q bs) (Some v) (at_name es q)) (sym (same_by name (bytes e.0) tied))
-          ∙ shadowed (pointwise nat_eq q name) (Some v) (Some e.1) (at_name es q)
+          ∙ cond_shadows (pointwise nat_eq q name) (Some v) (Some e.1) (at_name es q)
           ∙ ap (λ bs. cond (pointwise nat_eq q name) (Some v) (cond (pointwise nat_eq q bs) (Some e.1) (at_name es q)))
           (same_by name (bytes e.0) tied)
       by false other there rest = passed q name e es (set_value (has_bytes bytes name) es v) (Some v) other (rest there)

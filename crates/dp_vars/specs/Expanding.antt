@@ -11,7 +11,7 @@ use Rattle.dp_vars.specs.declared.expanding.WaitingOpening.{WaitingOpening}
 
 -- what is written, the waiting openings, the innermost first, each with the place of its `$`, and the first name, call or expression so far
 -- that is not known
-pub record Written : Type 0 where
+pub record WrittenSoFar : Type 0 where
   pub bytes : List ℕ
   pub waiting : List WaitingOpening
   pub unknown : List ℕ
@@ -25,7 +25,7 @@ abbrev pub body_in : WaitingOpening → List ℕ → List ℕ
 body_in w bytes = drop (w.start + 2) bytes
 
 -- after the end of the innermost group
-abbrev pub after_group : FunctionTable → Sight → List WaitingOpening → List ℕ → List ℕ → Written
+abbrev pub after_group : FunctionTable → Sight → List WaitingOpening → List ℕ → List ℕ → WrittenSoFar
 after_group functions sight [] bytes unknown = record { bytes = bytes; waiting = []; unknown = unknown }
 after_group functions sight (w ∷ waiting) bytes unknown = record {
   bytes = with_value functions sight w bytes;
@@ -34,7 +34,7 @@ after_group functions sight (w ∷ waiting) bytes unknown = record {
 }
 
 -- after a mark
-abbrev pub after : FunctionTable → Sight → Mark → Written → Written
+abbrev pub after : FunctionTable → Sight → Mark → WrittenSoFar → WrittenSoFar
 after functions sight End written = after_group functions sight written.waiting written.bytes written.unknown
 after functions sight (Opening kind) written = record {
   bytes = written.bytes ++ 36 ∷ opener kind ∷ [];

@@ -2,8 +2,8 @@
 use Rattle.std.specs.Prelude.{ℕ, List, Bool}
 use Rattle.dp_expr.specs.declared.reading.ExpressionReading.{ExpressionReading}
 use Rattle.dp_vars.specs.Sights.{Sight}
-use Rattle.dp_vars.specs.declared.functions.Target.{Target}
-use Rattle.dp_vars.specs.declared.functions.Target.TheVariants as targets
+use Rattle.dp_vars.specs.declared.functions.SetTarget.{SetTarget}
+use Rattle.dp_vars.specs.declared.functions.SetTarget.TheVariants as targets
 
 -- the target of setting a name: a variable, a global or a local with a name, the number of the caller, or nothing
 pub data SettingTarget : Type 0 where
@@ -14,7 +14,7 @@ pub data SettingTarget : Type 0 where
   Nothing : SettingTarget
 
 -- the target, with its name as bytes
-abbrev pub target_seen : Target → SettingTarget
+abbrev pub target_seen : SetTarget → SettingTarget
 target_seen (targets.Variable name) = Variable name.now
 target_seen (targets.Global name) = Global name.now
 target_seen (targets.Local name) = Local name.now

@@ -7,14 +7,14 @@ use Rattle.dp_vars.specs.Variables.{Named, first_value, map_of}
 use Rattle.dp_vars.specs.declared.local.Local.{Local}
 
 -- the place to which a subroutine returns, and its locals
-pub record Frame (B : Type 0) : Type 0 where
+pub record StoreFrame (B : Type 0) : Type 0 where
   pub back : B
   pub locals : Named
 
 -- the variables of a channel, its frames, the innermost last, and the names that it was given, in the order of their numbers
 pub record StoreOf (B : Type 0) : Type 0 where
   pub variables : Named
-  pub frames : List (Frame B)
+  pub frames : List (StoreFrame B)
   pub names : List (List ℕ)
 
 -- the number of a name
@@ -36,7 +36,7 @@ module _ {B : Type 0} where
   nothing = record { variables = empty; frames = []; names = [] }
 
   -- the locals of the frames, from the innermost outwards
-  abbrev pub all_locals : List (Frame B) → List Named
+  abbrev pub all_locals : List (StoreFrame B) → List Named
   all_locals frames = map (λ frame. frame.locals) (reverse frames)
 
   -- the maps in which a name is looked up: those locals, and then the variables
@@ -48,7 +48,7 @@ module _ {B : Type 0} where
   value_in store name = first_value (searched_maps store) name
 
   -- the innermost frame
-  abbrev pub innermost : List (Frame B) → Option (Frame B)
+  abbrev pub innermost : List (StoreFrame B) → Option (StoreFrame B)
   innermost frames = slice_get frames (length frames - 1)
 
   -- the value of the innermost frame's own local
@@ -56,17 +56,17 @@ module _ {B : Type 0} where
   local_in store name = option_and_then (λ frame. get frame.locals name) (innermost store.frames)
 
   -- the frame with the local set
-  abbrev pub with_local : List ℕ → List ℕ → Frame B → Frame B
+  abbrev pub with_local : List ℕ → List ℕ → StoreFrame B → StoreFrame B
   with_local name value frame = record frame { locals = insert frame.locals name value }
 
   -- the frames with the one at a place changed
-  abbrev pub changed_at : (Frame B → Frame B) → ℕ → List (Frame B) → List (Frame B)
+  abbrev pub changed_at : (StoreFrame B → StoreFrame B) → ℕ → List (StoreFrame B) → List (StoreFrame B)
   changed_at change place [] = []
   changed_at change zero (frame ∷ frames) = change frame ∷ frames
   changed_at change (suc place) (frame ∷ frames) = frame ∷ changed_at change place frames
 
   -- the place of the innermost frame that has the name as a local
-  abbrev pub holder : List ℕ → List (Frame B) → Option ℕ
+  abbrev pub holder : List ℕ → List (StoreFrame B) → Option ℕ
   holder name [] = None
   holder name (frame ∷ frames) =
       option_or (option_map suc (holder name frames)) (if contains_key frame.locals name then Some 0 else None)
@@ -83,7 +83,7 @@ module _ {B : Type 0} where
   set store name value = set_in (holder name store.frames) store name value
 
   -- the frame without the local
-  abbrev pub without_local : List ℕ → Frame B → Frame B
+  abbrev pub without_local : List ℕ → StoreFrame B → StoreFrame B
   without_local name frame = record frame { locals = remove frame.locals name }
 
   -- the store in which a name no longer has a value, neither of the channel nor as a local of a frame; it keeps its number
@@ -94,7 +94,7 @@ module _ {B : Type 0} where
   }
 
   -- the names with that of a local, if there is a frame in which to set it
-  abbrev pub with_local_name : List (Frame B) → List (List ℕ) → List ℕ → List (List ℕ)
+  abbrev pub with_local_name : List (StoreFrame B) → List (List ℕ) → List ℕ → List (List ℕ)
   with_local_name [] names name = names
   with_local_name (frame ∷ frames) names name = with_name names name
 
@@ -117,6 +117,6 @@ module _ {B : Type 0} where
   without_frame store = record store { frames = take (length store.frames - 1) store.frames }
 
   -- the store without its innermost frame and then with a name set, and the place to which that frame returns; None without a frame
-  abbrev pub popped_setting : StoreOf B → List ℕ → List ℕ → Option (Frame B) → StoreOf B × Option B
+  abbrev pub popped_setting : StoreOf B → List ℕ → List ℕ → Option (StoreFrame B) → StoreOf B × Option B
   popped_setting store name value None = (store, None)
   popped_setting store name value (Some frame) = (set (without_frame store) name value, Some frame.back)

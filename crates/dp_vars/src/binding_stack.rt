@@ -1,7 +1,7 @@
 //! The values of one name, in the channel and in its frames.
 ghost use Rattle.std.specs.Prelude.{◌≡◌, ◌+◌, ◌<◌, ◌≤◌, [], OnErr, OnOk, IfOk, reverse, if◌then◌else◌, slice_get, vec_len, vec_capacity};
 ghost use Rattle.std.specs.Option.{option_map};
-ghost use Rattle.dp_vars.specs.steps.Bindings.{binding, with_binding, bound_below, innermost_value, is_at, rebound, unbound};
+ghost use Rattle.dp_vars.specs.steps.Bindings.{binding, with_binding, bound_below, innermost_value, is_at, with_innermost_value, without_binding_at};
 
 use crate::change::Change;
 use dp_conf::{NoMemory, Text};
@@ -33,7 +33,7 @@ impl Model for BindingStack {
 /// Changes the value of the last binding.
 fn change_last(bindings: &mut Vec<Binding>, value: Text)
     requires { 0 < vec_len bindings.old }
-    ensures value { reverse bindings.new.items ≡ rebound value (reverse bindings.old.items) }
+    ensures value { reverse bindings.new.items ≡ with_innermost_value value (reverse bindings.old.items) }
     ensures len { vec_len bindings.new ≡ vec_len bindings.old }
     ensures capacity { vec_capacity bindings.old ≤ vec_capacity bindings.new }
 {
@@ -46,7 +46,7 @@ fn change_last(bindings: &mut Vec<Binding>, value: Text)
 /// Changes the value of the last binding, or binds the value in the channel if there is none.
 fn rebind_last(bindings: &mut Vec<Binding>, value: Text)
     requires { vec_len bindings.old ≡ 0 → 0 < vec_capacity bindings.old }
-    ensures value { reverse bindings.new.items ≡ rebound value (reverse bindings.old.items) }
+    ensures value { reverse bindings.new.items ≡ with_innermost_value value (reverse bindings.old.items) }
     ensures len { vec_len bindings.new ≤ vec_len bindings.old + 1 }
     ensures capacity { vec_capacity bindings.old ≤ vec_capacity bindings.new }
 {
@@ -134,7 +134,7 @@ impl BindingStack {
         change: &C,
         target: &mut T,
     ) -> Result<(), NoMemory>
-        ensures ok { OnOk result (self.new ≡ rebound value self.old) }
+        ensures ok { OnOk result (self.new ≡ with_innermost_value value self.old) }
         ensures changed { OnOk result (target.new ≡ C.after change.now target.old) }
         ensures err { OnErr result (self.new ≡ self.old) }
         ensures unchanged { OnErr result (target.new ≡ target.old) }
@@ -168,7 +168,7 @@ impl BindingStack {
 
     /// Removes the innermost binding, if it is at that depth.
     pub(crate) fn unbind(&mut self, depth: usize)
-        ensures { self.new ≡ unbound depth self.old }
+        ensures { self.new ≡ without_binding_at depth self.old }
     {
         if self.is_at(depth) {
             let _binding = self.bindings.pop();

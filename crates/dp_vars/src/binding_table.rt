@@ -3,9 +3,9 @@ ghost use Rattle.std.specs.Prelude.{◌≡◌, None, [], length, nat_eq, fold, t
 ghost use Rattle.std.specs.Cmp.Lexicographic.{pointwise};
 ghost use Rattle.std.specs.Map.{lookup};
 ghost use Rattle.std.specs.Option.{option_map};
-ghost use Rattle.dp_vars.specs.steps.Bindings.{with_binding, bound_below, rebound};
+ghost use Rattle.dp_vars.specs.steps.Bindings.{with_binding, bound_below, with_innermost_value};
 ghost use Rattle.dp_vars.specs.Stores.{slot as slot_of};
-ghost use Rattle.dp_vars.specs.steps.Tables.{cleared, names_of, stack_of, unbound_at, with_stack};
+ghost use Rattle.dp_vars.specs.steps.Tables.{without_bindings, names_of, stack_of, unbound_at, with_stack};
 
 use crate::binding_stack::BindingStack;
 use crate::change::Change;
@@ -138,7 +138,7 @@ impl BindingTable {
         change: &C,
         target: &mut T,
     ) -> Result<(), NoMemory>
-        ensures ok { OnOk result (self.new ≡ with_stack self.old name.now (rebound value (stack_of self.old name.now))) }
+        ensures ok { OnOk result (self.new ≡ with_stack self.old name.now (with_innermost_value value (stack_of self.old name.now))) }
         ensures changed { OnOk result (target.new ≡ C.after change.now target.old) }
         ensures err { OnErr result (self.new ≡ self.old) }
         ensures unchanged { OnErr result (target.new ≡ target.old) }
@@ -178,7 +178,7 @@ impl BindingTable {
 
     /// Removes all bindings of a name, which keeps its number.
     pub(crate) fn clear(&mut self, name: &[u8])
-        ensures { self.new ≡ cleared self.old name.now }
+        ensures { self.new ≡ without_bindings self.old name.now }
     {
         if let Some(number) = self.slot(name) {
             let entry = &mut self.entries[number];

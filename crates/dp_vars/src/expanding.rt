@@ -103,9 +103,9 @@ pub(crate) struct Expanding {
 
 impl Model for Expanding {
     ghost use Rattle.std.specs.Prelude.{reverse};
-    ghost use Rattle.dp_vars.specs.Expanding.{Written};
+    ghost use Rattle.dp_vars.specs.Expanding.{WrittenSoFar};
 
-    ghost Value = { Written };
+    ghost Value = { WrittenSoFar };
 
     ghost view = { λ expanding. record {
       bytes = expanding.bytes.items;

@@ -27,7 +27,7 @@ pub struct FunctionValue<'a> {
 
 /// The target of setting a name from outside.
 #[derive(Clone, Copy)]
-pub enum Target<'a> {
+pub enum SetTarget<'a> {
     /// The variable with this name.
     Variable(&'a [u8]),
     /// The global with this name.
@@ -77,7 +77,7 @@ pub trait Functions {
         ensures { IfOk result (λ reading. reading ≡ table.expression body.now) };
 
     /// The target of setting this name from outside.
-    fn target(name: &[u8]) -> Target<'_>
+    fn target(name: &[u8]) -> SetTarget<'_>
         ensures { target_seen result ≡ table.target name.now };
 }
 
@@ -103,7 +103,7 @@ impl<'a> FunctionName<'a> {
     }
 
     /// The function with this name among the five, or None if it is none of them.
-    pub fn known(self) -> Option<Function>
+    pub fn known_function(self) -> Option<Function>
         ensures { result ≡ values.function_of (name_bytes self.entry) }
     {
         match self {
@@ -126,7 +126,7 @@ impl Functions for StandardFunctions {
         name: FunctionName<'_>,
         argument: &[u8],
     ) -> Result<FunctionValue<'a>, NoMemory> {
-        let value = match name.known() {
+        let value = match name.known_function() {
             Some(function) => function_value(scope, function, argument),
             None => FoundValue::Bytes(b""),
         };
@@ -156,7 +156,7 @@ impl Functions for StandardFunctions {
         Ok(ExpressionReading::Value)
     }
 
-    fn target(name: &[u8]) -> Target<'_> {
-        Target::Variable(name)
+    fn target(name: &[u8]) -> SetTarget<'_> {
+        SetTarget::Variable(name)
     }
 }

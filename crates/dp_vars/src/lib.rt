@@ -35,7 +35,7 @@ pub use change::Change;
 pub use dp_conf::MOST_NESTING;
 pub use dp_expr::ExpressionReading;
 pub use expanding::{Expanded, group_value};
-pub use functions::{FunctionName, FunctionValue, Functions, StandardFunctions, Target};
+pub use functions::{FunctionName, FunctionValue, Functions, SetTarget, StandardFunctions};
 pub use globals::Globals;
 pub use local::Local;
 pub use local_name::LocalName;

@@ -1,7 +1,7 @@
 //! The pieces of a text with groups.
 ghost use Rattle.std.specs.Prelude.{◌≡◌, ℕ, List, IfOk};
 ghost use Rattle.dp_expr.specs.Expression.{expression_value};
-ghost use Rattle.dp_vars.specs.Expanding.{Written};
+ghost use Rattle.dp_vars.specs.Expanding.{WrittenSoFar};
 ghost use Rattle.dp_vars.specs.Functions.{FunctionTable};
 ghost use Rattle.dp_vars.specs.Pieces.{past, with_head};
 ghost use Rattle.dp_vars.specs.steps.Pieces.{IsGroup};
@@ -59,7 +59,7 @@ const _: () = prove!(size_of::<TextPiece>() == 24);
 
 /// The whole value of a head.
 fn full(alloc: Global, head: Head) -> Result<TextPiece, NoMemory>
-    ensures { IfOk result (λ piece. (functions : FunctionTable) (sight : Sight) (text : List ℕ) (written : Written)
+    ensures { IfOk result (λ piece. (functions : FunctionTable) (sight : Sight) (text : List ℕ) (written : WrittenSoFar)
         → past functions sight text written piece ≡ with_head functions sight text written head) }
 {
     match head {

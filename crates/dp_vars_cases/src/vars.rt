@@ -61,15 +61,15 @@ impl Change<Globals> for PutsTold {
 
 /// What a text sees: a channel unless it left, its variables and frames, and the globals.
 #[derive(Drop)]
-struct World {
+struct ViewedWorld {
     is_here: bool,
     store: Store<u32>,
     globals: Globals,
 }
 
-impl World {
-    fn new(alloc: Global) -> World {
-        World {
+impl ViewedWorld {
+    fn new(alloc: Global) -> ViewedWorld {
+        ViewedWorld {
             is_here: true,
             store: Store::new(alloc),
             globals: Globals::new(alloc),
@@ -100,7 +100,7 @@ impl World {
 fn push_expansion(
     out: &mut String,
     alloc: Global,
-    world: &World,
+    world: &ViewedWorld,
     template: &Template,
 ) -> Result<(), NoMemory> {
     let bytes = expand(alloc, template, &world.scope())?;
@@ -110,7 +110,7 @@ fn push_expansion(
 fn push_expanded(
     out: &mut String,
     alloc: Global,
-    world: &World,
+    world: &ViewedWorld,
     text: &[u8],
 ) -> Result<(), NoMemory> {
     match Template::read(alloc, text) {
@@ -121,7 +121,7 @@ fn push_expanded(
 }
 
 /// The expansion of a text, each byte as the character with its number.
-fn expansion(alloc: Global, world: &World, text: &[u8]) -> Result<String, NoMemory> {
+fn expansion(alloc: Global, world: &ViewedWorld, text: &[u8]) -> Result<String, NoMemory> {
     let mut out = String::new(alloc);
     push_expanded(&mut out, alloc, world, text)?;
     Ok(out)
@@ -134,7 +134,12 @@ fn local_of(alloc: Global, name: &[u8], value: &[u8]) -> Result<Local, NoMemory>
 }
 
 /// A frame with one local, which returns to its number.
-fn push_frame(alloc: Global, world: &mut World, name: &[u8], value: &[u8]) -> Result<(), NoMemory> {
+fn push_frame(
+    alloc: Global,
+    world: &mut ViewedWorld,
+    name: &[u8],
+    value: &[u8],
+) -> Result<(), NoMemory> {
     let mut locals = Vec::new(alloc);
     locals.push(local_of(alloc, name, value)?)?;
     world.store.push_frame(alloc, 1, locals)
@@ -143,7 +148,7 @@ fn push_frame(alloc: Global, world: &mut World, name: &[u8], value: &[u8]) -> Re
 /// A global that is expanded before it is set, without a channel.
 fn put_expanded(
     alloc: Global,
-    world: &mut World,
+    world: &mut ViewedWorld,
     name: &[u8],
     text: &[u8],
 ) -> Result<(), NoMemory> {
@@ -154,7 +159,7 @@ fn put_expanded(
 }
 
 /// A frame with a local for each name, which returns to its number.
-fn push_names(alloc: Global, world: &mut World, names: &str) -> Result<(), NoMemory> {
+fn push_names(alloc: Global, world: &mut ViewedWorld, names: &str) -> Result<(), NoMemory> {
     let mut locals = Vec::new(alloc);
     for name in names.split(' ') {
         locals.push(local_of(alloc, name.as_bytes(), b"")?)?;
@@ -165,7 +170,7 @@ fn push_names(alloc: Global, world: &mut World, names: &str) -> Result<(), NoMem
 /// Sets a name after a change, which may be refused.
 fn set_after(
     alloc: Global,
-    world: &mut World,
+    world: &mut ViewedWorld,
     name: &[u8],
     value: &[u8],
     is_refused: bool,
@@ -180,7 +185,7 @@ fn set_after(
 /// A step of a name and a value.
 fn set(
     alloc: Global,
-    world: &mut World,
+    world: &mut ViewedWorld,
     word: &str,
     name: &[u8],
     value: &[u8],
@@ -205,7 +210,7 @@ fn set(
 }
 
 /// A step: `pop`, `drop`, `gone`, `frame` with names, or a word with `NAME=VALUE`.
-fn take_step(alloc: Global, world: &mut World, step: &str) -> Result<(), NoMemory> {
+fn take_step(alloc: Global, world: &mut ViewedWorld, step: &str) -> Result<(), NoMemory> {
     match step.split_once(' ') {
         None => match step {
             "pop" => {
@@ -225,7 +230,7 @@ fn take_step(alloc: Global, world: &mut World, step: &str) -> Result<(), NoMemor
 }
 
 /// Takes the steps separated by ` ; `.
-fn take_all(alloc: Global, world: &mut World, steps: &str) -> Result<(), NoMemory> {
+fn take_all(alloc: Global, world: &mut ViewedWorld, steps: &str) -> Result<(), NoMemory> {
     for step in steps.split(" ; ") {
         take_step(alloc, world, step)?;
     }
@@ -233,7 +238,7 @@ fn take_all(alloc: Global, world: &mut World, steps: &str) -> Result<(), NoMemor
 }
 
 /// The expansion in a world of the text after the last ` ; `, after the steps before it.
-fn expanded_in(alloc: Global, world: &mut World, asked: &str) -> Result<String, Fail> {
+fn expanded_in(alloc: Global, world: &mut ViewedWorld, asked: &str) -> Result<String, Fail> {
     let (steps, text) = asked.rsplit_once(" ; ").unwrap_or(("", asked));
     take_all(alloc, world, steps)?;
     let text = bytes_of(alloc, text)?;
@@ -247,11 +252,11 @@ fn expanded_in(alloc: Global, world: &mut World, asked: &str) -> Result<String, 
 /// several, `pop` drops the innermost, `return NAME=VALUE` drops it and then sets a variable, `drop` drops all frames, `after` sets a
 /// variable after a change that sets the global `TOLD`, `refused` does so if the change fails, `global` sets a global, `expanded` sets one
 /// whose value is expanded before, and `gone` takes the channel away. The channel is 7 at `main`, `100`, 2 with the caller `5551234`.
-struct Expanded;
+struct ExpandedText;
 
-impl Question for Expanded {
+impl Question for ExpandedText {
     fn answer(alloc: Global, asked: &str) -> Result<String, Fail> {
-        let mut world = World::new(alloc);
+        let mut world = ViewedWorld::new(alloc);
         expanded_in(alloc, &mut world, asked)
     }
 }
@@ -266,5 +271,5 @@ const TABLES: &[&str] = &[
 
 #[test]
 fn texts_are_expanded(rt: HostRuntime) -> Result<(), Fail> {
-    check_all::<Expanded>(rt.alloc(), TABLES)
+    check_all::<ExpandedText>(rt.alloc(), TABLES)
 }

@@ -12,7 +12,7 @@ use Rattle.dp_vars.specs.declared.value.Function.{Function}
 use Rattle.dp_wide.specs.Fields.{first_argument, knows_named, named_value, other_arguments, way_of}
 use Rattle.dp_wide.specs.Functions.{around, knows_by, knows_name, knows_other, knows_wide, other_value, plain_value, value_by, wide_function_of, wide_value, within}
 use Rattle.dp_wide.specs.NestedCalls.{KnowsNoMore}
-use Rattle.dp_wide.specs.Texts.{cut, delimiter_of, field_count}
+use Rattle.dp_wide.specs.Texts.{cut_fields, delimiter_of, field_count}
 use Rattle.dp_wide.specs.declared.functions.WideFunction.{WideFunction}
 use Rattle.dp_wide.specs.declared.functions.WideFunction.TheVariants.{Cut, FieldQty, OfText, OfSight, Foreign}
 
@@ -58,13 +58,13 @@ module _ (less more : FunctionTable) (sight : Sight) (kept : KnowsNoMore less mo
   argument-kept name (Some argument) e = call-kept name argument e
 
   -- a variable or a call
-  head_by_value-kept : (head : List ℕ) (cut : Option (List ℕ × List ℕ))
-      → head_by_with (unknown_calls less sight) sight head cut ≡ []
-      → head_by_with more sight head cut ≡ head_by_with less sight head cut
+  head_by_value-kept : (head : List ℕ) (cut_fields : Option (List ℕ × List ℕ))
+      → head_by_with (unknown_calls less sight) sight head cut_fields ≡ []
+      → head_by_with more sight head cut_fields ≡ head_by_with less sight head cut_fields
   head_by_value-kept head None e = values head
   head_by_value-kept head (Some cut) e = argument_value-kept cut.0 (before_last 41 cut.1) e
 
-  head_by-kept : (head : List ℕ) (cut : Option (List ℕ × List ℕ))
+  head_by-kept : (head : List ℕ) (cut_fields : Option (List ℕ × List ℕ))
       → head_by_with (unknown_calls less sight) sight head cut ≡ []
       → head_by_with (unknown_calls more sight) sight head cut ≡ []
   head_by-kept head None e = ap (λ known. if◌then◌else◌ {A = List ℕ} known [] head) (names head) ∙ e
@@ -79,12 +79,12 @@ module _ (less more : FunctionTable) (sight : Sight) (kept : KnowsNoMore less mo
   head-kept head e = head_by-kept head (cut_once 40 head) e
 
   -- a body that may request a part
-  body_value-kept : (body : List ℕ) (cut : Option (List ℕ × List ℕ)) → unknown_body less sight body cut ≡ []
-      → body_by_with more sight body cut ≡ body_by_with less sight body cut
+  body_value-kept : (body : List ℕ) (cut_fields : Option (List ℕ × List ℕ)) → unknown_body less sight body cut_fields ≡ []
+      → body_by_with more sight body cut_fields ≡ body_by_with less sight body cut_fields
   body_value-kept body None e = head_value-kept body e
   body_value-kept body (Some cut) e = ap (part (asked_of (Some cut.1))) (head_value-kept cut.0 e)
 
-  body-kept : (body : List ℕ) (cut : Option (List ℕ × List ℕ)) → unknown_body less sight body cut ≡ [] → unknown_body more sight body cut ≡ []
+  body-kept : (body : List ℕ) (cut_fields : Option (List ℕ × List ℕ)) → unknown_body less sight body cut_fields ≡ [] → unknown_body more sight body cut_fields ≡ []
   body-kept body None e = head-kept body e
   body-kept body (Some cut) e = head-kept cut.0 e
 
@@ -103,7 +103,7 @@ module _ (less more : FunctionTable) (sight : Sight) (kept : KnowsNoMore less mo
   wide_value-kept : (function : WideFunction) (argument : List ℕ) → knows_wide less sight function argument ≡ true
       → wide_value more sight function argument ≡ wide_value less sight function argument
   wide_value-kept Cut argument e =
-      ap (λ value. cut value (way_of (other_arguments argument)).0 (way_of (other_arguments argument)).1)
+      ap (λ value. cut_fields value (way_of (other_arguments argument)).0 (way_of (other_arguments argument)).1)
       (named_value-kept (first_argument argument) e)
   wide_value-kept FieldQty argument e =
       ap (λ value. decimal (field_count (delimiter_of (other_arguments argument)) value)) (named_value-kept (first_argument argument) e)

@@ -19,7 +19,7 @@ use Rattle.dp_wide.specs.Going.{going_names, goes_on}
 use Rattle.dp_wide.specs.Names.{is_word_of}
 use Rattle.dp_wide.specs.Outside.{is_outside, is_read, outside_applications, outside_row, row_outside, statuses_among, with_outside}
 use Rattle.dp_wide.specs.Wide.{inner_table, wide_blind, wide_rows, wide_table, wide_touches}
-use Rattle.dp_wide.specs.steps.Placed.{placed, rows_of}
+use Rattle.dp_wide.specs.steps.PlacedApplications.{placed_applications, rows_of}
 use Rattle.dp_wide.proofs.WordsLemmas.{of_spelling}
 
 false_is_true : false ≡ true → ⊥
@@ -49,27 +49,27 @@ ran_part None whole there arguments cell after going e = absurd (none-some going
 ran_part (Some row) whole there arguments cell after going e = ap (λ o. after_dispatch o arguments cell) (there row refl) ∙ e
 
 -- the placed applications are in the table, without `ExecIf` and with it
-placed_inner : AreOfTable inner_table.rows placed
-unfolding inner_table placed standard_table going_names outside_applications
+placed_inner : AreOfTable inner_table.rows placed_applications
+unfolding inner_table placed_applications standard_table going_names outside_applications
 placed_inner = (refl, (refl, (refl, (refl, (refl, (refl, (refl, (refl, (refl, (refl, (refl, (refl, (refl, (refl, (refl, (refl, (refl, (refl, (refl, (refl, (refl, (refl, (refl, (refl, (refl, (refl, (refl, (refl, (refl, tt)))))))))))))))))))))))))))))
 
-placed_wide : AreOfTable wide_rows placed
-unfolding wide_table inner_table placed standard_table going_names outside_applications
+placed_wide : AreOfTable wide_rows placed_applications
+unfolding wide_table inner_table placed_applications standard_table going_names outside_applications
 placed_wide = (refl, (refl, (refl, (refl, (refl, (refl, (refl, (refl, (refl, (refl, (refl, (refl, (refl, (refl, (refl, (refl, (refl, (refl, (refl, (refl, (refl, (refl, (refl, (refl, (refl, (refl, (refl, (refl, (refl, tt)))))))))))))))))))))))))))))
 
-pub inner_there : (name : List ℕ) (row : Row) → rows_of placed name ≡ Some row → inner_table.rows name ≡ Some row
-inner_there = found_there inner_table.touches inner_table.rows inner_table.blind placed placed_inner
+pub inner_there : (name : List ℕ) (row : Row) → rows_of placed_applications name ≡ Some row → inner_table.rows name ≡ Some row
+inner_there = found_there inner_table.touches inner_table.rows inner_table.blind placed_applications placed_inner
 
-pub placed_there : (place : ℕ) (name : List ℕ) (row : Row) → row_at placed place name ≡ Some row → wide_rows name ≡ Some row
-placed_there = row_there wide_touches wide_rows wide_blind placed placed_wide
+pub placed_there : (place : ℕ) (name : List ℕ) (row : Row) → row_at placed_applications place name ≡ Some row → wide_rows name ≡ Some row
+placed_there = row_there wide_touches wide_rows wide_blind placed_applications placed_wide
 
 -- the table has each placed application
-pub placed_has_inner : (name : List ℕ) → has_row (rows_of placed) name ≡ true → has_row inner_table.rows name ≡ true
-placed_has_inner name h = has_there (rows_of placed name) (inner_table.rows name) (inner_there name) h
+pub placed_has_inner : (name : List ℕ) → has_row (rows_of placed_applications) name ≡ true → has_row inner_table.rows name ≡ true
+placed_has_inner name h = has_there (rows_of placed_applications name) (inner_table.rows name) (inner_there name) h
 
-pub placed_has : (name : List ℕ) → has_row (rows_of placed) name ≡ true → has_row wide_rows name ≡ true
+pub placed_has : (name : List ℕ) → has_row (rows_of placed_applications) name ≡ true → has_row wide_rows name ≡ true
 placed_has name h =
-    has_there (rows_of placed name) (wide_rows name) (found_there wide_touches wide_rows wide_blind placed placed_wide name) h
+    has_there (rows_of placed_applications name) (wide_rows name) (found_there wide_touches wide_rows wide_blind placed_applications placed_wide name) h
 
 -- each of some names has this row in a table
 abbrev HaveRow : Rows → Row → List (List ℕ) → Type 0

@@ -5,7 +5,7 @@ use Rattle.std.specs.Cmp.Lexicographic.{pointwise}
 use Rattle.std.specs.Prelude.{nat_eq}
 use Rattle.dp_conf.specs.Words.{same_word}
 use Rattle.dp_wide.specs.Names.{is_word_of}
-use Rattle.dp_wide.specs.laws.NamesLawful.{lowered}
+use Rattle.dp_wide.specs.laws.NamesLawful.{lower_case_decides}
 
 false_is_true : false ≡ true → ⊥
 false_is_true e = cc
@@ -13,7 +13,7 @@ false_is_true e = cc
 -- the comparisons of a word give the same for each of its spellings
 pub of_spelling : {X : Type 0} (find : (List ℕ → Bool) → X) (name word : List ℕ) → same_word name word ≡ true
     → find (same_word name) ≡ find (same_word word)
-of_spelling find name word same = sym (lowered (λ lower. find (λ title. pointwise nat_eq lower (map to_ascii_lowercase title))) name word same)
+of_spelling find name word same = sym (lower_case_decides (λ lower. find (λ title. pointwise nat_eq lower (map to_ascii_lowercase title))) name word same)
 
 -- the same holds for each of some words
 abbrev pub AreFound : {X : Type 0} → ((List ℕ → Bool) → X) → X → List (List ℕ) → Type 0

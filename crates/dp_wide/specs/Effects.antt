@@ -1,6 +1,6 @@
 -- The effects of setting names, as the bytes that they hold.
 use Rattle.dp_vars.specs.Functions.{target_seen}
-use Rattle.dp_wide.specs.Settings.{Effect as EffectOf, OneTarget, NameAndNumber, EmptyKey, EachName}
+use Rattle.dp_wide.specs.Settings.{EffectOf, OneTarget, NameAndNumber, EmptyKey, EachName}
 use Rattle.dp_wide.specs.declared.settings.effects.Effect.{Effect}
 use Rattle.dp_wide.specs.declared.settings.effects.Effect.TheVariants as effects
 

@@ -10,7 +10,7 @@ use Rattle.dp_vars.specs.Functions.{FunctionTable}
 use Rattle.dp_vars.specs.Sights.{Sight}
 use Rattle.dp_vars.specs.Unknown.{any_text, unknown_group}
 use Rattle.dp_vars.specs.Values.{group_value_with}
-use Rattle.dp_wide.specs.Texts.{cut, delimiter_of, field_count}
+use Rattle.dp_wide.specs.Texts.{cut_fields, delimiter_of, field_count}
 
 -- the text before the first comma outside parentheses, or the whole text if there is none
 abbrev pub first_argument : List ℕ → List ℕ
@@ -43,7 +43,7 @@ knows_named functions sight name = is_none (any_text (unknown_group functions si
 abbrev pub cut_value : FunctionTable → Sight → List ℕ → List ℕ
 cut_value functions sight argument =
     let way = way_of (other_arguments argument) in
-    cut (named_value functions sight (first_argument argument)) way.0 way.1
+    cut_fields (named_value functions sight (first_argument argument)) way.0 way.1
 
 -- the value of `FIELDQTY` with an argument
 abbrev pub count_value : FunctionTable → Sight → List ℕ → List ℕ

@@ -3,7 +3,7 @@ use Rattle.std.specs.Prelude.{ℕ, List, [], ◌∷◌, ◌++◌, Option, Some, 
 use Rattle.std.specs.Fmt.{decimal}
 use Rattle.dp_conf.specs.Blanks.{trim}
 use Rattle.dp_conf.specs.Levels.{cut_outside}
-use Rattle.dp_vars.specs.Stores.{Frame, innermost, without_frame}
+use Rattle.dp_vars.specs.Stores.{StoreFrame, innermost, without_frame}
 use Rattle.dp_vars.specs.declared.local.Local.{Local}
 use Rattle.dp_app.specs.Cells.{CellOf}
 use Rattle.dp_app.specs.Rows.{Outcome, Row}
@@ -42,7 +42,7 @@ unfoldable pub macro_row : Row
 macro_row arguments cell = macro_by cell arguments (cut_outside 44 arguments)
 
 -- the end of a macro: the innermost frame is removed, and the channel goes back to its place; without a frame the channel goes on
-abbrev pub exit_by : CellOf → Option (Frame Place) → Outcome
+abbrev pub exit_by : CellOf → Option (StoreFrame Place) → Outcome
 exit_by cell None = stays cell Next
 exit_by cell (Some frame) = record { cell = record cell { store = without_frame cell.store }; next = Jump (To frame.back) }
 

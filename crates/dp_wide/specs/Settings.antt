@@ -41,11 +41,11 @@ abbrev pub bare_name : List ℕ → List ℕ
 bare_name name = without_mark (without_mark (trim name))
 
 -- what a name sets: one thing, the name and the number of the caller, the key of a cell that becomes empty, or each of a list of names
-pub data Effect : Type 0 where
-  OneTarget : SettingTarget → Effect
-  NameAndNumber : Effect
-  EmptyKey : List ℕ → Effect
-  EachName : List ℕ → Effect
+pub data EffectOf : Type 0 where
+  OneTarget : SettingTarget → EffectOf
+  NameAndNumber : EffectOf
+  EmptyKey : List ℕ → EffectOf
+  EachName : List ℕ → EffectOf
 
 -- whether setting the function does more than to write a cell, so that it has no effect here
 abbrev pub does_more : List ℕ → List ℕ → Bool
@@ -60,13 +60,13 @@ abbrev pub cell_target : List ℕ → List ℕ → SettingTarget
 cell_target name function = if is_of_all function then Global name else Variable name
 
 -- what `CALLERID` with an argument sets, given the whole name
-abbrev pub caller_effect : List ℕ → List ℕ → Effect
+abbrev pub caller_effect : List ℕ → List ℕ → EffectOf
 caller_effect name argument =
     if same_text argument (codes "num") || same_text argument (codes "number") then OneTarget Caller
     else (if same_text argument (codes "all") then NameAndNumber else OneTarget (Variable name))
 
 -- what a function with an argument sets, given the whole name
-abbrev pub function_effect : List ℕ → List ℕ → List ℕ → Effect
+abbrev pub function_effect : List ℕ → List ℕ → List ℕ → EffectOf
 function_effect name function argument =
     if same_text function (codes "GLOBAL") then OneTarget (Global argument)
     else (if same_text function (codes "LOCAL") then OneTarget (Local argument)
@@ -82,21 +82,21 @@ variable_target [] = Nothing
 variable_target (b ∷ bs) = Variable (b ∷ bs)
 
 -- what a function sets if it has an argument
-abbrev pub called_effect : List ℕ → List ℕ → Option (List ℕ) → Effect
+abbrev pub called_effect : List ℕ → List ℕ → Option (List ℕ) → EffectOf
 called_effect name function None = OneTarget Nothing
 called_effect name function (Some argument) = function_effect name function argument
 
 -- what a name sets, given its first `(`, which makes it a function
-abbrev pub effect_by : List ℕ → Option (List ℕ × List ℕ) → Effect
+abbrev pub effect_by : List ℕ → Option (List ℕ × List ℕ) → EffectOf
 effect_by name None = OneTarget (variable_target name)
 effect_by name (Some cut) = called_effect name cut.0 (argument_of cut.1)
 
 -- what a name sets
-unfoldable pub effect_of : List ℕ → Effect
+unfoldable pub effect_of : List ℕ → EffectOf
 effect_of name = effect_by name (cut_once 40 name)
 
 -- the one thing that is set, if it is one
-abbrev pub one_target : Effect → SettingTarget
+abbrev pub one_target : EffectOf → SettingTarget
 one_target (OneTarget target) = target
 one_target NameAndNumber = Nothing
 one_target (EmptyKey key) = Nothing
@@ -115,7 +115,7 @@ with_target s Caller value = record s { caller = value }
 with_target s Nothing value = s
 
 -- the name and the number of a caller, as texts
-pub record CallerText : Type 0 where
+pub record CallerTextOf : Type 0 where
   pub name : List ℕ
   pub number : List ℕ
 
@@ -129,29 +129,29 @@ without_quotes [] = []
 without_quotes (b ∷ bs) = if b == 34 then unwrap_or (before_quote bs) (b ∷ bs) else b ∷ bs
 
 -- a number without a name
-abbrev pub number_alone : List ℕ → CallerText
+abbrev pub number_alone : List ℕ → CallerTextOf
 number_alone text = record { name = []; number = trim text }
 
 -- a name, quoted or bare, and a number in angle brackets
-abbrev pub name_and_number : List ℕ → List ℕ → CallerText
+abbrev pub name_and_number : List ℕ → List ℕ → CallerTextOf
 name_and_number front number = record { name = without_quotes (trim front); number = trim number }
 
 -- the caller that a text names, given the first `<`: the number ends at the last `>` after it; without these all is the number
-abbrev pub caller_by : List ℕ → Option (List ℕ × List ℕ) → CallerText
+abbrev pub caller_by : List ℕ → Option (List ℕ × List ℕ) → CallerTextOf
 caller_by text None = number_alone text
 caller_by text (Some cut) = option_map_or (name_and_number cut.0) (before_last 62 cut.1) (number_alone text)
 
 -- the name and the number of the caller that a text names
-unfoldable pub caller_of : List ℕ → CallerText
+unfoldable pub caller_of : List ℕ → CallerTextOf
 caller_of text = caller_by text (cut_once 60 text)
 
 -- the parts after the name and the number of the caller were set
-abbrev pub with_caller : Settable → CallerText → Settable
+abbrev pub with_caller : Settable → CallerTextOf → Settable
 with_caller s caller =
     record s { caller = caller.number; store = set s.store (cell_name (codes "CALLERID") (codes "name")) caller.name }
 
 -- the parts after a name was set, with each of a list of names taken as a plain cell
-abbrev pub with_effect : Settable → List ℕ → Effect → List ℕ → Settable
+abbrev pub with_effect : Settable → List ℕ → EffectOf → List ℕ → Settable
 with_effect s name (OneTarget target) value = with_target s target value
 with_effect s name NameAndNumber value = with_caller s (caller_of value)
 with_effect s name (EmptyKey key) value = record s { globals = with_empty_key s.globals key }
@@ -177,7 +177,7 @@ with_each s [] values = s
 with_each s (name ∷ names) values = with_each (with_one s name (first_value values)) names (later_values values)
 
 -- the parts after a name was set, given what it sets
-abbrev pub with_setting : Settable → List ℕ → Effect → List ℕ → Settable
+abbrev pub with_setting : Settable → List ℕ → EffectOf → List ℕ → Settable
 with_setting s name (OneTarget target) value = with_effect s name (OneTarget target) value
 with_setting s name NameAndNumber value = with_effect s name NameAndNumber value
 with_setting s name (EmptyKey key) value = with_effect s name (EmptyKey key) value

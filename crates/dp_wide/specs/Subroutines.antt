@@ -9,7 +9,7 @@ use Rattle.dp_app.specs.Rows.{Outcome, Row}
 use Rattle.dp_app.specs.declared.moves.Move.TheVariants.{Next, Jump, Hang}
 use Rattle.dp_app.specs.declared.target.Target.TheVariants.{Existing}
 use Rattle.dp_flow.specs.Conditions.{chosen_side}
-use Rattle.dp_flow.specs.Jumps.{SubroutineCall, argument_locals, place_after, stays, subroutine_call}
+use Rattle.dp_flow.specs.Jumps.{SubroutineCallOf, argument_locals, place_after, stays, subroutine_call}
 
 -- a local with this name
 abbrev pub local : List ℕ → List ℕ → Local
@@ -31,7 +31,7 @@ entered_with cell locals target = record {
 }
 
 -- the entry into a subroutine, given the parts of its target before the last one
-abbrev pub enter_counted : CellOf → List (List ℕ) → Option SubroutineCall → Outcome
+abbrev pub enter_counted : CellOf → List (List ℕ) → Option SubroutineCallOf → Outcome
 enter_counted cell front None = stays cell Hang
 enter_counted cell front (Some c) = entered_with cell (counted_locals c.arguments) (front ++ c.priority ∷ [])
 

@@ -72,8 +72,8 @@ chosen_from number fields values =
     map (λ field. field.1) (filter (λ field. is_chosen fields field.0) (enumerate_from number values))
 
 -- the chosen fields in their own order, with the byte between them; empty if the choice is no list of ranges
-unfoldable pub cut : List ℕ → ℕ → List ℕ → List ℕ
-cut value delimiter fields =
+unfoldable pub cut_fields : List ℕ → ℕ → List ℕ → List ℕ
+cut_fields value delimiter fields =
     if are_ranges fields then join_with_byte delimiter (chosen_from 1 fields (parts_of delimiter value)) else []
 
 -- the ranges of bytes in a set: `a-b`, or one byte alone; a `-` at either end is such a byte

@@ -10,7 +10,7 @@ use Rattle.dp_app.specs.declared.touch.Touch.{Touch}
 use Rattle.dp_flow.specs.Plain.{hangup_row, next_row}
 use Rattle.dp_flow.specs.Touches.{nothing, settable, the_frames}
 use Rattle.dp_flow.specs.laws.Lawful.{hangup_lawful, next_lawful}
-use Rattle.dp_table.specs.Standard.{Table, standard_table, with_application}
+use Rattle.dp_table.specs.Standard.{LawfulTable, standard_table, with_application}
 use Rattle.dp_wide.specs.Choices.{everything, exec_if_application, exec_if_title, exec_if_within}
 use Rattle.dp_wide.specs.Deleting.{delete_row, delete_tree_row, the_globals}
 use Rattle.dp_wide.specs.Going.{with_going, with_going_knowledge, with_going_touch}
@@ -30,7 +30,7 @@ use Rattle.dp_wide.specs.laws.SettingsLawful.{mset_lawful, set_lawful}
 use Rattle.dp_wide.specs.laws.SubroutinesLawful.{gosub_if_lawful, gosub_lawful}
 
 -- a table with the applications that go on
-abbrev pub going_table : Table → Table
+abbrev pub going_table : LawfulTable → LawfulTable
 going_table table = record {
   touches = with_going_touch table.touches;
   rows = with_going table.rows;
@@ -40,7 +40,7 @@ going_table table = record {
 }
 
 -- a table with the applications that run outside
-abbrev pub outside_table : Table → Table
+abbrev pub outside_table : LawfulTable → LawfulTable
 outside_table table = record {
   touches = with_outside_touch table.touches;
   rows = with_outside table.rows;
@@ -51,7 +51,7 @@ outside_table table = record {
 
 -- the table with the applications that this program's twenty-one lack or have in another form, before those that only go on, those that run
 -- outside, and the twenty-one
-abbrev pub own_table : Table
+abbrev pub own_table : LawfulTable
 own_table =
     with_application (codes "Set") settable set_row set_lawful
     (with_application (codes "MSet") settable mset_row mset_lawful
@@ -65,7 +65,7 @@ own_table =
     (going_table (outside_table standard_table))))))))))
 
 -- the whole table without `ExecIf`; the applications that do not look at their arguments come first
-unfoldable pub inner_table : Table
+unfoldable pub inner_table : LawfulTable
 inner_table =
     with_application (codes "NoOp") nothing next_row next_lawful
     (with_application (codes "Verbose") nothing next_row next_lawful
@@ -75,7 +75,7 @@ inner_table =
     (with_application (codes "Congestion") nothing hangup_row hangup_lawful own_table)))))
 
 -- the wide table: its `ExecIf` runs what the table runs
-unfoldable pub wide_table : Table
+unfoldable pub wide_table : LawfulTable
 wide_table =
     with_application exec_if_title everything (exec_if_within 8 inner_table.rows)
     (exec_if_within_lawful 8 inner_table.touches inner_table.rows inner_table.lawful) inner_table

@@ -2,5 +2,5 @@
 pub mod Callers
 pub mod Far
 pub mod PartsLeft
-pub mod Placed
+pub mod PlacedApplications
 pub mod Plain

@@ -233,17 +233,17 @@ impl Application for ExecIfEnd {
 }
 
 /// The table `T` with an `ExecIf` that runs the applications of another table.
-type Around<Inner, T> = With<ExecIf<Inner>, T>;
+type AroundExecIf<Inner, T> = With<ExecIf<Inner>, T>;
 
 /// The same with two of them, nested.
-type Two<Inner, T> = Around<Around<Inner, T>, T>;
+type Two<Inner, T> = AroundExecIf<AroundExecIf<Inner, T>, T>;
 
 /// The same with four of them, nested.
-type Four<Inner, T> = Two<Two<Inner, T>, T>;
+type FourExecIfs<Inner, T> = Two<Two<Inner, T>, T>;
 
 /// The table `T` with `ExecIf`, which runs the applications of this table; an `ExecIf` inside 8 others ends the call (a choice of this
 /// program).
-pub type WithExecIf<T> = Four<Four<With<ExecIfEnd, T>, T>, T>;
+pub type WithExecIf<T> = FourExecIfs<FourExecIfs<With<ExecIfEnd, T>, T>, T>;
 
 /// Runs the application with this name from the table `T` with `ExecIf`, or gives None if the table lacks the name. If memory runs out the
 /// cell is as before.

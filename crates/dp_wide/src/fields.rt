@@ -7,7 +7,7 @@ ghost use Rattle.dp_vars.specs.Shown.{value_bytes};
 ghost use Rattle.dp_vars.specs.Sights.{sight_of};
 ghost use Rattle.dp_wide.specs.Fields as spec;
 
-use crate::texts::{cut, delimiter_of, field_count};
+use crate::texts::{cut_fields, delimiter_of, field_count};
 use dp_conf::{NoMemory, cut_outside};
 use dp_vars::{Counts, Expanded, FoundValue, FunctionValue, Functions, Scope, group_value};
 use std::alloc::Global;
@@ -84,7 +84,7 @@ pub(crate) fn cut_value<'a, F: Functions, B, C: Counts>(
     let (delimiter, fields) = way_of(other_arguments(argument));
     let named = named_value::<F, B, C>(alloc, scope, first_argument(argument))?;
     let NamedValue { bytes, is_known } = named;
-    let value = FoundValue::Owned(cut(alloc, &bytes, delimiter, fields)?);
+    let value = FoundValue::Owned(cut_fields(alloc, &bytes, delimiter, fields)?);
     Ok(FunctionValue { value, is_known })
 }
 

@@ -26,8 +26,8 @@ use crate::text_functions::{TextFunction, text_value};
 use dp_conf::NoMemory;
 use dp_expr::{ExpressionReading, asterisk_reading};
 use dp_vars::{
-    Counts, FoundValue, Function, FunctionName, FunctionValue, Functions, Scope, StandardFunctions,
-    Target, function_of, held_value, is_set, variable,
+    Counts, FoundValue, Function, FunctionName, FunctionValue, Functions, Scope, SetTarget,
+    StandardFunctions, function_of, held_value, is_set, variable,
 };
 use std::alloc::Global;
 use std::marker::PhantomData;
@@ -281,7 +281,7 @@ impl Functions for NoCalls {
         asterisk_reading(alloc, body)
     }
 
-    fn target(name: &[u8]) -> Target<'_> {
+    fn target(name: &[u8]) -> SetTarget<'_> {
         setting_target(name)
     }
 }
@@ -301,7 +301,7 @@ impl<F: Functions> Functions for Around<F> {
         name: FunctionName<'_>,
         argument: &[u8],
     ) -> Result<FunctionValue<'a>, NoMemory> {
-        match name.known() {
+        match name.known_function() {
             Some(function) => five_value(alloc, scope, function, argument),
             None => other_value::<F, B, C>(alloc, scope, name.bytes(), argument),
         }
@@ -328,7 +328,7 @@ impl<F: Functions> Functions for Around<F> {
     }
 
     #[tactic(auto, unfolding(crate::specs::Functions::around))]
-    fn target(name: &[u8]) -> Target<'_> {
+    fn target(name: &[u8]) -> SetTarget<'_> {
         setting_target(name)
     }
 }
@@ -372,7 +372,7 @@ impl Functions for WideFunctions {
         asterisk_reading(alloc, body)
     }
 
-    fn target(name: &[u8]) -> Target<'_> {
+    fn target(name: &[u8]) -> SetTarget<'_> {
         setting_target(name)
     }
 }

@@ -123,7 +123,7 @@ impl<T: KnownTable> KnownTable for WithGoing<T> {
         T::looks_at_arguments(name)
     }
 
-    fn asked<B, C: Counts>(
+    fn unknown_need<B, C: Counts>(
         alloc: Global,
         scope: &Scope<'_, B, C>,
         name: &[u8],
@@ -132,6 +132,6 @@ impl<T: KnownTable> KnownTable for WithGoing<T> {
         if goes_on(name) {
             return Ok(Vec::new(alloc));
         }
-        T::asked(alloc, scope, name, arguments)
+        T::unknown_need(alloc, scope, name, arguments)
     }
 }

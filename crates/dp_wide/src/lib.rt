@@ -18,7 +18,7 @@ pub mod laws;
 mod macros;
 mod names;
 mod outside;
-mod placed;
+mod placed_applications;
 mod read_names;
 mod requests;
 mod settings;
@@ -35,7 +35,7 @@ pub use cell_values::assumed_name;
 pub use choices::if_value;
 pub use deleting::{DbDel, DbDelTree, deleted_mark};
 pub use dp_conf::NoMemory;
-pub use dp_vars::Target;
+pub use dp_vars::SetTarget;
 pub use ended::{Busy, Congestion};
 pub use exec_if::{
     ExecIf, ExecIfEnd, SideCall, SideCalls, WithExecIf, exec_if_application, exec_if_calls,
@@ -49,7 +49,7 @@ pub use settings::{
     Effect, MSet, SetWide, bare_name, effect_of, outside_sets_what_set_sets, setting_target,
 };
 pub use subroutines::{GosubIfWide, GosubWide, goes_where_gosub_goes};
-pub use texts::{cut, delimiter_of, field_count, filter, to_lower, to_upper};
+pub use texts::{cut_fields, delimiter_of, field_count, filter, to_lower, to_upper};
 pub use time_choice::GotoIfTime;
 pub use times::{Moment, lies_in, read_moment};
 pub use wide_table::WideApps;

@@ -243,7 +243,7 @@ impl<T: KnownTable> KnownTable for WithOutside<T> {
         T::looks_at_arguments(name)
     }
 
-    fn asked<B, C: Counts>(
+    fn unknown_need<B, C: Counts>(
         alloc: Global,
         scope: &Scope<'_, B, C>,
         name: &[u8],
@@ -252,6 +252,6 @@ impl<T: KnownTable> KnownTable for WithOutside<T> {
         if is_outside(name) {
             return Ok(Vec::new(alloc));
         }
-        T::asked(alloc, scope, name, arguments)
+        T::unknown_need(alloc, scope, name, arguments)
     }
 }

@@ -36,7 +36,7 @@ pub(crate) fn flag<'a>(holds: bool) -> FoundValue<'a>
 }
 
 /// A value that is known.
-fn known(value: FoundValue<'_>) -> FunctionValue<'_>
+fn known_value(value: FoundValue<'_>) -> FunctionValue<'_>
     ensures value { value_bytes result.value ≡ value_bytes value.entry }
     ensures known { result.is_known ≡ true }
 {
@@ -92,8 +92,8 @@ pub(crate) fn sight_value<'a, B, C: Counts>(
         SightFunction::DbDelete => cell_value(alloc, scope, b"DB", argument),
         SightFunction::QueueExists => {
             let exists = scope.counts.members(argument).is_some();
-            Ok(known(flag(exists)))
+            Ok(known_value(flag(exists)))
         }
-        SightFunction::QueueMemberCount => Ok(known(member_count(scope, argument))),
+        SightFunction::QueueMemberCount => Ok(known_value(member_count(scope, argument))),
     }
 }

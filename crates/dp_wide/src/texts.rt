@@ -218,9 +218,14 @@ fn join(alloc: Global, parts: &[&[u8]], delimiter: u8) -> Result<Vec<u8>, NoMemo
 ///
 /// The choice is one or more ranges, separated by `&`: `3`, `2-4`, `-3` or `2-`, counted from 1. A field is given once, in its own place,
 /// however often it is chosen. If a part is no such range the result is empty (a choice of this program).
-#[tactic(auto, unfolding(crate::specs::Texts::cut))]
-pub fn cut(alloc: Global, value: &[u8], delimiter: u8, fields: &[u8]) -> Result<Vec<u8>, NoMemory>
-    ensures { IfOk result (λ chosen. chosen.items ≡ spec.cut value.now delimiter fields.now) }
+#[tactic(auto, unfolding(crate::specs::Texts::cut_fields))]
+pub fn cut_fields(
+    alloc: Global,
+    value: &[u8],
+    delimiter: u8,
+    fields: &[u8],
+) -> Result<Vec<u8>, NoMemory>
+    ensures { IfOk result (λ chosen. chosen.items ≡ spec.cut_fields value.now delimiter fields.now) }
 {
     if !are_ranges(fields) {
         return Ok(Vec::new(alloc));

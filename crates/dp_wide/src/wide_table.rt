@@ -18,7 +18,7 @@ use crate::going::{WithGoing, goes_on};
 use crate::macros::{Macro, MacroExit};
 use crate::names::is_word_of;
 use crate::outside::{WithOutside, is_outside};
-use crate::placed::{BY_NAME, GOES_ON, OUTSIDE, Placed, placed_number};
+use crate::placed_applications::{BY_NAME, GOES_ON, OUTSIDE, Placed, placed_number};
 use crate::requests::inner_asked;
 use crate::settings::{MSet, SetWide};
 use crate::subroutines::{GosubIfWide, GosubWide};
@@ -31,21 +31,21 @@ use dp_vars::{Counts, Scope};
 use std::alloc::Global;
 
 /// The applications that only go on, those that run outside, and the twenty-one of this program.
-type Listed = WithGoing<WithOutside<StandardApps>>;
+type ListedApps = WithGoing<WithOutside<StandardApps>>;
 
 /// Those, and the applications that enter and leave subroutines and macros, or delete what is kept.
-type Calling = With<
+type ListedCalling = With<
     GosubWide,
-    With<GosubIfWide, With<Macro, With<MacroExit, With<DbDel, With<DbDelTree, Listed>>>>>,
+    With<GosubIfWide, With<Macro, With<MacroExit, With<DbDel, With<DbDelTree, ListedApps>>>>>,
 >;
 
 /// Those, and the applications that set names, or jump by the clock.
-type Own = With<SetWide, With<MSet, With<GotoIfTime, Calling>>>;
+type ListedOwn = With<SetWide, With<MSet, With<GotoIfTime, ListedCalling>>>;
 
 /// Those, and the applications that do not look at their arguments: all but `ExecIf`.
 type Inner = With<
     NoOp,
-    With<Verbose, With<Answer, With<Hangup, With<Busy, With<Congestion, Own>>>>>,
+    With<Verbose, With<Answer, With<Hangup, With<Busy, With<Congestion, ListedOwn>>>>>,
 >;
 
 /// The applications that do not look at their arguments, besides those that only go on or run outside.
@@ -82,7 +82,7 @@ fn inner_looks(name: &[u8]) -> bool
     if is_word_of(&OWN, name) {
         return true;
     }
-    Listed::looks_at_arguments(name)
+    ListedApps::looks_at_arguments(name)
 }
 
 /// Applications of the table that look at their arguments, and never ask for anything.
@@ -333,7 +333,7 @@ impl KnownTable for WideApps {
     }
 
     #[tactic(auto, unfolding(crate::specs::Wide::wide_asks))]
-    fn asked<B, C: Counts>(
+    fn unknown_need<B, C: Counts>(
         alloc: Global,
         scope: &Scope<'_, B, C>,
         name: &[u8],

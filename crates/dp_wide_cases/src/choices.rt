@@ -4,7 +4,7 @@ mod sides;
 mod times;
 
 use crate::choices::runs::{DEPTHS, RUNS, Ran};
-use crate::choices::sides::{CALLS, Called, VALUES, Value};
+use crate::choices::sides::{CALLS, CalledSide, IfValue, VALUES};
 use crate::choices::times::{CLOCKS, RANGES, SIDES, Timed};
 use dp_app::{AppTable, Cell, Exten, Move, Place, Target, TargetParts, With};
 use dp_case_tables::{check, check_all, push_bytes};
@@ -103,8 +103,8 @@ fn push_run(
 }
 
 fn check_sides(alloc: Global) -> Result<(), Fail> {
-    check::<Called>(alloc, CALLS)?;
-    check::<Value>(alloc, VALUES)
+    check::<CalledSide>(alloc, CALLS)?;
+    check::<IfValue>(alloc, VALUES)
 }
 
 /// A condition chooses between two sides, and a side is an application or a value.

@@ -43,15 +43,15 @@ impl Counts for TwoQueues {
 
 /// What a text sees: a channel unless it left, its variables, and the globals.
 #[derive(Drop)]
-struct World {
+struct SeenWorld {
     is_here: bool,
     store: Store<u32>,
     globals: Globals,
 }
 
-impl World {
-    fn new(alloc: Global) -> World {
-        World {
+impl SeenWorld {
+    fn new(alloc: Global) -> SeenWorld {
+        SeenWorld {
             is_here: true,
             store: Store::new(alloc),
             globals: Globals::new(alloc),
@@ -82,7 +82,7 @@ impl World {
 /// Sets what a word says: a variable, or else a global.
 fn set(
     alloc: Global,
-    world: &mut World,
+    world: &mut SeenWorld,
     word: &str,
     name: &[u8],
     value: &[u8],
@@ -94,7 +94,7 @@ fn set(
 }
 
 /// A step: `gone`, or `set` or `global` with `NAME=VALUE`.
-fn take_step(alloc: Global, world: &mut World, step: &str) -> Result<(), NoMemory> {
+fn take_step(alloc: Global, world: &mut SeenWorld, step: &str) -> Result<(), NoMemory> {
     let Some((word, rest)) = step.split_once(' ') else {
         world.is_here = step != "gone";
         return Ok(());
@@ -104,7 +104,7 @@ fn take_step(alloc: Global, world: &mut World, step: &str) -> Result<(), NoMemor
 }
 
 /// Takes the steps separated by ` ; `.
-fn take_all(alloc: Global, world: &mut World, steps: &str) -> Result<(), NoMemory> {
+fn take_all(alloc: Global, world: &mut SeenWorld, steps: &str) -> Result<(), NoMemory> {
     for step in steps.split(" ; ") {
         take_step(alloc, world, step)?;
     }
@@ -115,7 +115,7 @@ fn take_all(alloc: Global, world: &mut World, steps: &str) -> Result<(), NoMemor
 fn push_expansion(
     out: &mut String,
     alloc: Global,
-    world: &World,
+    world: &SeenWorld,
     text: &[u8],
 ) -> Result<(), NoMemory> {
     let scope = world.scope();
@@ -140,7 +140,7 @@ struct Expansion;
 impl Question for Expansion {
     fn answer(alloc: Global, asked: &str) -> Result<String, Fail> {
         let (steps, text) = asked.rsplit_once(" ; ").unwrap_or(("", asked));
-        let mut world = World::new(alloc);
+        let mut world = SeenWorld::new(alloc);
         take_all(alloc, &mut world, steps)?;
         let text = bytes_of(alloc, text)?;
         let mut out = String::new(alloc);
@@ -183,11 +183,11 @@ fn nested_calls(alloc: Global, depth: usize) -> Result<Vec<u8>, NoMemory> {
 }
 
 /// The first field of `a-b`, with this number of nested calls.
-struct Nested;
+struct NestedCalls;
 
-impl Question for Nested {
+impl Question for NestedCalls {
     fn answer(alloc: Global, asked: &str) -> Result<String, Fail> {
-        let mut world = World::new(alloc);
+        let mut world = SeenWorld::new(alloc);
         world.store.set(alloc, b"X", b"a-b")?;
         let text = nested_calls(alloc, asked.parse()?)?;
         let scope = world.scope();
@@ -216,7 +216,7 @@ const DEPTHS: &str = r"
 /// Calls that are nested too deep are empty and unknown.
 #[test]
 fn function_calls_nest_up_to_a_limit(rt: HostRuntime) -> Result<(), Fail> {
-    check::<Nested>(rt.alloc(), DEPTHS)
+    check::<NestedCalls>(rt.alloc(), DEPTHS)
 }
 
 /// Whether a name is that of a function.

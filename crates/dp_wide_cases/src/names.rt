@@ -4,7 +4,7 @@ mod kinds;
 mod looks;
 
 use crate::names::calls::{STORIES, Story};
-use crate::names::kinds::{KINDS, Kind, VARIABLES, Variable};
+use crate::names::kinds::{KINDS, KindOfNames, VARIABLES, Variable};
 use crate::names::looks::{AHEAD, Ahead};
 use dp_app::AppTable;
 use dp_case_tables::check;
@@ -26,7 +26,7 @@ fn machine_of<T: AppTable>(alloc: Global, lines: &str) -> Result<Machine<T>, Fai
 /// Each name of the lists does what its list says, in any case, and other names are those of the table after them.
 #[test]
 fn applications_of_the_lists_go_on_or_wait(rt: HostRuntime) -> Result<(), Fail> {
-    check::<Kind>(rt.alloc(), KINDS)
+    check::<KindOfNames>(rt.alloc(), KINDS)
 }
 
 /// What is known of an application that runs outside is reported anew each time.

@@ -9,15 +9,15 @@ mod variables;
 use crate::settings::calls::{MACROS, SUBROUTINES};
 use crate::settings::cells::{CALLERS, CELLS, DELETED, FUNCTIONS};
 use crate::settings::lists::{ARRAYS, SEVERAL};
-use crate::settings::runs::Run;
-use crate::settings::targets::{TARGETS, TargetOf};
+use crate::settings::runs::SettingsRun;
+use crate::settings::targets::{TARGETS, TargetOfSetting};
 use crate::settings::variables::VARIABLES;
 use dp_case_tables::{check, check_all};
 use std::alloc::Global;
 use std::test::Fail;
 
 fn check_settings(alloc: Global) -> Result<(), Fail> {
-    check_all::<Run>(
+    check_all::<SettingsRun>(
         alloc,
         &[
             VARIABLES, CELLS, FUNCTIONS, CALLERS, DELETED, ARRAYS, SEVERAL,
@@ -32,7 +32,7 @@ fn names_are_set_and_keys_are_deleted(rt: HostRuntime) -> Result<(), Fail> {
 }
 
 fn check_calls(alloc: Global) -> Result<(), Fail> {
-    check_all::<Run>(alloc, &[SUBROUTINES, MACROS])
+    check_all::<SettingsRun>(alloc, &[SUBROUTINES, MACROS])
 }
 
 /// Subroutines and macros are entered and left, and know their arguments.
@@ -42,7 +42,7 @@ fn subroutines_and_macros_are_entered_and_left(rt: HostRuntime) -> Result<(), Fa
 }
 
 fn check_targets(alloc: Global) -> Result<(), Fail> {
-    check::<TargetOf>(alloc, TARGETS)
+    check::<TargetOfSetting>(alloc, TARGETS)
 }
 
 /// What a name sets from outside.

@@ -2,16 +2,16 @@
 mod fields;
 mod letters;
 
-use crate::texts::fields::{COUNTS, CUTS, Count, Cut, DELIMITERS, Delimiter};
-use crate::texts::letters::{CAPITALS, Kept, Letters, SETS};
+use crate::texts::fields::{COUNTS, CUTS, ChosenFields, DELIMITERS, Delimiter, FieldCount};
+use crate::texts::letters::{CAPITALS, KeptBytes, Letters, SETS};
 use dp_case_tables::check;
 use std::alloc::Global;
 use std::test::Fail;
 
 fn check_fields(alloc: Global) -> Result<(), Fail> {
     check::<Delimiter>(alloc, DELIMITERS)?;
-    check::<Cut>(alloc, CUTS)?;
-    check::<Count>(alloc, COUNTS)
+    check::<ChosenFields>(alloc, CUTS)?;
+    check::<FieldCount>(alloc, COUNTS)
 }
 
 /// Values are cut into fields at a byte, and some of the fields are chosen.
@@ -21,7 +21,7 @@ fn values_are_cut_into_fields(rt: HostRuntime) -> Result<(), Fail> {
 }
 
 fn check_letters(alloc: Global) -> Result<(), Fail> {
-    check::<Kept>(alloc, SETS)?;
+    check::<KeptBytes>(alloc, SETS)?;
     check::<Letters>(alloc, CAPITALS)
 }
 

@@ -2,14 +2,14 @@
 mod moments;
 mod ranges;
 
-use crate::times::moments::{MOMENTS, Read};
+use crate::times::moments::{MOMENTS, WrittenMoment};
 use crate::times::ranges::{DAYS, Lies, MONTHS, TIMES, TOGETHER, WEEKDAYS};
 use dp_case_tables::{check, check_all};
 use std::alloc::Global;
 use std::test::Fail;
 
 fn check_moments(alloc: Global) -> Result<(), Fail> {
-    check::<Read>(alloc, MOMENTS)
+    check::<WrittenMoment>(alloc, MOMENTS)
 }
 
 /// Moments are read as they are written, with two digits for each number except the year.

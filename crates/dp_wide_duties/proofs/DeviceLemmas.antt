@@ -10,9 +10,9 @@ use Rattle.dp_conf.specs.Cut.{cut_once}
 use Rattle.dp_conf.specs.Words.{same_word}
 use Rattle.dp_conf.proofs.TextLemmas.{Avoids, cut_once-is, each-cut_front, each-cut_rest, each-front, each-rest, each-trim, each-weaker}
 use Rattle.dp_pieces.specs.Bytes.{Bytes, Within}
-use Rattle.dp_pieces.specs.Cuts.{At, Cutting, Nowhere, Unsure, cut_pieces, with_piece}
+use Rattle.dp_pieces.specs.Cuts.{At, CuttingOf, Nowhere, Unsure, cut_pieces, with_piece}
 use Rattle.dp_pieces.specs.Fitting.{IsCutAs}
-use Rattle.dp_pieces.specs.Pieces.{AnyOf, Fits, Known, OneOf, Piece, any_bytes_of, exactly, pieces_set, text_known}
+use Rattle.dp_pieces.specs.Pieces.{AnyOf, Fits, Known, OneOf, PieceOf, any_bytes_of, exactly, pieces_set, text_known}
 use Rattle.dp_pieces.specs.Trimmed.{without_end_blanks}
 use Rattle.dp_pieces.proofs.ArgumentLemmas.{and-both, other}
 use Rattle.dp_pieces.proofs.CutLemmas.{cut-pieces}
@@ -74,12 +74,12 @@ later-skip (b ∷ front) rest avoids =
     (λ i. if avoids.0 i then before 38 (front ++ rest) ∷ later_devices (front ++ rest) else later_devices (front ++ rest)) ∙ later-skip front rest avoids.1
 
 -- it is known whether pieces are cut
-abbrev IsSure : Cutting → Type 0
+abbrev IsSure : CuttingOf → Type 0
 IsSure Nowhere = Unit {0}
 IsSure Unsure = ⊥
 IsSure (At front rest) = Unit {0}
 
-sure-after : (piece : Piece) (cutting : Cutting) → IsSure (with_piece piece cutting) → IsSure cutting
+sure-after : (piece : PieceOf) (cutting : CuttingOf) → IsSure (with_piece piece cutting) → IsSure cutting
 sure-after piece Nowhere is = tt
 sure-after piece Unsure is = is
 sure-after piece (At front rest) is = tt
@@ -88,7 +88,7 @@ sure-after piece (At front rest) is = tt
 
 module _ (claim : Claim) where
   -- a place whose texts fit an area
-  pub led : (context exten : List Piece) → Meets claim (Leads (area_at context exten)) → (c e : List ℕ) → Fits context c → Fits exten e → (place : Place)
+  pub led : (context exten : List PieceOf) → Meets claim (Leads (area_at context exten)) → (c e : List ℕ) → Fits context c → Fits exten e → (place : Place)
       → StandsAt c e place → Covers claim.plan claim.reach place
   led context exten includes c e first second place at =
       includes place (record { context = subst (Fits context) (sym at.0) first; exten = subst (Fits exten) (sym at.1) second })
@@ -105,11 +105,11 @@ module _ (claim : Claim) where
       (fits-any_bytes_of set cut.0 (each-cut_front (λ b. set b ≡ true) 64 text cut.0 cut.1 parts within)) place at
 
   -- `EXTEN@CONTEXT` that fits pieces
-  place-led : (pieces : List Piece) (text : List ℕ) → Fits pieces text → MeetsAll claim (place_by pieces (cut_pieces 64 pieces)) → (place : Place) → IsAt text place
+  place-led : (pieces : List PieceOf) (text : List ℕ) → Fits pieces text → MeetsAll claim (place_by pieces (cut_pieces 64 pieces)) → (place : Place) → IsAt text place
       → Covers claim.plan claim.reach place
   place-led pieces text fits met place at = by (cut_pieces 64 pieces) (cut_once 64 text) refl (cut-pieces 64 pieces text fits) met at
     where
-      by : (cutting : Cutting) (cut : Option (List ℕ × List ℕ)) → cut_once 64 text ≡ cut → IsCutAs cutting cut → MeetsAll claim (place_by pieces cutting)
+      by : (cutting : CuttingOf) (cut : Option (List ℕ × List ℕ)) → cut_once 64 text ≡ cut → IsCutAs cutting cut → MeetsAll claim (place_by pieces cutting)
           → IsAtCut text cut place → Covers claim.plan claim.reach place
       by Nowhere None is like met at = led (exactly (codes "default")) pieces met.0 (codes "default") text (fits-exactly (codes "default")) fits place at
       by Nowhere (Some cut) is like met at = absurd cc
@@ -118,11 +118,11 @@ module _ (claim : Claim) where
       by (At exten context) (Some cut) is like met at = led context exten met.0 cut.1 cut.0 like.1 like.0 place at
 
   -- `EXTEN@CONTEXT/OPTIONS` that fits pieces
-  local-led : (pieces : List Piece) (text : List ℕ) → Fits pieces text → MeetsAll claim (local_by pieces (cut_pieces 47 pieces)) → (place : Place)
+  local-led : (pieces : List PieceOf) (text : List ℕ) → Fits pieces text → MeetsAll claim (local_by pieces (cut_pieces 47 pieces)) → (place : Place)
       → IsAt (before 47 text) place → Covers claim.plan claim.reach place
   local-led pieces text fits met place at = by (cut_pieces 47 pieces) (cut_once 47 text) refl (cut-pieces 47 pieces text fits) met at
     where
-      by : (cutting : Cutting) (cut : Option (List ℕ × List ℕ)) → cut_once 47 text ≡ cut → IsCutAs cutting cut → MeetsAll claim (local_by pieces cutting)
+      by : (cutting : CuttingOf) (cut : Option (List ℕ × List ℕ)) → cut_once 47 text ≡ cut → IsCutAs cutting cut → MeetsAll claim (local_by pieces cutting)
           → IsAt (before_cut text cut) place → Covers claim.plan claim.reach place
       by Nowhere None is like met at = place-led pieces text fits met place at
       by Nowhere (Some cut) is like met at = absurd cc
@@ -133,7 +133,7 @@ module _ (claim : Claim) where
       by (At front rest) (Some cut) is like met at = place-led front cut.0 like.0 met place at
 
   -- a device with a technology
-  technology-led : (technology pieces : List Piece) (name text : List ℕ) → Fits technology name → Fits pieces text → MeetsAll claim (technology_owed technology pieces)
+  technology-led : (technology pieces : List PieceOf) (name text : List ℕ) → Fits technology name → Fits pieces text → MeetsAll claim (technology_owed technology pieces)
       → same_word name (codes "Local") ≡ true → (place : Place) → IsAt (before 47 text) place → Covers claim.plan claim.reach place
   technology-led technology pieces name text named fits met local place at =
       local-led pieces text fits (subst (λ b. MeetsAll claim (if b then local_by pieces (cut_pieces 47 pieces) else [])) (is-known (text_known technology) refl) met) place at
@@ -155,7 +155,7 @@ module _ (claim : Claim) where
       (cut_once 64 (before 47 cut.1)) refl place at.1
 
   -- a device that fits pieces
-  device-led : (pieces : List Piece) (text : List ℕ) → Fits pieces text → MeetsAll claim (device_owed pieces) → (place : Place) → IsDevice text place
+  device-led : (pieces : List PieceOf) (text : List ℕ) → Fits pieces text → MeetsAll claim (device_owed pieces) → (place : Place) → IsDevice text place
       → Covers claim.plan claim.reach place
   device-led pieces text fits met place at =
       by (cut_pieces 47 (without_end_blanks pieces)) (cut_once 47 (trim text)) refl (cut-pieces 47 (without_end_blanks pieces) (trim text) trimmed) met at
@@ -163,7 +163,7 @@ module _ (claim : Claim) where
       trimmed : Fits (without_end_blanks pieces) (trim text)
       trimmed = fits-without_end_blanks pieces text fits
 
-      by : (cutting : Cutting) (cut : Option (List ℕ × List ℕ)) → cut_once 47 (trim text) ≡ cut → IsCutAs cutting cut
+      by : (cutting : CuttingOf) (cut : Option (List ℕ × List ℕ)) → cut_once 47 (trim text) ≡ cut → IsCutAs cutting cut
           → MeetsAll claim (device_by (without_end_blanks pieces) cutting) → IsDeviceCut cut place → Covers claim.plan claim.reach place
       by Nowhere None is like met at = absurd at
       by Nowhere (Some cut) is like met at = absurd cc
@@ -173,11 +173,11 @@ module _ (claim : Claim) where
       by (At front rest) (Some cut) is like met at = technology-led front rest cut.0 cut.1 like.0 like.1 met at.0 place at.1
 
   -- the first of several devices
-  first-led : (pieces : List Piece) (text : List ℕ) → Fits pieces text → MeetsAll claim (first_by pieces (cut_pieces 38 pieces)) → (place : Place)
+  first-led : (pieces : List PieceOf) (text : List ℕ) → Fits pieces text → MeetsAll claim (first_by pieces (cut_pieces 38 pieces)) → (place : Place)
       → IsDevice (before 38 text) place → Covers claim.plan claim.reach place
   first-led pieces text fits met place at = by (cut_pieces 38 pieces) (cut_once 38 text) refl (cut-pieces 38 pieces text fits) met at
     where
-      by : (cutting : Cutting) (cut : Option (List ℕ × List ℕ)) → cut_once 38 text ≡ cut → IsCutAs cutting cut → MeetsAll claim (first_by pieces cutting)
+      by : (cutting : CuttingOf) (cut : Option (List ℕ × List ℕ)) → cut_once 38 text ≡ cut → IsCutAs cutting cut → MeetsAll claim (first_by pieces cutting)
           → IsDevice (before_cut text cut) place → Covers claim.plan claim.reach place
       by Nowhere None is like met at = device-led pieces text fits met place at
       by Nowhere (Some cut) is like met at = absurd cc
@@ -204,13 +204,13 @@ module _ (claim : Claim) where
       by others false later = others later
 
   -- all devices, and the later ones alone, of texts that fit pieces
-  record AreLed (pieces : List Piece) : Type 0 where
+  record AreLed (pieces : List PieceOf) : Type 0 where
     all : (text : List ℕ) → Fits pieces text → MeetsAll claim (devices_from true pieces) → (place : Place) → IsOneDevice (devices text) place
         → Covers claim.plan claim.reach place
     later : (text : List ℕ) → Fits pieces text → IsSure (cut_pieces 38 pieces) → MeetsAll claim (devices_from false pieces) → (place : Place)
         → IsOneDevice (later_devices text) place → Covers claim.plan claim.reach place
 
-  all-led : (piece : Piece) (pieces : List Piece)
+  all-led : (piece : PieceOf) (pieces : List PieceOf)
       → ((text : List ℕ) → Fits (piece ∷ pieces) text → IsSure (cut_pieces 38 (piece ∷ pieces)) → MeetsAll claim (devices_from (separates piece) pieces) → (place : Place)
       → IsOneDevice (later_devices text) place → Covers claim.plan claim.reach place)
       → (text : List ℕ) → Fits (piece ∷ pieces) text → MeetsAll claim (devices_from true (piece ∷ pieces)) → (place : Place) → IsOneDevice (devices text) place
@@ -223,7 +223,7 @@ module _ (claim : Claim) where
       rest : MeetsAll claim (devices_from (separates piece) pieces)
       rest = each-rest (Meets claim) (first_by (piece ∷ pieces) (cut_pieces 38 (piece ∷ pieces))) (devices_from (separates piece) pieces) met
 
-      by : (cutting : Cutting) → cut_pieces 38 (piece ∷ pieces) ≡ cutting → IsOneDevice (later_devices text) place → Covers claim.plan claim.reach place
+      by : (cutting : CuttingOf) → cut_pieces 38 (piece ∷ pieces) ≡ cutting → IsOneDevice (later_devices text) place → Covers claim.plan claim.reach place
       by Nowhere is there = later text fits (subst IsSure (sym is) tt) rest place there
       by Unsure is there =
           unsure-later (pieces_set (piece ∷ pieces)) text (fits-set (piece ∷ pieces) text fits)
@@ -234,7 +234,7 @@ module _ (claim : Claim) where
       either (inl here) = first-led (piece ∷ pieces) text fits first place here
       either (inr there) = by (cut_pieces 38 (piece ∷ pieces)) refl there
 
-  later-known : (b : ℕ) (pieces : List Piece) → AreLed pieces → (text : List ℕ) → Fits (Known b ∷ pieces) text → IsSure (cut_pieces 38 (Known b ∷ pieces))
+  later-known : (b : ℕ) (pieces : List PieceOf) → AreLed pieces → (text : List ℕ) → Fits (Known b ∷ pieces) text → IsSure (cut_pieces 38 (Known b ∷ pieces))
       → MeetsAll claim (devices_from (separates (Known b)) pieces) → (place : Place) → IsOneDevice (later_devices text) place → Covers claim.plan claim.reach place
   unfolding Fits
   later-known b pieces are text fits sure met place at = by (b == 38) met sure (subst (λ t. IsOneDevice (later_devices t) place) fits.1 at)
@@ -244,7 +244,7 @@ module _ (claim : Claim) where
       by true met sure at = are.all fits.0 fits.2 met place at
       by false met sure at = are.later fits.0 fits.2 (sure-after (Known b) (cut_pieces 38 pieces) sure) met place at
 
-  later-one : (set : Bytes) (pieces : List Piece) → AreLed pieces → (text : List ℕ) → Fits (OneOf set ∷ pieces) text → IsSure (cut_pieces 38 (OneOf set ∷ pieces))
+  later-one : (set : Bytes) (pieces : List PieceOf) → AreLed pieces → (text : List ℕ) → Fits (OneOf set ∷ pieces) text → IsSure (cut_pieces 38 (OneOf set ∷ pieces))
       → MeetsAll claim (devices_from false pieces) → (place : Place) → IsOneDevice (later_devices text) place → Covers claim.plan claim.reach place
   unfolding Fits
   later-one set pieces are text fits sure met place at = by (set 38) refl sure
@@ -256,7 +256,7 @@ module _ (claim : Claim) where
           (subst (λ c. IsOneDevice (if c then before 38 fits.0.1 ∷ later_devices fits.0.1 else later_devices fits.0.1) place) (other set fits.0.0 38 fits.2 is)
           (subst (λ t. IsOneDevice (later_devices t) place) fits.1 at))
 
-  later-any : (set : Bytes) (pieces : List Piece) → AreLed pieces → (text : List ℕ) → Fits (AnyOf set ∷ pieces) text → IsSure (cut_pieces 38 (AnyOf set ∷ pieces))
+  later-any : (set : Bytes) (pieces : List PieceOf) → AreLed pieces → (text : List ℕ) → Fits (AnyOf set ∷ pieces) text → IsSure (cut_pieces 38 (AnyOf set ∷ pieces))
       → MeetsAll claim (devices_from false pieces) → (place : Place) → IsOneDevice (later_devices text) place → Covers claim.plan claim.reach place
   unfolding Fits
   later-any set pieces are text fits sure met place at = by (set 38) refl sure
@@ -269,7 +269,7 @@ module _ (claim : Claim) where
           (later-skip fits.0.0 fits.0.1 (each-weaker (λ b. set b ≡ true) (λ b. (b == 38) ≡ false) (λ b here. other set b 38 here is) fits.0.0 fits.2))
           (subst (λ t. IsOneDevice (later_devices t) place) fits.1 at))
 
-  each-led : (pieces : List Piece) → AreLed pieces
+  each-led : (pieces : List PieceOf) → AreLed pieces
   unfolding Fits
   each-led [] = record {
     all = λ text fits met place at. none place (subst (λ t. IsOneDevice (devices t) place) fits at);
@@ -290,6 +290,6 @@ module _ (claim : Claim) where
       record { all = all-led (AnyOf set) pieces later; later = later }
 
   -- the devices of a text that fits pieces
-  pub devices-led : (pieces : List Piece) (text : List ℕ) → Fits pieces text → MeetsAll claim (devices_owed pieces) → (place : Place) → IsOneDevice (devices text) place
+  pub devices-led : (pieces : List PieceOf) (text : List ℕ) → Fits pieces text → MeetsAll claim (devices_owed pieces) → (place : Place) → IsOneDevice (devices text) place
       → Covers claim.plan claim.reach place
   devices-led pieces text fits met place at = (each-led pieces).all text fits met place at

@@ -2,10 +2,10 @@
 use Rattle.std.proofs.Common.{◌≡◌, ℕ, List, Option, Some, None, sym, ap, ◌∙◌, subst}
 use Rattle.std.specs.Prelude.{MatchOption}
 use Rattle.std.specs.Global.{Vec}
-use Rattle.dp_pieces.specs.Pieces.{Piece, exactly, text_known}
+use Rattle.dp_pieces.specs.Pieces.{PieceOf, exactly, text_known}
 use Rattle.dp_pieces.proofs.SetLemmas.{never-unknown, text-exactly}
 
-module _ (text : Option (Vec ℕ)) (cut : Option (List ℕ × List Piece)) (front rest : List Piece) (known : MatchOption text (text_known front ≡ None) (λ bytes. text_known front ≡ Some bytes.items))
+module _ (text : Option (Vec ℕ)) (cut : Option (List ℕ × List PieceOf)) (front rest : List PieceOf) (known : MatchOption text (text_known front ≡ None) (λ bytes. text_known front ≡ Some bytes.items))
     (headed : (name : List ℕ) × (cut ≡ Some (name, rest)) × (front ≡ exactly name)) where
   -- there is such a text
   pub front-never : text ≡ None → None ≡ cut

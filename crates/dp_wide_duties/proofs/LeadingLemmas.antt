@@ -8,7 +8,7 @@ use Rattle.dp_conf.proofs.TextLemmas.{each-front, each-rest}
 use Rattle.dp_pieces.specs.Arguments.{are_clean, shapes_of}
 use Rattle.dp_pieces.specs.Bytes.{Bytes, Within}
 use Rattle.dp_pieces.specs.Fitting.{AllFit}
-use Rattle.dp_pieces.specs.Pieces.{AnyOf, Fits, Known, OneOf, Piece, any_bytes_of, exactly, pieces_set, text_known}
+use Rattle.dp_pieces.specs.Pieces.{AnyOf, Fits, Known, OneOf, PieceOf, any_bytes_of, exactly, pieces_set, text_known}
 use Rattle.dp_pieces.proofs.ArgumentLemmas.{fits-arguments}
 use Rattle.dp_pieces.proofs.FitsLemmas.{fits-any_bytes_of, fits-exactly, fits-nothing, fits-set, fits-text_known}
 use Rattle.dp_pieces.proofs.WithinLemmas.{either-left, either-right}
@@ -29,14 +29,14 @@ use Rattle.dp_wide_duties.specs.ExchangePlaces.{CoversLeading, IsDialledInto, Le
 use Rattle.dp_wide_duties.specs.Naming.{naming_leads}
 use Rattle.dp_wide_duties.specs.OptionTexts.{CoversMemberAt, CoversOptionsAt}
 use Rattle.dp_wide_duties.specs.Options.{options_owed, started_owed}
-use Rattle.dp_wide_duties.specs.Places.{any_in, dialled, dialled_into, directory_leads, disa_leads, first_listed, if_empty, invalid_in, listed, mail_leads}
+use Rattle.dp_wide_duties.specs.Places.{any_in, dialled_bytes, dialled_into, directory_leads, disa_leads, first_listed, if_empty, invalid_in, mailbox_bytes, mail_leads}
 use Rattle.dp_wide_duties.specs.Transfers.{may_transfer, transfer_owed}
 use Rattle.dp_wide_duties.proofs.DeviceLemmas.{devices-led, led}
 use Rattle.dp_wide_duties.proofs.OptionLemmas.{member-covers, options-covers}
 
 -- ---- arguments
 
-fit-get : (shapes : List (List Piece)) (texts : List (List ℕ)) → AllFit shapes texts → (number : ℕ)
+fit-get : (shapes : List (List PieceOf)) (texts : List (List ℕ)) → AllFit shapes texts → (number : ℕ)
     → Fits (unwrap_or (slice_get shapes number) []) (unwrap_or (slice_get texts number) [])
 fit-get [] [] fit number = fits-nothing
 fit-get [] (text ∷ texts) fit number = absurd fit
@@ -50,7 +50,7 @@ within-get set (text ∷ texts) all zero = all.0
 within-get set (text ∷ texts) all (suc number) = within-get set texts all.1 number
 
 -- an argument fits the pieces of the argument with this number
-fits-argument : (number : ℕ) (pieces : List Piece) (arguments : List ℕ) → Fits pieces arguments → Fits (argument number pieces) (argument_text number arguments)
+fits-argument : (number : ℕ) (pieces : List PieceOf) (arguments : List ℕ) → Fits pieces arguments → Fits (argument number pieces) (argument_text number arguments)
 fits-argument number pieces arguments fits = by (are_clean 0 pieces) refl
   where
     by : (clean : Bool) → are_clean 0 pieces ≡ clean
@@ -65,7 +65,7 @@ none-after : (front rest : List ℕ) → [] ≡ front ++ rest → rest ≡ []
 none-after [] rest is = sym is
 none-after (b ∷ front) rest is = absurd cc
 
-fits-empty : (pieces : List Piece) → Fits pieces [] → may_be_empty pieces ≡ true
+fits-empty : (pieces : List PieceOf) → Fits pieces [] → may_be_empty pieces ≡ true
 unfolding Fits
 fits-empty [] fits = refl
 fits-empty (Known b ∷ pieces) fits = absurd (let no : [] ≡ b ∷ fits.0 = fits.1 in let never : ⊥ = cc in never)
@@ -95,36 +95,36 @@ module _ (claim : Claim) where
   met-rest : (front rest : List Duty) → MeetsAll claim (front ++ rest) → MeetsAll claim rest
   met-rest front rest met = each-rest (Meets claim) front rest met
 
-  met-empty : (pieces : List Piece) (duties : List Duty) → Fits pieces [] → MeetsAll claim (if_empty pieces duties) → MeetsAll claim duties
+  met-empty : (pieces : List PieceOf) (duties : List Duty) → Fits pieces [] → MeetsAll claim (if_empty pieces duties) → MeetsAll claim duties
   met-empty pieces duties fits met = subst (λ b. MeetsAll claim (if b then duties else [])) (fits-empty pieces fits) met
 
   -- an extension with bytes of a set, in a context that an argument names
-  any_in-led : (set : Bytes) (context : List Piece) (b : ℕ) (text : List ℕ) → Fits context (b ∷ text) → MeetsAll claim (any_in set context) → (place : Place)
+  any_in-led : (set : Bytes) (context : List PieceOf) (b : ℕ) (text : List ℕ) → Fits context (b ∷ text) → MeetsAll claim (any_in set context) → (place : Place)
       → place.context ≡ b ∷ text → Within set place.exten → Covers claim.plan claim.reach place
   any_in-led set [] b text fits met place same within = absurd (fits-some b text fits)
   any_in-led set (piece ∷ pieces) b text fits met place same within =
       led claim (piece ∷ pieces) (any_bytes_of set) met.0 (b ∷ text) place.exten fits (fits-any_bytes_of set place.exten within) place (same, refl)
 
-  invalid_in-led : (context : List Piece) (b : ℕ) (text : List ℕ) → Fits context (b ∷ text) → MeetsAll claim (invalid_in context) → (place : Place)
+  invalid_in-led : (context : List PieceOf) (b : ℕ) (text : List ℕ) → Fits context (b ∷ text) → MeetsAll claim (invalid_in context) → (place : Place)
       → StandsAt (b ∷ text) (codes "i") place → Covers claim.plan claim.reach place
   invalid_in-led [] b text fits met place at = absurd (fits-some b text fits)
   invalid_in-led (piece ∷ pieces) b text fits met place at =
       led claim (piece ∷ pieces) (exactly (codes "i")) met.0 (b ∷ text) (codes "i") fits (fits-exactly (codes "i")) place at
 
-  dialled-led : (context : List Piece) (b : ℕ) (text : List ℕ) → Fits context (b ∷ text) → MeetsAll claim (dialled_into context) → (place : Place)
+  dialled-led : (context : List PieceOf) (b : ℕ) (text : List ℕ) → Fits context (b ∷ text) → MeetsAll claim (dialled_into context) → (place : Place)
       → IsDialledInto (b ∷ text) place → Covers claim.plan claim.reach place
   dialled-led context b text fits met place is = by is.1
     where
-      by : Within dialled place.exten ⊎ (place.exten ≡ codes "i") → Covers claim.plan claim.reach place
-      by (inl within) = any_in-led dialled context b text fits (met-front (any_in dialled context) (invalid_in context) met) place is.0 within
-      by (inr exten) = invalid_in-led context b text fits (met-rest (any_in dialled context) (invalid_in context) met) place (is.0, exten)
+      by : Within dialled_bytes place.exten ⊎ (place.exten ≡ codes "i") → Covers claim.plan claim.reach place
+      by (inl within) = any_in-led dialled_bytes context b text fits (met-front (any_in dialled_bytes context) (invalid_in context) met) place is.0 within
+      by (inr exten) = invalid_in-led context b text fits (met-rest (any_in dialled_bytes context) (invalid_in context) met) place (is.0, exten)
 
-  transfer-led : (area : Area) (own : Place) → IsIn area own → (options : List Piece) (text : List ℕ) → Fits options text → MeetsAll claim (transfer_owed area options)
-      → (has_letter 116 text || has_letter 84 text) ≡ true → (place : Place) → place.context ≡ own.context → Within dialled place.exten
+  transfer-led : (area : Area) (own : Place) → IsIn area own → (options : List PieceOf) (text : List ℕ) → Fits options text → MeetsAll claim (transfer_owed area options)
+      → (has_letter 116 text || has_letter 84 text) ≡ true → (place : Place) → place.context ≡ own.context → Within dialled_bytes place.exten
       → Covers claim.plan claim.reach place
   transfer-led area own inside options text fits met has place same within =
-      led claim area.context (any_bytes_of dialled) (subst (λ b. MeetsAll claim (if b then Leads (area_at area.context (any_bytes_of dialled)) ∷ [] else [])) may met).0
-      own.context place.exten inside.context (fits-any_bytes_of dialled place.exten within) place (same, refl)
+      led claim area.context (any_bytes_of dialled_bytes) (subst (λ b. MeetsAll claim (if b then Leads (area_at area.context (any_bytes_of dialled_bytes)) ∷ [] else [])) may met).0
+      own.context place.exten inside.context (fits-any_bytes_of dialled_bytes place.exten within) place (same, refl)
     where
       by : (small : Bool) → has_letter 116 text ≡ small → (small || has_letter 84 text) ≡ true → may_transfer options ≡ true
       by true is any = either-left (pieces_set options 116) (pieces_set options 84) (letter-within (pieces_set options) 116 text (fits-set options text fits) is)
@@ -134,7 +134,7 @@ module _ (claim : Claim) where
       may = by (has_letter 116 text) refl has
 
   -- an extension, or `s`
-  exten-led : (context exten : List Piece) (c : List ℕ) → Fits context c → (e : List ℕ) → Fits exten e → MeetsAll claim (exten_or_start context exten) → (place : Place)
+  exten-led : (context exten : List PieceOf) (c : List ℕ) → Fits context c → (e : List ℕ) → Fits exten e → MeetsAll claim (exten_or_start context exten) → (place : Place)
       → StandsAt c (or_text e (codes "s")) place → Covers claim.plan claim.reach place
   exten-led context exten c first [] second met place at =
       led claim context (exactly (codes "s"))
@@ -208,22 +208,22 @@ directory-covers claim area pieces own arguments inside fits met place leads =
     first : (text : List ℕ) → Fits (argument 0 pieces) text → MeetsAll claim (first_listed (argument 0 pieces)) → place.context ≡ or_text text (codes "default")
         → Covers claim.plan claim.reach place
     first [] fits met same =
-        any_in-led claim listed (exactly (codes "default")) 100 (codes "efault") (fits-exactly (codes "default"))
-        (met-empty claim (argument 0 pieces) (any_in listed (exactly (codes "default"))) fits
-        (met-rest claim (any_in listed (argument 0 pieces)) (if_empty (argument 0 pieces) (any_in listed (exactly (codes "default")))) met)) place same leads.1
+        any_in-led claim mailbox_bytes (exactly (codes "default")) 100 (codes "efault") (fits-exactly (codes "default"))
+        (met-empty claim (argument 0 pieces) (any_in mailbox_bytes (exactly (codes "default"))) fits
+        (met-rest claim (any_in mailbox_bytes (argument 0 pieces)) (if_empty (argument 0 pieces) (any_in mailbox_bytes (exactly (codes "default")))) met)) place same leads.1
     first (b ∷ text) fits met same =
-        any_in-led claim listed (argument 0 pieces) b text fits
-        (met-front claim (any_in listed (argument 0 pieces)) (if_empty (argument 0 pieces) (any_in listed (exactly (codes "default")))) met) place same leads.1
+        any_in-led claim mailbox_bytes (argument 0 pieces) b text fits
+        (met-front claim (any_in mailbox_bytes (argument 0 pieces)) (if_empty (argument 0 pieces) (any_in mailbox_bytes (exactly (codes "default")))) met) place same leads.1
 
     by : (text : List ℕ) → Fits (argument 1 pieces) text → place.context ≡ or_text text (or_text (argument_text 0 arguments) (codes "default"))
         → Covers claim.plan claim.reach place
     by [] second same =
         first (argument_text 0 arguments) (fits-argument 0 pieces arguments fits)
         (met-empty claim (argument 1 pieces) (first_listed (argument 0 pieces)) second
-        (met-rest claim (any_in listed (argument 1 pieces)) (if_empty (argument 1 pieces) (first_listed (argument 0 pieces))) met)) same
+        (met-rest claim (any_in mailbox_bytes (argument 1 pieces)) (if_empty (argument 1 pieces) (first_listed (argument 0 pieces))) met)) same
     by (b ∷ text) second same =
-        any_in-led claim listed (argument 1 pieces) b text second
-        (met-front claim (any_in listed (argument 1 pieces)) (if_empty (argument 1 pieces) (first_listed (argument 0 pieces))) met) place same leads.1
+        any_in-led claim mailbox_bytes (argument 1 pieces) b text second
+        (met-front claim (any_in mailbox_bytes (argument 1 pieces)) (if_empty (argument 1 pieces) (first_listed (argument 0 pieces))) met) place same leads.1
 
 mail-covers : CoversLeading mail_leads mail_leading
 mail-covers claim area pieces own arguments inside fits met place leads = by leads.1

@@ -8,9 +8,9 @@ use Rattle.dp_conf.specs.Blanks.{trim}
 use Rattle.dp_conf.specs.Levels.{cut_outside}
 use Rattle.dp_conf.proofs.TextLemmas.{each-front, each-rest, either-false}
 use Rattle.dp_pieces.specs.Bytes.{Bytes, Within, either}
-use Rattle.dp_pieces.specs.Cuts.{At, Cutting, Nowhere, Unsure, cut_level}
+use Rattle.dp_pieces.specs.Cuts.{At, CuttingOf, Nowhere, Unsure, cut_level}
 use Rattle.dp_pieces.specs.Fitting.{IsCutAs}
-use Rattle.dp_pieces.specs.Pieces.{AnyOf, Fits, Known, OneOf, Piece, any_bytes_of, bytes_in, exactly, piece_set, pieces_set}
+use Rattle.dp_pieces.specs.Pieces.{AnyOf, Fits, Known, OneOf, PieceOf, any_bytes_of, bytes_in, exactly, piece_set, pieces_set}
 use Rattle.dp_pieces.specs.Trimmed.{without_end_blanks}
 use Rattle.dp_pieces.proofs.CutLemmas.{cut-level}
 use Rattle.dp_pieces.proofs.FitsLemmas.{fits-any_bytes_of, fits-exactly, fits-set}
@@ -50,7 +50,7 @@ commas-within : (set : Bytes) (text : List ℕ) → Within set text → Within (
 commas-within set [] within = tt
 commas-within set (b ∷ text) within = (comma-set set b within.0, commas-within set text within.1)
 
-fits-commas : (pieces : List Piece) (text : List ℕ) → Fits pieces text → Fits (with_commas pieces) (commas text)
+fits-commas : (pieces : List PieceOf) (text : List ℕ) → Fits pieces text → Fits (with_commas pieces) (commas text)
 unfolding Fits
 fits-commas [] text fits = subst (λ t. Fits [] (commas t)) (sym fits) refl
 fits-commas (Known c ∷ pieces) text fits =
@@ -74,41 +74,41 @@ unfolding cut_outside
 within-outside set mark text within None is = within
 within-outside set mark text within (Some cut) is = (cut-within set mark text [] cut.0 cut.1 within tt is).0
 
-inside-fits : (pieces : List Piece) (text : List ℕ) → Fits pieces text → Fits (inside_by pieces (cut_level 41 0 pieces)) (before_cut text (cut_outside 41 text))
+inside-fits : (pieces : List PieceOf) (text : List ℕ) → Fits pieces text → Fits (inside_by pieces (cut_level 41 0 pieces)) (before_cut text (cut_outside 41 text))
 inside-fits pieces text fits = by (cut_level 41 0 pieces) (cut_outside 41 text) refl (cut-level 41 pieces text fits)
   where
-    by : (cutting : Cutting) (cut : Option (List ℕ × List ℕ)) → cut_outside 41 text ≡ cut → IsCutAs cutting cut → Fits (inside_by pieces cutting) (before_cut text cut)
+    by : (cutting : CuttingOf) (cut : Option (List ℕ × List ℕ)) → cut_outside 41 text ≡ cut → IsCutAs cutting cut → Fits (inside_by pieces cutting) (before_cut text cut)
     by Nowhere None is like = fits
     by Nowhere (Some cut) is like = absurd cc
     by Unsure cut is like = fits-any_bytes_of (pieces_set pieces) (before_cut text cut) (within-outside (pieces_set pieces) 41 text (fits-set pieces text fits) cut is)
     by (At front rest) None is like = absurd like
     by (At front rest) (Some cut) is like = like.0
 
-option_text-fits : (pieces : List Piece) (text : List ℕ) → Fits pieces text → Fits (option_text pieces) (commas (before_cut text (cut_outside 41 text)))
+option_text-fits : (pieces : List PieceOf) (text : List ℕ) → Fits pieces text → Fits (option_text pieces) (commas (before_cut text (cut_outside 41 text)))
 option_text-fits pieces text fits = fits-commas (inside_by pieces (cut_level 41 0 pieces)) (before_cut text (cut_outside 41 text)) (inside-fits pieces text fits)
 
 -- ---- where the text of an option opens
 
 -- the pieces begin with a `(`, and the rest fits the text after it
-abbrev BeginsOpen : List Piece → List ℕ → Type 0
+abbrev BeginsOpen : List PieceOf → List ℕ → Type 0
 BeginsOpen [] text = ⊥
 BeginsOpen (Known b ∷ pieces) text = (opens (Known b) ≡ true) × Fits pieces text
 BeginsOpen (OneOf set ∷ pieces) text = ⊥
 BeginsOpen (AnyOf set ∷ pieces) text = ⊥
 
-begins-open : (pieces : List Piece) (text : List ℕ) → BeginsOpen pieces text → begin_open pieces ≡ true
+begins-open : (pieces : List PieceOf) (text : List ℕ) → BeginsOpen pieces text → begin_open pieces ≡ true
 begins-open [] text is = absurd is
 begins-open (Known b ∷ pieces) text is = is.0
 begins-open (OneOf set ∷ pieces) text is = absurd is
 begins-open (AnyOf set ∷ pieces) text is = absurd is
 
 -- what is known of pieces that are sure
-record IsSure (piece : Piece) (pieces : List Piece) : Type 0 where
+record IsSure (piece : PieceOf) (pieces : List PieceOf) : Type 0 where
   closed : may_open piece ≡ false
   shows : hides_letter piece pieces ≡ false
   later : are_unsure pieces ≡ false
 
-sure : (piece : Piece) (pieces : List Piece) → are_unsure (piece ∷ pieces) ≡ false → IsSure piece pieces
+sure : (piece : PieceOf) (pieces : List PieceOf) → are_unsure (piece ∷ pieces) ≡ false → IsSure piece pieces
 sure piece pieces is =
     let first = either-false (may_open piece) (hides_letter piece pieces || are_unsure pieces) is in
     let second = either-false (hides_letter piece pieces) (are_unsure pieces) first.1 in
@@ -117,17 +117,17 @@ sure piece pieces is =
 never : (a : Bool) → a ≡ true → a ≡ false → ⊥
 never a is not = let no : true ≡ false = sym is ∙ not in absurd cc
 
-opened : (pieces : List Piece) → are_unsure pieces ≡ false → (text : List ℕ) → Fits pieces (40 ∷ text) → BeginsOpen pieces text
+begins_open : (pieces : List PieceOf) → are_unsure pieces ≡ false → (text : List ℕ) → Fits pieces (40 ∷ text) → BeginsOpen pieces text
 unfolding Fits
-opened [] is text fits = let no : 40 ∷ text ≡ [] = fits in absurd cc
-opened (Known b ∷ pieces) is text fits =
+begins_open [] is text fits = let no : 40 ∷ text ≡ [] = fits in absurd cc
+begins_open (Known b ∷ pieces) is text fits =
     let same : b ≡ 40 = cc in
     let rest : fits.0 ≡ text = cc in
     (eq-eqb b 40 same, subst (Fits pieces) rest fits.2)
-opened (OneOf set ∷ pieces) is text fits =
+begins_open (OneOf set ∷ pieces) is text fits =
     let same : fits.0.0 ≡ 40 = cc in
     never (set 40) (subst (λ c. set c ≡ true) same fits.2) (sure (OneOf set) pieces is).closed
-opened (AnyOf set ∷ pieces) is text fits = by (λ f. opened pieces (sure (AnyOf set) pieces is).later text f) fits.0.0 fits.0.1 fits.1 fits.2 fits.3
+begins_open (AnyOf set ∷ pieces) is text fits = by (λ f. begins_open pieces (sure (AnyOf set) pieces is).later text f) fits.0.0 fits.0.1 fits.1 fits.2 fits.3
   where
     by : (Fits pieces (40 ∷ text) → BeginsOpen pieces text) → (front rest : List ℕ) → 40 ∷ text ≡ front ++ rest → Within set front → Fits pieces rest → ⊥
     by later [] rest same within fits =
@@ -146,7 +146,7 @@ module _ (claim : Claim) (area : Area) where
   -- the duties of an option with a letter and a text are met
   record IsOwed (letter : ℕ) (text : List ℕ) : Type 0 where
     set : Bytes
-    shape : List Piece
+    shape : List PieceOf
     has : set letter ≡ true
     fits : Fits shape text
     met : MeetsAll claim (option_owed area set shape)
@@ -155,7 +155,7 @@ module _ (claim : Claim) (area : Area) where
     abbrev inner : List ℕ
     inner = commas (before_cut rest (cut_outside 41 rest))
 
-    here-owed : (piece : Piece) (pieces : List Piece) → piece_set piece letter ≡ true → MeetsAll claim (letter_owed area piece pieces) → BeginsOpen pieces rest
+    here-owed : (piece : PieceOf) (pieces : List PieceOf) → piece_set piece letter ≡ true → MeetsAll claim (letter_owed area piece pieces) → BeginsOpen pieces rest
         → IsOwed letter inner
     here-owed piece [] has met is = absurd is
     here-owed piece (OneOf set ∷ pieces) has met is = absurd is
@@ -169,31 +169,31 @@ module _ (claim : Claim) (area : Area) where
     }
 
     -- the option in texts that fit pieces
-    abbrev Finds : List Piece → Type 0
+    abbrev Finds : List PieceOf → Type 0
     Finds pieces = (options before : List ℕ) → Fits pieces options → options ≡ before ++ letter ∷ 40 ∷ rest → IsOwed letter inner
 
     -- a byte before the texts
-    step-owed : (piece : Piece) (pieces : List Piece) → are_unsure (piece ∷ pieces) ≡ false → MeetsAll claim (letter_owed area piece pieces) → Finds pieces
+    step-owed : (piece : PieceOf) (pieces : List PieceOf) → are_unsure (piece ∷ pieces) ≡ false → MeetsAll claim (letter_owed area piece pieces) → Finds pieces
         → (b : ℕ) (later before : List ℕ) → piece_set piece b ≡ true → Fits pieces later → b ∷ later ≡ before ++ letter ∷ 40 ∷ rest → IsOwed letter inner
     step-owed piece pieces is met finds b later [] has fits whole =
         let same : b ≡ letter = cc in
         let after : later ≡ 40 ∷ rest = cc in
         here-owed piece pieces (subst (λ c. piece_set piece c ≡ true) same has) met
-        (opened pieces (sure piece pieces is).later rest (subst (Fits pieces) after fits))
+        (begins_open pieces (sure piece pieces is).later rest (subst (Fits pieces) after fits))
     step-owed piece pieces is met finds b later (x ∷ before) has fits whole =
         finds later before fits (let after : later ≡ before ++ letter ∷ 40 ∷ rest = cc in after)
 
-    any-owed : (set : Bytes) (pieces : List Piece) → are_unsure (AnyOf set ∷ pieces) ≡ false → Finds pieces → (front later before : List ℕ) → Within set front
+    any-owed : (set : Bytes) (pieces : List PieceOf) → are_unsure (AnyOf set ∷ pieces) ≡ false → Finds pieces → (front later before : List ℕ) → Within set front
         → Fits pieces later → front ++ later ≡ before ++ letter ∷ 40 ∷ rest → IsOwed letter inner
     unfolding Fits
     any-owed set pieces is finds [] later before within fits whole = finds later before fits whole
     any-owed set pieces is finds (b ∷ front) later [] within fits whole =
         let after : 40 ∷ rest ≡ front ++ later = cc in
-        absurd (opened (AnyOf set ∷ pieces) is rest ((front, later), after, within.1, fits))
+        absurd (begins_open (AnyOf set ∷ pieces) is rest ((front, later), after, within.1, fits))
     any-owed set pieces is finds (b ∷ front) later (x ∷ before) within fits whole =
         any-owed set pieces is finds front later before within.1 fits (let after : front ++ later ≡ before ++ letter ∷ 40 ∷ rest = cc in after)
 
-    finds-owed : (pieces : List Piece) → are_unsure pieces ≡ false → MeetsAll claim (known_owed area pieces) → Finds pieces
+    finds-owed : (pieces : List PieceOf) → are_unsure pieces ≡ false → MeetsAll claim (known_owed area pieces) → Finds pieces
     unfolding Fits
     finds-owed [] is met options before fits whole = absurd (no-more before letter (40 ∷ rest) (sym fits ∙ whole))
     finds-owed (Known b ∷ pieces) is met options before fits whole =
@@ -210,7 +210,7 @@ module _ (claim : Claim) (area : Area) where
         fits.0.0 fits.0.1 before fits.2 fits.3 (sym fits.1 ∙ whole)
 
   -- each option of a text that fits pieces
-  each-owed : (pieces : List Piece) (options : List ℕ) → Fits pieces options → MeetsAll claim (options_owed area pieces) → (letter : ℕ) (text : List ℕ)
+  each-owed : (pieces : List PieceOf) (options : List ℕ) → Fits pieces options → MeetsAll claim (options_owed area pieces) → (letter : ℕ) (text : List ℕ)
       → IsOption options letter text → IsOwed letter text
   each-owed pieces options fits met letter text option = subst (IsOwed letter) (sym option.inside) (by (are_unsure pieces) refl met)
     where
@@ -260,11 +260,11 @@ place-letter set letter has is = by (letter == byte "b") refl (letter == byte "B
     by false ii false jj false kk false ll any = absurd cc
 
 -- the start of a subroutine
-routine-led : (claim : Claim) (pieces : List Piece) (text : List ℕ) → Fits pieces text → MeetsAll claim (routine_by pieces (cut_level 44 0 pieces)) → (place : Place)
+routine-led : (claim : Claim) (pieces : List PieceOf) (text : List ℕ) → Fits pieces text → MeetsAll claim (routine_by pieces (cut_level 44 0 pieces)) → (place : Place)
     → StandsAt (trim (before_cut text (cut_outside 44 text))) (codes "s") place → Covers claim.plan claim.reach place
 routine-led claim pieces text fits met place at = by (cut_level 44 0 pieces) (cut_outside 44 text) refl (cut-level 44 pieces text fits) met at
   where
-    by : (cutting : Cutting) (cut : Option (List ℕ × List ℕ)) → cut_outside 44 text ≡ cut → IsCutAs cutting cut → MeetsAll claim (routine_by pieces cutting)
+    by : (cutting : CuttingOf) (cut : Option (List ℕ × List ℕ)) → cut_outside 44 text ≡ cut → IsCutAs cutting cut → MeetsAll claim (routine_by pieces cutting)
         → StandsAt (trim (before_cut text cut)) (codes "s") place → Covers claim.plan claim.reach place
     by Nowhere None is like met at =
         led claim (without_end_blanks pieces) (exactly (codes "s")) met.0 (trim text) (codes "s") (fits-without_end_blanks pieces text fits) (fits-exactly (codes "s")) place at
@@ -314,21 +314,21 @@ fits-some : (b : ℕ) (text : List ℕ) → Fits [] (b ∷ text) → ⊥
 unfolding Fits
 fits-some b text fits = let no : b ∷ text ≡ [] = fits in absurd cc
 
-started-macro : (claim : Claim) (area : Area) (cell : CellOf) → IsGood claim cell → IsIn area cell.place → Covers claim.plan claim.reach cell.place → (pieces : List Piece)
+started-macro : (claim : Claim) (area : Area) (cell : CellOf) → IsGood claim cell → IsIn area cell.place → Covers claim.plan claim.reach cell.place → (pieces : List PieceOf)
     (text : List ℕ) → Fits pieces text → MeetsAll claim (started_macro area pieces) → text ≢ [] → IsInside claim cell.place (macro_row (commas text) cell)
 started-macro claim area cell good inside own [] [] fits met some = absurd (some refl)
 started-macro claim area cell good inside own [] (b ∷ text) fits met some = absurd (fits-some b text fits)
 started-macro claim area cell good inside own (piece ∷ pieces) text fits met some =
     macro-bounded claim area (with_commas (piece ∷ pieces)) (commas text) cell good inside own (fits-commas (piece ∷ pieces) text fits) met
 
-started-routine : (claim : Claim) (pieces : List Piece) (text : List ℕ) → Fits pieces text → MeetsAll claim (started_routine pieces) → text ≢ [] → (place : Place)
+started-routine : (claim : Claim) (pieces : List PieceOf) (text : List ℕ) → Fits pieces text → MeetsAll claim (started_routine pieces) → text ≢ [] → (place : Place)
     → StandsAt (trim (before_cut (commas text) (cut_outside 44 (commas text)))) (codes "s") place → Covers claim.plan claim.reach place
 started-routine claim [] [] fits met some place at = absurd (some refl)
 started-routine claim [] (b ∷ text) fits met some place at = absurd (fits-some b text fits)
 started-routine claim (piece ∷ pieces) text fits met some place at =
     routine-led claim (with_commas (piece ∷ pieces)) (commas text) (fits-commas (piece ∷ pieces) text fits) met.1 place at
 
-pub member-covers : (claim : Claim) (area : Area) (macro routine : List Piece) (macro_text routine_text : List ℕ) (cell : CellOf) → IsGood claim cell → IsIn area cell.place
+pub member-covers : (claim : Claim) (area : Area) (macro routine : List PieceOf) (macro_text routine_text : List ℕ) (cell : CellOf) → IsGood claim cell → IsIn area cell.place
     → Covers claim.plan claim.reach cell.place → Fits macro macro_text → Fits routine routine_text → MeetsAll claim (started_owed area macro routine)
     → RunsMember claim macro_text routine_text cell
 member-covers claim area macro routine macro_text routine_text cell good inside own first second met = record {

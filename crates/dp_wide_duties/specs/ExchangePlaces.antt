@@ -10,12 +10,12 @@ use Rattle.dp_conf.specs.Cut.{cut_once}
 use Rattle.dp_conf.specs.Levels.{arguments_of}
 use Rattle.dp_conf.specs.Words.{same_word}
 use Rattle.dp_pieces.specs.Bytes.{Within}
-use Rattle.dp_pieces.specs.Pieces.{Fits, Piece}
+use Rattle.dp_pieces.specs.Pieces.{Fits, PieceOf}
 use Rattle.dp_reach.specs.Areas.{Area, Covers, IsIn}
 use Rattle.dp_reach.specs.Bounds.{Duties, MeetsAll}
 use Rattle.dp_reach.specs.Holding.{Claim}
 use Rattle.dp_wide.specs.Choices.{exec_if_application, exec_if_title}
-use Rattle.dp_wide_duties.specs.Places.{dialled, listed}
+use Rattle.dp_wide_duties.specs.Places.{dialled_bytes, mailbox_bytes}
 
 -- the place is an extension of a context
 abbrev pub StandsAt : List ℕ → List ℕ → Place → Type 0
@@ -87,7 +87,7 @@ has_letter letter text = list_any (λ b. b == letter) text
 abbrev pub transfer_leads : ℕ → Leading
 transfer_leads number own arguments place =
     ((has_letter (byte "t") (argument_text number arguments) || has_letter (byte "T") (argument_text number arguments)) ≡ true)
-    × (place.context ≡ own.context) × Within dialled place.exten
+    × (place.context ≡ own.context) × Within dialled_bytes place.exten
 
 -- the devices of `Dial`, and its transfers
 abbrev pub dial_leading : Leading
@@ -104,7 +104,7 @@ originate_leading own arguments place = device_leads 0 own arguments place ⊎ o
 
 -- what is dialled into a context, or `i` if that does not exist
 abbrev pub IsDialledInto : List ℕ → Place → Type 0
-IsDialledInto context place = (place.context ≡ context) × (Within dialled place.exten ⊎ (place.exten ≡ codes "i"))
+IsDialledInto context place = (place.context ≡ context) × (Within dialled_bytes place.exten ⊎ (place.exten ≡ codes "i"))
 
 -- `DISA`: into the context of its second argument, by default `disa`
 abbrev pub disa_leading : Leading
@@ -113,7 +113,7 @@ disa_leading own arguments place = IsDialledInto (or_text (argument_text 1 argum
 -- `Directory`: a mailbox, in the context of its second argument, by default the one of the first, by default `default`
 abbrev pub directory_leading : Leading
 directory_leading own arguments place =
-    (place.context ≡ or_text (argument_text 1 arguments) (or_text (argument_text 0 arguments) (codes "default"))) × Within listed place.exten
+    (place.context ≡ or_text (argument_text 1 arguments) (or_text (argument_text 0 arguments) (codes "default"))) × Within mailbox_bytes place.exten
 
 -- voice mail: the operator and the assistant, in the call's own context
 abbrev pub mail_leading : Leading
@@ -167,5 +167,5 @@ leading_besides = with_leading exec_if_title (exec_if_leading 8 leading) leading
 
 -- what meets these duties covers each place to which the application leads
 abbrev pub CoversLeading : Duties → Leading → Type 0
-CoversLeading duties leading = (claim : Claim) (area : Area) (pieces : List Piece) (own : Place) (arguments : List ℕ) → IsIn area own → Fits pieces arguments
+CoversLeading duties leading = (claim : Claim) (area : Area) (pieces : List PieceOf) (own : Place) (arguments : List ℕ) → IsIn area own → Fits pieces arguments
     → MeetsAll claim (duties area pieces) → (place : Place) → leading own arguments place → Covers claim.plan claim.reach place

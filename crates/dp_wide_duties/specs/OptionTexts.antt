@@ -6,7 +6,7 @@ use Rattle.dp_app.specs.Cells.{CellOf}
 use Rattle.dp_app.specs.declared.place.Place.{Place}
 use Rattle.dp_conf.specs.Blanks.{trim}
 use Rattle.dp_conf.specs.Levels.{cut_outside}
-use Rattle.dp_pieces.specs.Pieces.{Fits, Piece}
+use Rattle.dp_pieces.specs.Pieces.{Fits, PieceOf}
 use Rattle.dp_reach.specs.Areas.{Area, Covers, IsIn}
 use Rattle.dp_reach.specs.Bounds.{Duties, MeetsAll}
 use Rattle.dp_reach.specs.Holding.{Claim, IsGood, IsInside}
@@ -45,17 +45,17 @@ pub record RunsMember (claim : Claim) (macro routine : List ℕ) (cell : CellOf)
 
 -- what meets these duties holds for whatever options run, if the pieces fit them
 abbrev pub CoversOptions : Duties → Type 0
-CoversOptions duties = (claim : Claim) (area : Area) (pieces : List Piece) (options : List ℕ) (cell : CellOf) → IsGood claim cell → IsIn area cell.place
+CoversOptions duties = (claim : Claim) (area : Area) (pieces : List PieceOf) (options : List ℕ) (cell : CellOf) → IsGood claim cell → IsIn area cell.place
     → Covers claim.plan claim.reach cell.place → Fits pieces options → MeetsAll claim (duties area pieces) → RunsOptions claim options cell
 
 -- the same for the duties of an application whose options are the argument with a number
 abbrev pub CoversOptionsAt : ℕ → Duties → Type 0
-CoversOptionsAt number duties = (claim : Claim) (area : Area) (pieces : List Piece) (arguments : List ℕ) (cell : CellOf) → IsGood claim cell → IsIn area cell.place
+CoversOptionsAt number duties = (claim : Claim) (area : Area) (pieces : List PieceOf) (arguments : List ℕ) (cell : CellOf) → IsGood claim cell → IsIn area cell.place
     → Covers claim.plan claim.reach cell.place → Fits pieces arguments → MeetsAll claim (duties area pieces)
     → RunsOptions claim (argument_text number arguments) cell
 
 -- the same for what a member runs, which the arguments with these numbers name
 abbrev pub CoversMemberAt : ℕ → ℕ → Duties → Type 0
-CoversMemberAt macro routine duties = (claim : Claim) (area : Area) (pieces : List Piece) (arguments : List ℕ) (cell : CellOf) → IsGood claim cell → IsIn area cell.place
+CoversMemberAt macro routine duties = (claim : Claim) (area : Area) (pieces : List PieceOf) (arguments : List ℕ) (cell : CellOf) → IsGood claim cell → IsIn area cell.place
     → Covers claim.plan claim.reach cell.place → Fits pieces arguments → MeetsAll claim (duties area pieces)
     → RunsMember claim (argument_text macro arguments) (argument_text routine arguments) cell

@@ -28,5 +28,5 @@ shown_row (Standard name) = standard_duties name.now
 shown_row Lacking = anything_owed
 
 -- a known text before a byte, and the pieces after that
-abbrev pub shown_front : Vec ℕ × Bor (List Piece) → List ℕ × List spec.Piece
+abbrev pub shown_front : Vec ℕ × Bor (List Piece) → List ℕ × List spec.PieceOf
 shown_front cut = (cut.0.items, shown_all cut.1.now)

@@ -9,7 +9,7 @@ use crate::calling::{push_dial, push_member, push_originate, push_page, push_que
 use crate::naming::push_naming;
 use crate::places::{push_directory, push_disa, push_mail};
 use crate::rows::push_inner;
-use dp_closed::{Area, Duty};
+use dp_closed::{KeptArea, KeptDuty};
 use dp_conf::{NoMemory, same_word};
 use dp_pieces::Piece;
 use std::alloc::Global;
@@ -81,9 +81,9 @@ fn kind_of(application: &[u8]) -> Beside
 fn push_beside(
     alloc: Global,
     kind: Beside,
-    area: &Area,
+    area: &KeptArea,
     pieces: &[Piece],
-    duties: &mut Vec<Duty>,
+    duties: &mut Vec<KeptDuty>,
 ) -> Result<(), NoMemory>
     ensures { OnOk result (shown_duties duties.new.items
         ≡ shown_duties duties.old.items ++ shown_beside kind (shown_area area.now) (shown_all pieces.now)) }
@@ -106,9 +106,9 @@ fn push_beside(
 pub(crate) fn push_met(
     alloc: Global,
     application: &[u8],
-    area: &Area,
+    area: &KeptArea,
     pieces: &[Piece],
-    duties: &mut Vec<Duty>,
+    duties: &mut Vec<KeptDuty>,
 ) -> Result<(), NoMemory>
     ensures { OnOk result (shown_duties duties.new.items
         ≡ shown_duties duties.old.items ++ spec.met_duties application.now (shown_area area.now) (shown_all pieces.now)) }

@@ -9,7 +9,7 @@ use crate::arguments::{argument, may_be_empty};
 use crate::devices::push_devices;
 use crate::options::{push_options, push_started};
 use crate::transfers::push_transfer;
-use dp_closed::{Area, Duty, push_area};
+use dp_closed::{KeptArea, KeptDuty, push_area};
 use dp_conf::{NoMemory, same_word};
 use dp_pieces::{Piece, known_text};
 use std::alloc::Global;
@@ -17,9 +17,9 @@ use std::alloc::Global;
 /// Adds the duties of options, by which a phone may transfer the call too.
 fn push_transferred(
     alloc: Global,
-    area: &Area,
+    area: &KeptArea,
     options: &[Piece],
-    duties: &mut Vec<Duty>,
+    duties: &mut Vec<KeptDuty>,
 ) -> Result<(), NoMemory>
     ensures { OnOk result (shown_duties duties.new.items ≡ shown_duties duties.old.items
         ++ spec.transferred_owed (shown_area area.now) (shown_all options.now)) }
@@ -31,9 +31,9 @@ fn push_transferred(
 /// Adds the duties of `Dial`.
 pub(crate) fn push_dial(
     alloc: Global,
-    area: &Area,
+    area: &KeptArea,
     pieces: &[Piece],
-    duties: &mut Vec<Duty>,
+    duties: &mut Vec<KeptDuty>,
 ) -> Result<(), NoMemory>
     ensures { OnOk result (shown_duties duties.new.items
         ≡ shown_duties duties.old.items ++ spec.dial_owed (shown_area area.now) (shown_all pieces.now)) }
@@ -47,9 +47,9 @@ pub(crate) fn push_dial(
 /// Adds the duties of `Page`.
 pub(crate) fn push_page(
     alloc: Global,
-    area: &Area,
+    area: &KeptArea,
     pieces: &[Piece],
-    duties: &mut Vec<Duty>,
+    duties: &mut Vec<KeptDuty>,
 ) -> Result<(), NoMemory>
     ensures { OnOk result (shown_duties duties.new.items
         ≡ shown_duties duties.old.items ++ spec.page_owed (shown_area area.now) (shown_all pieces.now)) }
@@ -63,9 +63,9 @@ pub(crate) fn push_page(
 /// Adds the duties of `Queue`.
 pub(crate) fn push_queue(
     alloc: Global,
-    area: &Area,
+    area: &KeptArea,
     pieces: &[Piece],
-    duties: &mut Vec<Duty>,
+    duties: &mut Vec<KeptDuty>,
 ) -> Result<(), NoMemory>
     ensures { OnOk result (shown_duties duties.new.items
         ≡ shown_duties duties.old.items ++ spec.queue_owed (shown_area area.now) (shown_all pieces.now)) }
@@ -81,7 +81,7 @@ pub(crate) fn push_queue(
 pub(crate) fn push_member(
     alloc: Global,
     pieces: &[Piece],
-    duties: &mut Vec<Duty>,
+    duties: &mut Vec<KeptDuty>,
 ) -> Result<(), NoMemory>
     ensures { OnOk result (shown_duties duties.new.items
         ≡ shown_duties duties.old.items ++ spec.member_owed (shown_all pieces.now)) }
@@ -105,7 +105,7 @@ fn push_exten_in(
     alloc: Global,
     context: &[Piece],
     exten: &[Piece],
-    duties: &mut Vec<Duty>,
+    duties: &mut Vec<KeptDuty>,
 ) -> Result<(), NoMemory>
     ensures { OnOk result (shown_duties duties.new.items ≡ shown_duties duties.old.items
         ++ spec.exten_in (shown_all context.now) (shown_all exten.now)) }
@@ -121,7 +121,7 @@ fn push_exten(
     alloc: Global,
     context: &[Piece],
     exten: &[Piece],
-    duties: &mut Vec<Duty>,
+    duties: &mut Vec<KeptDuty>,
 ) -> Result<(), NoMemory>
     ensures { OnOk result (shown_duties duties.new.items ≡ shown_duties duties.old.items
         ++ spec.exten_or_start (shown_all context.now) (shown_all exten.now)) }
@@ -134,7 +134,7 @@ fn push_exten(
 }
 
 /// Adds the extension of the third and fourth arguments of `Originate`, if the second may be `exten`.
-fn push_second(alloc: Global, pieces: &[Piece], duties: &mut Vec<Duty>) -> Result<(), NoMemory>
+fn push_second(alloc: Global, pieces: &[Piece], duties: &mut Vec<KeptDuty>) -> Result<(), NoMemory>
     ensures { OnOk result (shown_duties duties.new.items ≡ shown_duties duties.old.items
         ++ spec.second_owed (shown_all pieces.now)) }
 {
@@ -151,7 +151,7 @@ fn push_second(alloc: Global, pieces: &[Piece], duties: &mut Vec<Duty>) -> Resul
 pub(crate) fn push_originate(
     alloc: Global,
     pieces: &[Piece],
-    duties: &mut Vec<Duty>,
+    duties: &mut Vec<KeptDuty>,
 ) -> Result<(), NoMemory>
     ensures { OnOk result (shown_duties duties.new.items
         ≡ shown_duties duties.old.items ++ spec.originate_owed (shown_all pieces.now)) }

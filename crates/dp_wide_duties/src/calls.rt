@@ -10,7 +10,7 @@ ghost use Rattle.dp_reach.specs.Choices.{sides_by};
 ghost use Rattle.dp_wide_reach.specs.Subroutines as spec;
 
 use crate::held::push_digits;
-use dp_closed::{Area, Duty, push_gosub, set_of};
+use dp_closed::{KeptArea, KeptDuty, push_gosub, set_of};
 use dp_conf::NoMemory;
 use dp_pieces::{Cutting, Piece, cut_level, cut_pieces};
 use std::alloc::Global;
@@ -18,9 +18,9 @@ use std::alloc::Global;
 /// Adds the duties of `Gosub`.
 pub(crate) fn push_counted(
     alloc: Global,
-    area: &Area,
+    area: &KeptArea,
     pieces: &[Piece],
-    duties: &mut Vec<Duty>,
+    duties: &mut Vec<KeptDuty>,
 ) -> Result<(), NoMemory>
     ensures { OnOk result (shown_duties duties.new.items
         ≡ shown_duties duties.old.items ++ spec.counted_duties (shown_area area.now) (shown_all pieces.now)) }
@@ -32,9 +32,9 @@ pub(crate) fn push_counted(
 /// Adds the duties of `Gosub` with any text of the bytes of the pieces.
 fn push_counted_any(
     alloc: Global,
-    area: &Area,
+    area: &KeptArea,
     pieces: &[Piece],
-    duties: &mut Vec<Duty>,
+    duties: &mut Vec<KeptDuty>,
 ) -> Result<(), NoMemory>
     ensures { OnOk result (shown_duties duties.new.items ≡ shown_duties duties.old.items
         ++ spec.counted_duties (shown_area area.now) (any_bytes_of (pieces_set (shown_all pieces.now)))) }
@@ -46,10 +46,10 @@ fn push_counted_any(
 /// Adds the duties of `Gosub` for each side of a choice, given its text after the `?`.
 fn push_counted_sides(
     alloc: Global,
-    area: &Area,
+    area: &KeptArea,
     pieces: &[Piece],
     rest: &[Piece],
-    duties: &mut Vec<Duty>,
+    duties: &mut Vec<KeptDuty>,
 ) -> Result<(), NoMemory>
     ensures { OnOk result (shown_duties duties.new.items ≡ shown_duties duties.old.items
         ++ flat_map (spec.counted_duties (shown_area area.now))
@@ -68,9 +68,9 @@ fn push_counted_sides(
 /// Adds the duties of `GosubIf`.
 pub(crate) fn push_counted_if(
     alloc: Global,
-    area: &Area,
+    area: &KeptArea,
     pieces: &[Piece],
-    duties: &mut Vec<Duty>,
+    duties: &mut Vec<KeptDuty>,
 ) -> Result<(), NoMemory>
     ensures { OnOk result (shown_duties duties.new.items
         ≡ shown_duties duties.old.items ++ spec.counted_gosub_if_duties (shown_area area.now) (shown_all pieces.now)) }

@@ -13,23 +13,23 @@ ghost use Rattle.dp_wide_duties.specs.Exchange.{exchange_duties, plain_duties};
 
 use crate::besides::push_met;
 use crate::held::{known_front, push_anything};
-use dp_closed::{Area, Duty};
+use dp_closed::{KeptArea, KeptDuty};
 use dp_conf::{NoMemory, same_word, trim};
-use dp_pieces::{Cutting, Piece, cut_last, cut_level, cut_pieces, known_text, trimmed};
+use dp_pieces::{Cutting, Piece, cut_last, cut_level, cut_pieces, known_text, trim_pieces};
 use std::alloc::Global;
 use std::marker::PhantomData;
 
 /// An `ExecIf`, when so many may still run inside each other.
-trait Nested {
+trait NestedExecIf {
     // Its duties.
     ghost owed: { Duties };
 
     /// Adds its duties.
     fn push(
         alloc: Global,
-        area: &Area,
+        area: &KeptArea,
         pieces: &[Piece],
-        duties: &mut Vec<Duty>,
+        duties: &mut Vec<KeptDuty>,
     ) -> Result<(), NoMemory>
         ensures { OnOk result (shown_duties duties.new.items
             ≡ shown_duties duties.old.items ++ owed (shown_area area.now) (shown_all pieces.now)) };
@@ -47,12 +47,12 @@ fn arguments_of(rest: &[Piece]) -> Option<&[Piece]>
 }
 
 /// Adds the duties of an application, where an `ExecIf` has those of `N`.
-fn push_named<N: Nested>(
+fn push_named<N: NestedExecIf>(
     alloc: Global,
     application: &[u8],
-    area: &Area,
+    area: &KeptArea,
     pieces: &[Piece],
-    duties: &mut Vec<Duty>,
+    duties: &mut Vec<KeptDuty>,
 ) -> Result<(), NoMemory>
     ensures { OnOk result (shown_duties duties.new.items ≡ shown_duties duties.old.items
         ++ with_duties exec_if_title N.owed plain_duties application.now (shown_area area.now) (shown_all pieces.now)) }
@@ -64,11 +64,11 @@ fn push_named<N: Nested>(
 }
 
 /// Adds the duties of a side without the blanks at its ends that has no known name before a `(`.
-fn push_whole<N: Nested>(
+fn push_whole<N: NestedExecIf>(
     alloc: Global,
-    area: &Area,
+    area: &KeptArea,
     side: &[Piece],
-    duties: &mut Vec<Duty>,
+    duties: &mut Vec<KeptDuty>,
 ) -> Result<(), NoMemory>
     ensures { OnOk result (shown_duties duties.new.items ≡ shown_duties duties.old.items
         ++ spec.call_duties_by (with_duties exec_if_title N.owed plain_duties) (shown_area area.now) (spec.known_call_by (shown_all side.now) None)) }
@@ -80,12 +80,12 @@ fn push_whole<N: Nested>(
 }
 
 /// Adds the duties of an application with a known name, given the pieces after its `(`.
-fn push_call<N: Nested>(
+fn push_call<N: NestedExecIf>(
     alloc: Global,
     name: &[u8],
-    area: &Area,
+    area: &KeptArea,
     rest: &[Piece],
-    duties: &mut Vec<Duty>,
+    duties: &mut Vec<KeptDuty>,
 ) -> Result<(), NoMemory>
     ensures { OnOk result (shown_duties duties.new.items ≡ shown_duties duties.old.items
         ++ spec.call_duties_by (with_duties exec_if_title N.owed plain_duties) (shown_area area.now)
@@ -98,16 +98,16 @@ fn push_call<N: Nested>(
 }
 
 /// Adds the duties of a side. A side of blanks alone runs nothing.
-fn push_side<N: Nested>(
+fn push_side<N: NestedExecIf>(
     alloc: Global,
-    area: &Area,
+    area: &KeptArea,
     side: &[Piece],
-    duties: &mut Vec<Duty>,
+    duties: &mut Vec<KeptDuty>,
 ) -> Result<(), NoMemory>
     ensures { OnOk result (shown_duties duties.new.items ≡ shown_duties duties.old.items
         ++ spec.side_duties (with_duties exec_if_title N.owed plain_duties) (shown_area area.now) (shown_all side.now)) }
 {
-    let side = trimmed(alloc, side)?;
+    let side = trim_pieces(alloc, side)?;
     if side.is_empty() {
         return Ok(());
     }
@@ -118,11 +118,11 @@ fn push_side<N: Nested>(
 }
 
 /// Adds the duties of both sides.
-fn push_sides<N: Nested>(
+fn push_sides<N: NestedExecIf>(
     alloc: Global,
-    area: &Area,
+    area: &KeptArea,
     rest: &[Piece],
-    duties: &mut Vec<Duty>,
+    duties: &mut Vec<KeptDuty>,
 ) -> Result<(), NoMemory>
     ensures { OnOk result (shown_duties duties.new.items ≡ shown_duties duties.old.items
         ++ spec.choice_duties (with_duties exec_if_title N.owed plain_duties) (shown_area area.now)
@@ -139,12 +139,12 @@ fn push_sides<N: Nested>(
 }
 
 /// Adds the duties of the sides if no comma stands in the condition, which would make the old form.
-fn push_chosen<N: Nested>(
+fn push_chosen<N: NestedExecIf>(
     alloc: Global,
-    area: &Area,
+    area: &KeptArea,
     condition: &[Piece],
     rest: &[Piece],
-    duties: &mut Vec<Duty>,
+    duties: &mut Vec<KeptDuty>,
 ) -> Result<(), NoMemory>
     ensures { OnOk result (shown_duties duties.new.items ≡ shown_duties duties.old.items
         ++ spec.chosen_duties (with_duties exec_if_title N.owed plain_duties) (shown_area area.now) (shown_all rest.now)
@@ -158,11 +158,11 @@ fn push_chosen<N: Nested>(
 }
 
 /// Adds the duties of an `ExecIf`, where one inside it has those of `N`.
-fn push_exec_if<N: Nested>(
+fn push_exec_if<N: NestedExecIf>(
     alloc: Global,
-    area: &Area,
+    area: &KeptArea,
     pieces: &[Piece],
-    duties: &mut Vec<Duty>,
+    duties: &mut Vec<KeptDuty>,
 ) -> Result<(), NoMemory>
     ensures { OnOk result (shown_duties duties.new.items ≡ shown_duties duties.old.items
         ++ spec.exec_if_duties_by (with_duties exec_if_title N.owed plain_duties) (shown_area area.now) (cut_pieces 63 (shown_all pieces.now))) }
@@ -175,18 +175,18 @@ fn push_exec_if<N: Nested>(
 }
 
 /// `ExecIf` inside 8 others, which ends the call.
-struct Deepest;
+struct DeepestExecIf;
 
-impl Nested for Deepest {
+impl NestedExecIf for DeepestExecIf {
     ghost use Rattle.dp_reach.specs.Bounds.{nothing_owed};
 
     ghost owed = { nothing_owed };
 
     fn push(
         _alloc: Global,
-        _area: &Area,
+        _area: &KeptArea,
         _pieces: &[Piece],
-        _duties: &mut Vec<Duty>,
+        _duties: &mut Vec<KeptDuty>,
     ) -> Result<(), NoMemory> {
         Ok(())
     }
@@ -197,7 +197,7 @@ struct Outer<N> {
     inner: PhantomData<N>,
 }
 
-impl<N: Nested> Nested for Outer<N> {
+impl<N: NestedExecIf> NestedExecIf for Outer<N> {
     ghost use Rattle.dp_pieces.specs.Cuts.{cut_pieces};
     ghost use Rattle.dp_reach.specs.Standard.{with_duties};
     ghost use Rattle.dp_wide.specs.Choices.{exec_if_title};
@@ -208,9 +208,9 @@ impl<N: Nested> Nested for Outer<N> {
 
     fn push(
         alloc: Global,
-        area: &Area,
+        area: &KeptArea,
         pieces: &[Piece],
-        duties: &mut Vec<Duty>,
+        duties: &mut Vec<KeptDuty>,
     ) -> Result<(), NoMemory> {
         push_exec_if::<N>(alloc, area, pieces, duties)
     }
@@ -228,12 +228,12 @@ type FourDeep<N> = TwoDeep<TwoDeep<N>>;
 pub fn duties(
     alloc: Global,
     application: &[u8],
-    area: &Area,
+    area: &KeptArea,
     pieces: &[Piece],
-) -> Result<Vec<Duty>, NoMemory>
+) -> Result<Vec<KeptDuty>, NoMemory>
     ensures { IfOk result (λ duties. map shown_duty duties.items ≡ exchange_duties application.now (shown_area area.now) (shown_all pieces.now)) }
 {
     let mut duties = Vec::new(alloc);
-    push_named::<FourDeep<FourDeep<Deepest>>>(alloc, application, area, pieces, &mut duties)?;
+    push_named::<FourDeep<FourDeep<DeepestExecIf>>>(alloc, application, area, pieces, &mut duties)?;
     Ok(duties)
 }

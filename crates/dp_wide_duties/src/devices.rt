@@ -8,13 +8,13 @@ ghost use Rattle.dp_pieces.specs.Shown.{shown_all, shown_piece};
 ghost use Rattle.dp_wide_duties.specs.Devices as spec;
 
 use crate::places::{DEFAULT, push_any_in};
-use dp_closed::{Duty, push_area, set_of};
+use dp_closed::{KeptDuty, push_area, set_of};
 use dp_conf::{NoMemory, same_word};
-use dp_pieces::{ByteSet, Cutting, Piece, cut_pieces, known_text, trimmed};
+use dp_pieces::{ByteSet, Cutting, Piece, cut_pieces, known_text, trim_pieces};
 use std::alloc::Global;
 
 /// Adds any extension with these bytes, in any context with these bytes or in `default`.
-fn push_anywhere(alloc: Global, set: ByteSet, duties: &mut Vec<Duty>) -> Result<(), NoMemory>
+fn push_anywhere(alloc: Global, set: ByteSet, duties: &mut Vec<KeptDuty>) -> Result<(), NoMemory>
     ensures { OnOk result (shown_duties duties.new.items ≡ shown_duties duties.old.items ++ spec.anywhere (set_by set)) }
 {
     push_any_in(alloc, set, &[Piece::AnyOf(set)], duties)?;
@@ -39,7 +39,7 @@ fn may_be_local(set: &ByteSet) -> bool
 }
 
 /// Adds the duties of a text that may hold a device with the bytes of these pieces.
-fn push_unsure(alloc: Global, pieces: &[Piece], duties: &mut Vec<Duty>) -> Result<(), NoMemory>
+fn push_unsure(alloc: Global, pieces: &[Piece], duties: &mut Vec<KeptDuty>) -> Result<(), NoMemory>
     ensures { OnOk result (shown_duties duties.new.items
         ≡ shown_duties duties.old.items ++ spec.unsure_owed (pieces_set (shown_all pieces.now))) }
 {
@@ -51,7 +51,7 @@ fn push_unsure(alloc: Global, pieces: &[Piece], duties: &mut Vec<Duty>) -> Resul
 }
 
 /// Adds the duties of `EXTEN@CONTEXT`.
-fn push_place(alloc: Global, text: &[Piece], duties: &mut Vec<Duty>) -> Result<(), NoMemory>
+fn push_place(alloc: Global, text: &[Piece], duties: &mut Vec<KeptDuty>) -> Result<(), NoMemory>
     ensures { OnOk result (shown_duties duties.new.items
         ≡ shown_duties duties.old.items ++ spec.place_by (shown_all text.now) (cut_pieces 64 (shown_all text.now))) }
 {
@@ -63,7 +63,7 @@ fn push_place(alloc: Global, text: &[Piece], duties: &mut Vec<Duty>) -> Result<(
 }
 
 /// Adds the duties of `EXTEN@CONTEXT/OPTIONS`.
-fn push_local(alloc: Global, text: &[Piece], duties: &mut Vec<Duty>) -> Result<(), NoMemory>
+fn push_local(alloc: Global, text: &[Piece], duties: &mut Vec<KeptDuty>) -> Result<(), NoMemory>
     ensures { OnOk result (shown_duties duties.new.items
         ≡ shown_duties duties.old.items ++ spec.local_by (shown_all text.now) (cut_pieces 47 (shown_all text.now))) }
 {
@@ -89,7 +89,7 @@ fn push_technology(
     alloc: Global,
     technology: &[Piece],
     place: &[Piece],
-    duties: &mut Vec<Duty>,
+    duties: &mut Vec<KeptDuty>,
 ) -> Result<(), NoMemory>
     ensures { OnOk result (shown_duties duties.new.items ≡ shown_duties duties.old.items
         ++ spec.technology_owed (shown_all technology.now) (shown_all place.now)) }
@@ -101,11 +101,11 @@ fn push_technology(
 }
 
 /// Adds the duties of a device.
-fn push_device(alloc: Global, text: &[Piece], duties: &mut Vec<Duty>) -> Result<(), NoMemory>
+fn push_device(alloc: Global, text: &[Piece], duties: &mut Vec<KeptDuty>) -> Result<(), NoMemory>
     ensures { OnOk result (shown_duties duties.new.items
         ≡ shown_duties duties.old.items ++ spec.device_owed (shown_all text.now)) }
 {
-    let device = trimmed(alloc, text)?;
+    let device = trim_pieces(alloc, text)?;
     match cut_pieces(&device, b'/') {
         Cutting::Nowhere => Ok(()),
         Cutting::Unsure => push_unsure(alloc, &device, duties),
@@ -114,7 +114,7 @@ fn push_device(alloc: Global, text: &[Piece], duties: &mut Vec<Duty>) -> Result<
 }
 
 /// Adds the duties of the first of several devices.
-fn push_first(alloc: Global, text: &[Piece], duties: &mut Vec<Duty>) -> Result<(), NoMemory>
+fn push_first(alloc: Global, text: &[Piece], duties: &mut Vec<KeptDuty>) -> Result<(), NoMemory>
     ensures { OnOk result (shown_duties duties.new.items
         ≡ shown_duties duties.old.items ++ spec.first_by (shown_all text.now) (cut_pieces 38 (shown_all text.now))) }
 {
@@ -130,7 +130,7 @@ fn push_begun(
     alloc: Global,
     begins: bool,
     text: &[Piece],
-    duties: &mut Vec<Duty>,
+    duties: &mut Vec<KeptDuty>,
 ) -> Result<(), NoMemory>
     ensures { OnOk result (shown_duties duties.new.items
         ≡ shown_duties duties.old.items ++ spec.begun_owed begins (shown_all text.now)) }
@@ -155,7 +155,7 @@ fn separates(piece: &Piece) -> bool
 pub(crate) fn push_devices(
     alloc: Global,
     pieces: &[Piece],
-    duties: &mut Vec<Duty>,
+    duties: &mut Vec<KeptDuty>,
 ) -> Result<(), NoMemory>
     ensures { OnOk result (shown_duties duties.new.items
         ≡ shown_duties duties.old.items ++ spec.devices_owed (shown_all pieces.now)) }

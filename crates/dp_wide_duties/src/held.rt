@@ -10,16 +10,16 @@ ghost use Rattle.dp_pieces.specs.Shown.{shown_all};
 ghost use Rattle.dp_reach.specs.Bounds as bounds;
 ghost use Rattle.dp_wide_duties.specs.Rows.{shown_front};
 
-use dp_closed::{Duty, push_name, set_of};
+use dp_closed::{KeptDuty, push_name, set_of};
 use dp_conf::NoMemory;
 use dp_pieces::{ByteSet, Piece, cut_known, known_text};
 use std::alloc::Global;
 
 /// Adds that nothing is known of what an application does.
-pub(crate) fn push_anything(duties: &mut Vec<Duty>) -> Result<(), NoMemory>
+pub(crate) fn push_anything(duties: &mut Vec<KeptDuty>) -> Result<(), NoMemory>
     ensures { OnOk result (shown_duties duties.new.items ≡ shown_duties duties.old.items ++ bounds.Anything ∷ []) }
 {
-    duties.push(Duty::Anything)?;
+    duties.push(KeptDuty::Anything)?;
     Ok(())
 }
 
@@ -28,7 +28,7 @@ pub(crate) fn push_held(
     alloc: Global,
     name: &[u8],
     pieces: &[Piece],
-    duties: &mut Vec<Duty>,
+    duties: &mut Vec<KeptDuty>,
 ) -> Result<(), NoMemory>
     ensures { OnOk result (shown_duties duties.new.items
         ≡ shown_duties duties.old.items ++ bounds.Holds name.now (pieces_set (shown_all pieces.now)) ∷ []) }
@@ -40,7 +40,7 @@ pub(crate) fn push_held(
 pub(crate) fn push_digits(
     alloc: Global,
     name: &[u8],
-    duties: &mut Vec<Duty>,
+    duties: &mut Vec<KeptDuty>,
 ) -> Result<(), NoMemory>
     ensures { OnOk result (shown_duties duties.new.items ≡ shown_duties duties.old.items ++ bounds.Holds name.now digits ∷ []) }
 {
@@ -48,10 +48,10 @@ pub(crate) fn push_digits(
 }
 
 /// Adds that each name may have these bytes.
-pub(crate) fn push_each(set: ByteSet, duties: &mut Vec<Duty>) -> Result<(), NoMemory>
+pub(crate) fn push_each(set: ByteSet, duties: &mut Vec<KeptDuty>) -> Result<(), NoMemory>
     ensures { OnOk result (shown_duties duties.new.items ≡ shown_duties duties.old.items ++ bounds.HoldsAll (set_by set) ∷ []) }
 {
-    duties.push(Duty::HoldsAll(set))?;
+    duties.push(KeptDuty::HoldsAll(set))?;
     Ok(())
 }
 

@@ -10,13 +10,13 @@ ghost use Rattle.dp_reach.specs.Bounds as bounds;
 ghost use Rattle.dp_wide_reach.specs.Subroutines as spec;
 
 use crate::held::{push_digits, push_each, push_held};
-use dp_closed::{Area, Duty, push_area, push_inside, set_of};
+use dp_closed::{KeptArea, KeptDuty, push_area, push_inside, set_of};
 use dp_conf::NoMemory;
-use dp_pieces::{Cutting, Piece, cut_level, trimmed};
+use dp_pieces::{Cutting, Piece, cut_level, trim_pieces};
 use std::alloc::Global;
 
 /// Adds the duties of the extension and the context of the caller, which a macro sees as locals.
-fn push_place(alloc: Global, area: &Area, duties: &mut Vec<Duty>) -> Result<(), NoMemory>
+fn push_place(alloc: Global, area: &KeptArea, duties: &mut Vec<KeptDuty>) -> Result<(), NoMemory>
     ensures { OnOk result (shown_duties duties.new.items ≡ shown_duties duties.old.items
         ++ bounds.Holds (codes "MACRO_EXTEN") (pieces_set (shown_all area.now.exten.items))
         ∷ bounds.Holds (codes "MACRO_CONTEXT") (pieces_set (shown_all area.now.context.items)) ∷ []) }
@@ -26,7 +26,7 @@ fn push_place(alloc: Global, area: &Area, duties: &mut Vec<Duty>) -> Result<(), 
 }
 
 /// Adds the duties of the priority of the caller, and of the number of the arguments.
-fn push_numbers(alloc: Global, duties: &mut Vec<Duty>) -> Result<(), NoMemory>
+fn push_numbers(alloc: Global, duties: &mut Vec<KeptDuty>) -> Result<(), NoMemory>
     ensures { OnOk result (shown_duties duties.new.items
         ≡ shown_duties duties.old.items ++ bounds.Holds (codes "MACRO_PRIORITY") digits ∷ spec.count_duty ∷ []) }
 {
@@ -35,7 +35,7 @@ fn push_numbers(alloc: Global, duties: &mut Vec<Duty>) -> Result<(), NoMemory>
 }
 
 /// Adds the duties of the place of the caller, and of the number of the arguments.
-fn push_caller(alloc: Global, area: &Area, duties: &mut Vec<Duty>) -> Result<(), NoMemory>
+fn push_caller(alloc: Global, area: &KeptArea, duties: &mut Vec<KeptDuty>) -> Result<(), NoMemory>
     ensures { OnOk result (shown_duties duties.new.items ≡ shown_duties duties.old.items ++ spec.caller_duties (shown_area area.now)) }
 {
     push_place(alloc, area, duties)?;
@@ -60,7 +60,7 @@ fn macro_context(alloc: Global, name: &[Piece]) -> Result<Vec<Piece>, NoMemory>
 }
 
 /// Adds that the reach has the start of the macro whose name has these pieces.
-fn push_start(alloc: Global, name: &[Piece], duties: &mut Vec<Duty>) -> Result<(), NoMemory>
+fn push_start(alloc: Global, name: &[Piece], duties: &mut Vec<KeptDuty>) -> Result<(), NoMemory>
     ensures { OnOk result (shown_duties duties.new.items
         ≡ shown_duties duties.old.items ++ bounds.Leads (spec.macro_area (shown_all name.now)) ∷ []) }
 {
@@ -69,16 +69,20 @@ fn push_start(alloc: Global, name: &[Piece], duties: &mut Vec<Duty>) -> Result<(
 }
 
 /// Adds that the reach has the start of the macro whose name has these pieces without the blanks at their ends.
-fn push_named(alloc: Global, name: &[Piece], duties: &mut Vec<Duty>) -> Result<(), NoMemory>
+fn push_named(alloc: Global, name: &[Piece], duties: &mut Vec<KeptDuty>) -> Result<(), NoMemory>
     ensures { OnOk result (shown_duties duties.new.items
         ≡ shown_duties duties.old.items ++ bounds.Leads (spec.macro_area (without_end_blanks (shown_all name.now))) ∷ []) }
 {
-    let name = trimmed(alloc, name)?;
+    let name = trim_pieces(alloc, name)?;
     push_start(alloc, &name, duties)
 }
 
 /// Adds the duties if any text of the bytes of these pieces may be the name of a macro, and its arguments.
-fn push_any_macro(alloc: Global, pieces: &[Piece], duties: &mut Vec<Duty>) -> Result<(), NoMemory>
+fn push_any_macro(
+    alloc: Global,
+    pieces: &[Piece],
+    duties: &mut Vec<KeptDuty>,
+) -> Result<(), NoMemory>
     ensures { OnOk result (shown_duties duties.new.items ≡ shown_duties duties.old.items
         ++ bounds.Leads (spec.macro_area (any_bytes_of (pieces_set (shown_all pieces.now)))) ∷ bounds.HoldsAll (pieces_set (shown_all pieces.now)) ∷ []) }
 {
@@ -88,7 +92,7 @@ fn push_any_macro(alloc: Global, pieces: &[Piece], duties: &mut Vec<Duty>) -> Re
 }
 
 /// Adds the duties of the name and the arguments of a macro.
-fn push_called(alloc: Global, pieces: &[Piece], duties: &mut Vec<Duty>) -> Result<(), NoMemory>
+fn push_called(alloc: Global, pieces: &[Piece], duties: &mut Vec<KeptDuty>) -> Result<(), NoMemory>
     ensures { OnOk result (shown_duties duties.new.items ≡ shown_duties duties.old.items
         ++ spec.called_macro_duties (shown_all pieces.now) (cut_level 44 0 (shown_all pieces.now))) }
 {
@@ -105,9 +109,9 @@ fn push_called(alloc: Global, pieces: &[Piece], duties: &mut Vec<Duty>) -> Resul
 /// Adds the duties of `Macro`.
 pub(crate) fn push_macro(
     alloc: Global,
-    area: &Area,
+    area: &KeptArea,
     pieces: &[Piece],
-    duties: &mut Vec<Duty>,
+    duties: &mut Vec<KeptDuty>,
 ) -> Result<(), NoMemory>
     ensures { OnOk result (shown_duties duties.new.items
         ≡ shown_duties duties.old.items ++ spec.macro_duties (shown_area area.now) (shown_all pieces.now)) }

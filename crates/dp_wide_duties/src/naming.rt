@@ -6,8 +6,8 @@ ghost use Rattle.dp_wide_duties.specs.Naming as spec;
 
 use crate::calls::push_counted;
 use crate::held::known_front;
-use crate::places::{dialled, push_any_in};
-use dp_closed::{Area, Duty};
+use crate::places::{dialled_bytes, push_any_in};
+use dp_closed::{KeptArea, KeptDuty};
 use dp_conf::{NoMemory, same_word};
 use dp_pieces::Piece;
 use dp_wide::bare_name;
@@ -23,16 +23,16 @@ fn names_transfers(name: &[u8]) -> bool
 /// Adds the duties of a name that is set to a value of these pieces.
 fn push_named(
     alloc: Global,
-    area: &Area,
+    area: &KeptArea,
     name: &[u8],
     value: &[Piece],
-    duties: &mut Vec<Duty>,
+    duties: &mut Vec<KeptDuty>,
 ) -> Result<(), NoMemory>
     ensures { OnOk result (shown_duties duties.new.items ≡ shown_duties duties.old.items
         ++ spec.named_owed (shown_area area.now) name.now (shown_all value.now)) }
 {
     if names_transfers(name) {
-        return push_any_in(alloc, dialled(), value, duties);
+        return push_any_in(alloc, dialled_bytes(), value, duties);
     }
     if same_word(name, b"CHANNEL(hangup_handler_push)") {
         return push_counted(alloc, area, value, duties);
@@ -43,9 +43,9 @@ fn push_named(
 /// Adds the duties of `Set`.
 pub(crate) fn push_naming(
     alloc: Global,
-    area: &Area,
+    area: &KeptArea,
     pieces: &[Piece],
-    duties: &mut Vec<Duty>,
+    duties: &mut Vec<KeptDuty>,
 ) -> Result<(), NoMemory>
     ensures { OnOk result (shown_duties duties.new.items ≡ shown_duties duties.old.items
         ++ spec.naming_leads (shown_area area.now) (shown_all pieces.now)) }

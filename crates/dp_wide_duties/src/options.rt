@@ -13,9 +13,9 @@ use crate::arguments::any_of;
 use crate::calls::push_counted;
 use crate::held::{push_digits, push_each};
 use crate::macros::push_macro;
-use dp_closed::{Area, Duty, bytes_in, push_area, push_inside, set_of};
+use dp_closed::{KeptArea, KeptDuty, bytes_in, push_area, push_inside, set_of};
 use dp_conf::NoMemory;
-use dp_pieces::{ByteSet, Cutting, Piece, cut_level, trimmed};
+use dp_pieces::{ByteSet, Cutting, Piece, cut_level, trim_pieces};
 use std::alloc::Global;
 
 /// A set with a comma if it has a `^`.
@@ -54,7 +54,7 @@ fn with_commas(alloc: Global, pieces: &[Piece]) -> Result<Vec<Piece>, NoMemory>
 }
 
 /// Adds the start of a subroutine, given the pieces of its name.
-fn push_start(alloc: Global, name: &[Piece], duties: &mut Vec<Duty>) -> Result<(), NoMemory>
+fn push_start(alloc: Global, name: &[Piece], duties: &mut Vec<KeptDuty>) -> Result<(), NoMemory>
     ensures { OnOk result (shown_duties duties.new.items
         ≡ shown_duties duties.old.items ++ bounds.Leads (spec.start_area (shown_all name.now)) ∷ []) }
 {
@@ -62,16 +62,20 @@ fn push_start(alloc: Global, name: &[Piece], duties: &mut Vec<Duty>) -> Result<(
 }
 
 /// Adds the start of a subroutine, given the pieces of its name and the blanks at its ends.
-fn push_named(alloc: Global, name: &[Piece], duties: &mut Vec<Duty>) -> Result<(), NoMemory>
+fn push_named(alloc: Global, name: &[Piece], duties: &mut Vec<KeptDuty>) -> Result<(), NoMemory>
     ensures { OnOk result (shown_duties duties.new.items
         ≡ shown_duties duties.old.items ++ bounds.Leads (spec.start_area (without_end_blanks (shown_all name.now))) ∷ []) }
 {
-    let name = trimmed(alloc, name)?;
+    let name = trim_pieces(alloc, name)?;
     push_start(alloc, &name, duties)
 }
 
 /// Adds the duties if any text of the bytes of these pieces may be the name of a subroutine, and its arguments.
-fn push_any_routine(alloc: Global, pieces: &[Piece], duties: &mut Vec<Duty>) -> Result<(), NoMemory>
+fn push_any_routine(
+    alloc: Global,
+    pieces: &[Piece],
+    duties: &mut Vec<KeptDuty>,
+) -> Result<(), NoMemory>
     ensures { OnOk result (shown_duties duties.new.items ≡ shown_duties duties.old.items
         ++ bounds.Leads (spec.start_area (any_bytes_of (pieces_set (shown_all pieces.now)))) ∷ bounds.HoldsAll (pieces_set (shown_all pieces.now)) ∷ []) }
 {
@@ -81,7 +85,7 @@ fn push_any_routine(alloc: Global, pieces: &[Piece], duties: &mut Vec<Duty>) -> 
 }
 
 /// Adds the duties of the name and the arguments of a subroutine.
-fn push_called(alloc: Global, text: &[Piece], duties: &mut Vec<Duty>) -> Result<(), NoMemory>
+fn push_called(alloc: Global, text: &[Piece], duties: &mut Vec<KeptDuty>) -> Result<(), NoMemory>
     ensures { OnOk result (shown_duties duties.new.items
         ≡ shown_duties duties.old.items ++ spec.routine_by (shown_all text.now) (cut_level 44 0 (shown_all text.now))) }
 {
@@ -96,7 +100,7 @@ fn push_called(alloc: Global, text: &[Piece], duties: &mut Vec<Duty>) -> Result<
 }
 
 /// Adds the duties of a subroutine that starts at `s`.
-fn push_routine(alloc: Global, text: &[Piece], duties: &mut Vec<Duty>) -> Result<(), NoMemory>
+fn push_routine(alloc: Global, text: &[Piece], duties: &mut Vec<KeptDuty>) -> Result<(), NoMemory>
     ensures { OnOk result (shown_duties duties.new.items
         ≡ shown_duties duties.old.items ++ spec.routine_owed (shown_all text.now)) }
 {
@@ -114,10 +118,10 @@ fn may_be_place(letter: &ByteSet) -> bool
 /// Adds the duties of an option that names a place, if its letter may be one of those.
 fn push_place_option(
     alloc: Global,
-    area: &Area,
+    area: &KeptArea,
     letter: &ByteSet,
     text: &[Piece],
-    duties: &mut Vec<Duty>,
+    duties: &mut Vec<KeptDuty>,
 ) -> Result<(), NoMemory>
     ensures { OnOk result (shown_duties duties.new.items ≡ shown_duties duties.old.items
         ++ spec.place_owed (shown_area area.now) (set_by letter.now) (shown_all text.now)) }
@@ -133,7 +137,7 @@ fn push_call_option(
     alloc: Global,
     letter: &ByteSet,
     text: &[Piece],
-    duties: &mut Vec<Duty>,
+    duties: &mut Vec<KeptDuty>,
 ) -> Result<(), NoMemory>
     ensures { OnOk result (shown_duties duties.new.items ≡ shown_duties duties.old.items
         ++ spec.call_owed (set_by letter.now) (shown_all text.now)) }
@@ -147,10 +151,10 @@ fn push_call_option(
 /// Adds the duties of an option that names a macro, if its letter may be `M`.
 fn push_macro_option(
     alloc: Global,
-    area: &Area,
+    area: &KeptArea,
     letter: &ByteSet,
     text: &[Piece],
-    duties: &mut Vec<Duty>,
+    duties: &mut Vec<KeptDuty>,
 ) -> Result<(), NoMemory>
     ensures { OnOk result (shown_duties duties.new.items ≡ shown_duties duties.old.items
         ++ spec.macro_owed (shown_area area.now) (set_by letter.now) (shown_all text.now)) }
@@ -164,10 +168,10 @@ fn push_macro_option(
 /// Adds the duties of an option with a text, given what its letter may be.
 fn push_option(
     alloc: Global,
-    area: &Area,
+    area: &KeptArea,
     letter: &ByteSet,
     text: &[Piece],
-    duties: &mut Vec<Duty>,
+    duties: &mut Vec<KeptDuty>,
 ) -> Result<(), NoMemory>
     ensures { OnOk result (shown_duties duties.new.items ≡ shown_duties duties.old.items
         ++ spec.option_owed (shown_area area.now) (set_by letter.now) (shown_all text.now)) }
@@ -180,10 +184,10 @@ fn push_option(
 /// Adds the duties of an option, given what its letter may be, and the text in which a `^` stands for a comma.
 fn push_marked(
     alloc: Global,
-    area: &Area,
+    area: &KeptArea,
     letter: &ByteSet,
     marked: &[Piece],
-    duties: &mut Vec<Duty>,
+    duties: &mut Vec<KeptDuty>,
 ) -> Result<(), NoMemory>
     ensures { OnOk result (shown_duties duties.new.items ≡ shown_duties duties.old.items
         ++ spec.option_owed (shown_area area.now) (set_by letter.now) (spec.with_commas (shown_all marked.now))) }
@@ -195,10 +199,10 @@ fn push_marked(
 /// Adds the duties of an option, given what its letter may be, and the pieces after its `(`.
 fn push_opened(
     alloc: Global,
-    area: &Area,
+    area: &KeptArea,
     letter: &ByteSet,
     rest: &[Piece],
-    duties: &mut Vec<Duty>,
+    duties: &mut Vec<KeptDuty>,
 ) -> Result<(), NoMemory>
     ensures { OnOk result (shown_duties duties.new.items ≡ shown_duties duties.old.items
         ++ spec.option_owed (shown_area area.now) (set_by letter.now) (spec.option_text (shown_all rest.now))) }
@@ -236,10 +240,10 @@ fn piece_set(piece: &Piece) -> ByteSet
 /// Adds the duties of the option with a letter, given the pieces after the letter.
 fn push_letter(
     alloc: Global,
-    area: &Area,
+    area: &KeptArea,
     letter: &Piece,
     rest: &[Piece],
-    duties: &mut Vec<Duty>,
+    duties: &mut Vec<KeptDuty>,
 ) -> Result<(), NoMemory>
     ensures { OnOk result (shown_duties duties.new.items ≡ shown_duties duties.old.items
         ++ spec.letter_owed (shown_area area.now) (shown_piece letter.now) (shown_all rest.now)) }
@@ -256,9 +260,9 @@ fn push_letter(
 /// Adds the duties of options with no unknown piece that may open the text of one.
 fn push_known(
     alloc: Global,
-    area: &Area,
+    area: &KeptArea,
     options: &[Piece],
-    duties: &mut Vec<Duty>,
+    duties: &mut Vec<KeptDuty>,
 ) -> Result<(), NoMemory>
     ensures { OnOk result (shown_duties duties.new.items ≡ shown_duties duties.old.items
         ++ spec.known_owed (shown_area area.now) (shown_all options.now)) }
@@ -318,9 +322,9 @@ fn are_unsure(pieces: &[Piece]) -> bool
 /// Adds the duties of options.
 pub(crate) fn push_options(
     alloc: Global,
-    area: &Area,
+    area: &KeptArea,
     options: &[Piece],
-    duties: &mut Vec<Duty>,
+    duties: &mut Vec<KeptDuty>,
 ) -> Result<(), NoMemory>
     ensures { OnOk result (shown_duties duties.new.items ≡ shown_duties duties.old.items
         ++ spec.options_owed (shown_area area.now) (shown_all options.now)) }
@@ -335,9 +339,9 @@ pub(crate) fn push_options(
 /// Adds the duties of the name of a macro with its arguments, unless it is empty.
 fn push_started_macro(
     alloc: Global,
-    area: &Area,
+    area: &KeptArea,
     name: &[Piece],
-    duties: &mut Vec<Duty>,
+    duties: &mut Vec<KeptDuty>,
 ) -> Result<(), NoMemory>
     ensures { OnOk result (shown_duties duties.new.items ≡ shown_duties duties.old.items
         ++ spec.started_macro (shown_area area.now) (shown_all name.now)) }
@@ -353,7 +357,7 @@ fn push_started_macro(
 fn push_started_routine(
     alloc: Global,
     name: &[Piece],
-    duties: &mut Vec<Duty>,
+    duties: &mut Vec<KeptDuty>,
 ) -> Result<(), NoMemory>
     ensures { OnOk result (shown_duties duties.new.items ≡ shown_duties duties.old.items ++ spec.started_routine (shown_all name.now)) }
 {
@@ -367,10 +371,10 @@ fn push_started_routine(
 /// Adds the duties of a macro and of a subroutine that a member of a queue runs.
 pub(crate) fn push_started(
     alloc: Global,
-    area: &Area,
+    area: &KeptArea,
     name: &[Piece],
     routine: &[Piece],
-    duties: &mut Vec<Duty>,
+    duties: &mut Vec<KeptDuty>,
 ) -> Result<(), NoMemory>
     ensures { OnOk result (shown_duties duties.new.items ≡ shown_duties duties.old.items
         ++ spec.started_owed (shown_area area.now) (shown_all name.now) (shown_all routine.now)) }

@@ -6,21 +6,21 @@ ghost use Rattle.dp_pieces.specs.Shown.{shown_all};
 ghost use Rattle.dp_wide_duties.specs.Places as spec;
 
 use crate::arguments::{argument, may_be_empty};
-use dp_closed::{Area, Duty, bytes_in, push_area};
+use dp_closed::{KeptArea, KeptDuty, bytes_in, push_area};
 use dp_conf::NoMemory;
 use dp_pieces::{ByteSet, Piece};
 use std::alloc::Global;
 
 /// The bytes that a phone can dial.
-pub(crate) fn dialled() -> ByteSet
-    ensures { set_by result ≡ spec.dialled }
+pub(crate) fn dialled_bytes() -> ByteSet
+    ensures { set_by result ≡ spec.dialled_bytes }
 {
     bytes_in(b"0123456789*#ABCD")
 }
 
 /// The bytes of the names of mailboxes.
-fn listed() -> ByteSet
-    ensures { set_by result ≡ spec.listed }
+fn mailbox_bytes() -> ByteSet
+    ensures { set_by result ≡ spec.mailbox_bytes }
 {
     bytes_in(b"0123456789*#ABCDEFGHIJKLMNOPQRSTUVWXYZabcdefghijklmnopqrstuvwxyz-_.+")
 }
@@ -30,7 +30,7 @@ pub(crate) fn push_any_in(
     alloc: Global,
     set: ByteSet,
     context: &[Piece],
-    duties: &mut Vec<Duty>,
+    duties: &mut Vec<KeptDuty>,
 ) -> Result<(), NoMemory>
     ensures { OnOk result (shown_duties duties.new.items
         ≡ shown_duties duties.old.items ++ spec.any_in (set_by set) (shown_all context.now)) }
@@ -42,7 +42,11 @@ pub(crate) fn push_any_in(
 }
 
 /// Adds the extension `i` in a context, unless its name is empty.
-fn push_invalid_in(alloc: Global, context: &[Piece], duties: &mut Vec<Duty>) -> Result<(), NoMemory>
+fn push_invalid_in(
+    alloc: Global,
+    context: &[Piece],
+    duties: &mut Vec<KeptDuty>,
+) -> Result<(), NoMemory>
     ensures { OnOk result (shown_duties duties.new.items ≡ shown_duties duties.old.items ++ spec.invalid_in (shown_all context.now)) }
 {
     if context.is_empty() {
@@ -55,11 +59,11 @@ fn push_invalid_in(alloc: Global, context: &[Piece], duties: &mut Vec<Duty>) -> 
 fn push_dialled_into(
     alloc: Global,
     context: &[Piece],
-    duties: &mut Vec<Duty>,
+    duties: &mut Vec<KeptDuty>,
 ) -> Result<(), NoMemory>
     ensures { OnOk result (shown_duties duties.new.items ≡ shown_duties duties.old.items ++ spec.dialled_into (shown_all context.now)) }
 {
-    push_any_in(alloc, dialled(), context, duties)?;
+    push_any_in(alloc, dialled_bytes(), context, duties)?;
     push_invalid_in(alloc, context, duties)
 }
 
@@ -75,7 +79,7 @@ const DISA: [Piece; 4] = [
 pub(crate) fn push_disa(
     alloc: Global,
     pieces: &[Piece],
-    duties: &mut Vec<Duty>,
+    duties: &mut Vec<KeptDuty>,
 ) -> Result<(), NoMemory>
     ensures { OnOk result (shown_duties duties.new.items
         ≡ shown_duties duties.old.items ++ spec.disa_owed (shown_all pieces.now)) }
@@ -103,28 +107,28 @@ pub(crate) const DEFAULT: [Piece; 7] = [
 fn push_first_listed(
     alloc: Global,
     context: &[Piece],
-    duties: &mut Vec<Duty>,
+    duties: &mut Vec<KeptDuty>,
 ) -> Result<(), NoMemory>
     ensures { OnOk result (shown_duties duties.new.items ≡ shown_duties duties.old.items ++ spec.first_listed (shown_all context.now)) }
 {
-    push_any_in(alloc, listed(), context, duties)?;
+    push_any_in(alloc, mailbox_bytes(), context, duties)?;
     if !may_be_empty(context) {
         return Ok(());
     }
-    push_any_in(alloc, listed(), &DEFAULT, duties)
+    push_any_in(alloc, mailbox_bytes(), &DEFAULT, duties)
 }
 
 /// Adds the duties of `Directory`.
 pub(crate) fn push_directory(
     alloc: Global,
     pieces: &[Piece],
-    duties: &mut Vec<Duty>,
+    duties: &mut Vec<KeptDuty>,
 ) -> Result<(), NoMemory>
     ensures { OnOk result (shown_duties duties.new.items
         ≡ shown_duties duties.old.items ++ spec.directory_owed (shown_all pieces.now)) }
 {
     let context = argument(alloc, 1, pieces)?;
-    push_any_in(alloc, listed(), &context, duties)?;
+    push_any_in(alloc, mailbox_bytes(), &context, duties)?;
     if !may_be_empty(&context) {
         return Ok(());
     }
@@ -133,7 +137,11 @@ pub(crate) fn push_directory(
 }
 
 /// Adds the duties of voice mail.
-pub(crate) fn push_mail(alloc: Global, area: &Area, duties: &mut Vec<Duty>) -> Result<(), NoMemory>
+pub(crate) fn push_mail(
+    alloc: Global,
+    area: &KeptArea,
+    duties: &mut Vec<KeptDuty>,
+) -> Result<(), NoMemory>
     ensures { OnOk result (shown_duties duties.new.items ≡ shown_duties duties.old.items ++ spec.mail_owed (shown_area area.now)) }
 {
     push_area(alloc, &area.context, &[Piece::Known(b'o')], duties)?;

@@ -12,7 +12,7 @@ use crate::held::push_anything;
 use crate::macros::push_macro;
 use crate::settings::{push_deletion, push_read, push_set, push_unknown};
 use dp_app::AppTable;
-use dp_closed::{Area, Duty, push_duties, push_goto_if};
+use dp_closed::{KeptArea, KeptDuty, push_duties, push_goto_if};
 use dp_conf::{NoMemory, same_word};
 use dp_pieces::Piece;
 use dp_table::StandardApps;
@@ -119,9 +119,9 @@ fn inner_row(application: &[u8]) -> WideRow<'_>
 fn push_row(
     alloc: Global,
     row: WideRow<'_>,
-    area: &Area,
+    area: &KeptArea,
     pieces: &[Piece],
-    duties: &mut Vec<Duty>,
+    duties: &mut Vec<KeptDuty>,
 ) -> Result<(), NoMemory>
     ensures { OnOk result (shown_duties duties.new.items
         ≡ shown_duties duties.old.items ++ shown_row row.entry (shown_area area.now) (shown_all pieces.now)) }
@@ -145,9 +145,9 @@ fn push_row(
 pub(crate) fn push_inner(
     alloc: Global,
     application: &[u8],
-    area: &Area,
+    area: &KeptArea,
     pieces: &[Piece],
-    duties: &mut Vec<Duty>,
+    duties: &mut Vec<KeptDuty>,
 ) -> Result<(), NoMemory>
     ensures { OnOk result (shown_duties duties.new.items
         ≡ shown_duties duties.old.items ++ spec.inner_duties application.now (shown_area area.now) (shown_all pieces.now)) }

@@ -14,23 +14,23 @@ ghost use Rattle.dp_wide.specs.Settings as wide;
 ghost use Rattle.dp_wide_reach.specs.Settings as spec;
 
 use crate::held::{known_front, push_each};
-use dp_closed::{Duty, bytes_in, push_name, set_of};
+use dp_closed::{KeptDuty, bytes_in, push_name, set_of};
 use dp_conf::{NoMemory, trim};
 use dp_pieces::{ByteSet, Piece, known_text};
-use dp_wide::{Effect, Target, bare_name, deleted_mark, effect_of};
+use dp_wide::{Effect, SetTarget, bare_name, deleted_mark, effect_of};
 use std::alloc::Global;
 
 /// Adds the duties if any name, and the caller's number, may have these bytes.
-fn push_any(set: ByteSet, duties: &mut Vec<Duty>) -> Result<(), NoMemory>
+fn push_any(set: ByteSet, duties: &mut Vec<KeptDuty>) -> Result<(), NoMemory>
     ensures { OnOk result (shown_duties duties.new.items ≡ shown_duties duties.old.items ++ spec.any_duties (set_by set)) }
 {
-    duties.push(Duty::HoldsAll(set))?;
-    duties.push(Duty::Calls(set))?;
+    duties.push(KeptDuty::HoldsAll(set))?;
+    duties.push(KeptDuty::Calls(set))?;
     Ok(())
 }
 
 /// Adds the duties if any name, and the caller's number, may have the bytes of the pieces.
-pub(crate) fn push_unknown(pieces: &[Piece], duties: &mut Vec<Duty>) -> Result<(), NoMemory>
+pub(crate) fn push_unknown(pieces: &[Piece], duties: &mut Vec<KeptDuty>) -> Result<(), NoMemory>
     ensures { OnOk result (shown_duties duties.new.items
         ≡ shown_duties duties.old.items ++ spec.any_duties (pieces_set (shown_all pieces.now))) }
 {
@@ -40,22 +40,22 @@ pub(crate) fn push_unknown(pieces: &[Piece], duties: &mut Vec<Duty>) -> Result<(
 /// Adds the duties if one thing is set to a text with these bytes.
 fn push_target(
     alloc: Global,
-    target: Target<'_>,
+    target: SetTarget<'_>,
     set: ByteSet,
-    duties: &mut Vec<Duty>,
+    duties: &mut Vec<KeptDuty>,
 ) -> Result<(), NoMemory>
     ensures { OnOk result (shown_duties duties.new.items
         ≡ shown_duties duties.old.items ++ spec.target_duties (set_by set) (target_seen target.entry)) }
 {
     match target {
-        Target::Variable(name) => push_name(alloc, name, set, duties),
-        Target::Global(name) => push_name(alloc, name, set, duties),
-        Target::Local(name) => push_name(alloc, name, set, duties),
-        Target::Caller => {
-            duties.push(Duty::Calls(set))?;
+        SetTarget::Variable(name) => push_name(alloc, name, set, duties),
+        SetTarget::Global(name) => push_name(alloc, name, set, duties),
+        SetTarget::Local(name) => push_name(alloc, name, set, duties),
+        SetTarget::Caller => {
+            duties.push(KeptDuty::Calls(set))?;
             Ok(())
         }
-        Target::Nothing => Ok(()),
+        SetTarget::Nothing => Ok(()),
     }
 }
 
@@ -64,7 +64,7 @@ fn push_effect(
     alloc: Global,
     effect: Effect<'_>,
     set: ByteSet,
-    duties: &mut Vec<Duty>,
+    duties: &mut Vec<KeptDuty>,
 ) -> Result<(), NoMemory>
     ensures { OnOk result (shown_duties duties.new.items
         ≡ shown_duties duties.old.items ++ spec.effect_duties (set_by set) (effect_seen effect.entry)) }
@@ -72,7 +72,7 @@ fn push_effect(
     match effect {
         Effect::OneTarget(target) => push_target(alloc, target, set, duties),
         Effect::NameAndNumber => {
-            duties.push(Duty::Calls(set))?;
+            duties.push(KeptDuty::Calls(set))?;
             push_name(alloc, b"CALLERID(name)", set, duties)
         }
         Effect::EmptyKey(_) => Ok(()),
@@ -85,7 +85,7 @@ fn push_setting(
     alloc: Global,
     name: &[u8],
     value: &[Piece],
-    duties: &mut Vec<Duty>,
+    duties: &mut Vec<KeptDuty>,
 ) -> Result<(), NoMemory>
     ensures { OnOk result (shown_duties duties.new.items ≡ shown_duties duties.old.items
         ++ spec.effect_duties (pieces_set (shown_all value.now)) (wide.effect_of (wide.bare_name name.now))) }
@@ -97,7 +97,7 @@ fn push_setting(
 pub(crate) fn push_set(
     alloc: Global,
     pieces: &[Piece],
-    duties: &mut Vec<Duty>,
+    duties: &mut Vec<KeptDuty>,
 ) -> Result<(), NoMemory>
     ensures { OnOk result (shown_duties duties.new.items ≡ shown_duties duties.old.items
         ++ spec.setting_duties (shown_all pieces.now) (cut_known 61 (shown_all pieces.now))) }
@@ -112,7 +112,7 @@ pub(crate) fn push_set(
 pub(crate) fn push_deletion(
     alloc: Global,
     pieces: &[Piece],
-    duties: &mut Vec<Duty>,
+    duties: &mut Vec<KeptDuty>,
 ) -> Result<(), NoMemory>
     ensures { OnOk result (shown_duties duties.new.items
         ≡ shown_duties duties.old.items ++ spec.deletion_duties (text_known (shown_all pieces.now))) }
@@ -137,7 +137,7 @@ fn listed_set(pieces: &[Piece]) -> ByteSet
 pub(crate) fn push_read(
     alloc: Global,
     pieces: &[Piece],
-    duties: &mut Vec<Duty>,
+    duties: &mut Vec<KeptDuty>,
 ) -> Result<(), NoMemory>
     ensures { OnOk result (shown_duties duties.new.items ≡ shown_duties duties.old.items
         ++ bounds.Holds read_names (either (pieces_set (shown_all pieces.now)) (bytes_in (codes ","))) ∷ []) }

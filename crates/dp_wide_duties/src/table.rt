@@ -3,7 +3,7 @@ ghost use Rattle.std.specs.Prelude.{◌≡◌};
 
 use crate::choices::duties;
 use dp_app::{AppNumber, AppTable, Cell, Move};
-use dp_closed::{Area, Duty, DutyTable, set_of};
+use dp_closed::{DutyTable, KeptArea, KeptDuty, set_of};
 use dp_conf::NoMemory;
 use dp_pieces::{ByteSet, NamesAt};
 use dp_wide::{WideApps, WideFunctions};
@@ -48,13 +48,13 @@ impl DutyTable for WideDuties {
 
     ghost bounded = { exchange_bounded };
 
-    fn owed(
+    fn duties_of(
         alloc: Global,
         names: &NamesAt<'_>,
-        area: &Area,
+        area: &KeptArea,
         name: &[u8],
         arguments: &[u8],
-    ) -> Result<Vec<Duty>, NoMemory> {
+    ) -> Result<Vec<KeptDuty>, NoMemory> {
         let pieces = read_wide_pieces(alloc, names, arguments)?;
         duties(alloc, name, area, &pieces)
     }

@@ -4,8 +4,8 @@ ghost use Rattle.dp_closed.specs.Shown.{shown_area, shown_duties};
 ghost use Rattle.dp_pieces.specs.Shown.{shown_all};
 ghost use Rattle.dp_wide_duties.specs.Transfers as spec;
 
-use crate::places::dialled;
-use dp_closed::{Area, Duty, push_area, set_of};
+use crate::places::dialled_bytes;
+use dp_closed::{KeptArea, KeptDuty, push_area, set_of};
 use dp_conf::NoMemory;
 use dp_pieces::Piece;
 use std::alloc::Global;
@@ -21,9 +21,9 @@ fn may_transfer(options: &[Piece]) -> bool
 /// Adds where a phone may transfer a call with these options.
 pub(crate) fn push_transfer(
     alloc: Global,
-    area: &Area,
+    area: &KeptArea,
     options: &[Piece],
-    duties: &mut Vec<Duty>,
+    duties: &mut Vec<KeptDuty>,
 ) -> Result<(), NoMemory>
     ensures { OnOk result (shown_duties duties.new.items
         ≡ shown_duties duties.old.items ++ spec.transfer_owed (shown_area area.now) (shown_all options.now)) }
@@ -31,5 +31,10 @@ pub(crate) fn push_transfer(
     if !may_transfer(options) {
         return Ok(());
     }
-    push_area(alloc, &area.context, &[Piece::AnyOf(dialled())], duties)
+    push_area(
+        alloc,
+        &area.context,
+        &[Piece::AnyOf(dialled_bytes())],
+        duties,
+    )
 }

@@ -16,7 +16,7 @@ use Rattle.dp_vars.specs.declared.value.Function.{Function}
 use Rattle.dp_vars.specs.declared.value.Function.TheVariants.{Global, Local, Len, CallerId, QueueWaitingCount}
 use Rattle.dp_pieces.specs.Bytes.{Bytes, Within, either, numeric}
 use Rattle.dp_pieces.specs.Names.{IsWithin, Names}
-use Rattle.dp_pieces.specs.Pieces.{Fits, Piece, bytes_in, pieces_set, text_known}
+use Rattle.dp_pieces.specs.Pieces.{Fits, PieceOf, bytes_in, pieces_set, text_known}
 use Rattle.dp_pieces.proofs.ExpressionLemmas.{within-expression}
 use Rattle.dp_pieces.proofs.FitsLemmas.{fits-any_bytes_of, fits-part, fits-set, fits-text_known}
 use Rattle.dp_pieces.proofs.NumeralLemmas.{within-decimal}
@@ -100,7 +100,7 @@ module _ (names : Names) (sight : Sight) (seen : IsWithin names sight) where
   fits-body body (Some cut) = fits-part (asked_of (Some cut.1)) (wide_head_pieces names cut.0) (head_value_with wide_functions sight cut.0) (fits-head cut.0)
 
   -- a text in braces
-  fits-braces : (pieces : List Piece) (text : List ℕ) → Fits pieces text → (known : Option (List ℕ)) → ((body : List ℕ) → known ≡ Some body → text ≡ body)
+  fits-braces : (pieces : List PieceOf) (text : List ℕ) → Fits pieces text → (known : Option (List ℕ)) → ((body : List ℕ) → known ≡ Some body → text ≡ body)
       → Fits (braces_by names pieces known) (body_by_with wide_functions sight text (cut_outside 58 text))
   fits-braces pieces text fits None is = fits-any_bytes_of (function_bytes names (pieces_set pieces)) _ (within-braces names sight seen (pieces_set pieces) text (fits-set pieces text fits))
   fits-braces pieces text fits (Some body) is =
@@ -113,7 +113,7 @@ module _ (names : Names) (sight : Sight) (seen : IsWithin names sight) where
   within-read set readings.Unknown value is = is
 
   -- the value of a group whose expanded body fits pieces
-  fits-group : (kind : GroupKind) (body : List Piece) (text : List ℕ) → Fits body text → Fits (wide_group_pieces names kind body) (group_value_with wide_functions sight kind text)
+  fits-group : (kind : GroupKind) (body : List PieceOf) (text : List ℕ) → Fits body text → Fits (wide_group_pieces names kind body) (group_value_with wide_functions sight kind text)
   unfolding group_value_with
   fits-group Braces body text fits = fits-braces body text fits (text_known body) (λ bytes from. fits-text_known body text bytes from fits)
   fits-group Brackets body text fits =

@@ -7,7 +7,7 @@ use Rattle.dp_pieces.specs.Bytes.{Bytes, Within}
 use Rattle.dp_pieces.proofs.WithinLemmas.{within-append}
 use Rattle.dp_wide.specs.Fields.{begins_escaped, first_argument, other_arguments, way_of}
 use Rattle.dp_wide.specs.TextFunctions.{filter_value}
-use Rattle.dp_wide.specs.Texts.{are_ranges, chosen_from, cut, delimiter_of, is_chosen, kept_of, parts_of}
+use Rattle.dp_wide.specs.Texts.{are_ranges, chosen_from, cut_fields, delimiter_of, is_chosen, kept_of, parts_of}
 use Rattle.dp_wide_pieces.proofs.CutLemmas.{AreWithin, within-cut_once, within-first_argument}
 
 -- what holds of each element holds of those that a test keeps
@@ -49,8 +49,8 @@ module _ (set : Bytes) where
   within-join mark (part ∷ next ∷ parts) is all = within-append set part (mark ∷ join_with_byte mark (next ∷ parts)) all.0 (is, within-join mark (next ∷ parts) is all.1)
 
   -- the chosen fields of a value
-  pub within-cut : (value : List ℕ) (delimiter : ℕ) (fields : List ℕ) → Within set value → set delimiter ≡ true → Within set (cut value delimiter fields)
-  unfolding cut
+  pub within-cut : (value : List ℕ) (delimiter : ℕ) (fields : List ℕ) → Within set value → set delimiter ≡ true → Within set (cut_fields value delimiter fields)
+  unfolding cut_fields
   within-cut value delimiter fields is has = by (are_ranges fields)
     where
       by : (valid : Bool) → Within set (if valid then join_with_byte delimiter (chosen_from 1 fields (parts_of delimiter value)) else [])

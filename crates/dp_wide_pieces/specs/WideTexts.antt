@@ -11,7 +11,7 @@ use Rattle.dp_vars.specs.declared.value.Function.{Function}
 use Rattle.dp_vars.specs.declared.value.Function.TheVariants.{Global, Local, Len, CallerId, QueueWaitingCount}
 use Rattle.dp_pieces.specs.Bytes.{Bytes, digits, either, none, numeric}
 use Rattle.dp_pieces.specs.Names.{Names, part_pieces, variable_pieces}
-use Rattle.dp_pieces.specs.Pieces.{Piece, any_bytes_of, bytes_in, pieces_set, text_known}
+use Rattle.dp_pieces.specs.Pieces.{PieceOf, any_bytes_of, bytes_in, pieces_set, text_known}
 use Rattle.dp_pieces.specs.Texts.{pieces_by}
 use Rattle.dp_wide.specs.Caller.{asks_all, asks_number}
 use Rattle.dp_wide.specs.Cells.{cell_name}
@@ -48,29 +48,29 @@ called_set names name None = none
 called_set names name (Some argument) = named_set names (function_of name) name argument
 
 -- a head, given its cut at the first `(`: a function with an argument, or a variable
-abbrev pub head_by : Names → List ℕ → Option (List ℕ × List ℕ) → List Piece
+abbrev pub head_by : Names → List ℕ → Option (List ℕ × List ℕ) → List PieceOf
 head_by names head None = variable_pieces names head
 head_by names head (Some cut) = any_bytes_of (called_set names cut.0 (before_last 41 cut.1))
 
 -- a head: a name, or a function with its argument in parentheses
-unfoldable pub wide_head_pieces : Names → List ℕ → List Piece
+unfoldable pub wide_head_pieces : Names → List ℕ → List PieceOf
 wide_head_pieces names head = head_by names head (cut_once 40 head)
 
 -- a text in braces without groups: a head, or a head and the requested part of it
-abbrev pub body_by : Names → List ℕ → Option (List ℕ × List ℕ) → List Piece
+abbrev pub body_by : Names → List ℕ → Option (List ℕ × List ℕ) → List PieceOf
 body_by names body None = wide_head_pieces names body
 body_by names body (Some cut) = part_pieces (asked_of (Some cut.1)) (wide_head_pieces names cut.0)
 
 -- a text in braces; one of which something is unknown may call any function with any of its bytes
-abbrev pub braces_by : Names → List Piece → Option (List ℕ) → List Piece
+abbrev pub braces_by : Names → List PieceOf → Option (List ℕ) → List PieceOf
 braces_by names pieces None = any_bytes_of (function_bytes names (pieces_set pieces))
 braces_by names pieces (Some body) = body_by names body (cut_outside 58 body)
 
 -- a group, given its body: the value of an expression is a number or a part of its text
-abbrev pub wide_group_pieces : Names → GroupKind → List Piece → List Piece
+abbrev pub wide_group_pieces : Names → GroupKind → List PieceOf → List PieceOf
 wide_group_pieces names Braces body = braces_by names body (text_known body)
 wide_group_pieces names Brackets body = any_bytes_of (either (pieces_set body) numeric)
 
 -- the pieces of a text
-abbrev pub wide_text_pieces : Names → List ℕ → List Piece
+abbrev pub wide_text_pieces : Names → List ℕ → List PieceOf
 wide_text_pieces names text = pieces_by (wide_group_pieces names) (reading_of text)

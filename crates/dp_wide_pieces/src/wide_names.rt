@@ -146,7 +146,7 @@ impl WideNamesAt<'_> {
     }
 
     /// The pieces of a function, given its name and the text after its `(`.
-    fn called(&self, alloc: Global, name: &[u8], rest: &[u8]) -> Result<Vec<Piece>, NoMemory>
+    fn call_pieces(&self, alloc: Global, name: &[u8], rest: &[u8]) -> Result<Vec<Piece>, NoMemory>
         ensures { IfOk result (λ pieces. shown_all pieces.items
             ≡ any_bytes_of (texts.called_set (names_of self.now.names) name.now (before_last 41 rest.now))) }
     {
@@ -162,7 +162,7 @@ impl WideNamesAt<'_> {
     {
         match cut_once(head, b'(') {
             None => self.names.variable(alloc, head),
-            Some((name, rest)) => self.called(alloc, name, rest),
+            Some((name, rest)) => self.call_pieces(alloc, name, rest),
         }
     }
 

@@ -5,12 +5,12 @@ use Rattle.std.specs.Cmp.Lexicographic.{nat_list_cmp_total, slice_cmp}
 use Rattle.std.specs.Ordering.{eq_by_cmp, nat_cmp}
 use Rattle.std.specs.FinMap.{get, get-remove, get-retain_keys, remove, slice_cmp-IsAntisymmetric, nat_cmp-IsAntisymmetric}
 use Rattle.dp_conf.proofs.TextLemmas.{each-append}
-use Rattle.dp_vars.specs.Stores.{Frame, StoreOf, all_locals, searched_maps, unset, value_in, without_local}
+use Rattle.dp_vars.specs.Stores.{StoreFrame, StoreOf, all_locals, searched_maps, unset, value_in, without_local}
 use Rattle.dp_vars.specs.Variables.{Named, is_in_tree, without_tree}
 use Rattle.dp_app.specs.declared.place.Place.{Place}
 use Rattle.dp_pieces.specs.Names.{Names}
 use Rattle.dp_reach.specs.Areas.{Covers}
-use Rattle.dp_reach.specs.Holding.{AreHeld, Claim, IsHeld, IsKept}
+use Rattle.dp_reach.specs.Holding.{AreHeld, Claim, IsHeld, KeepsToClaim}
 use Rattle.dp_reach.proofs.SightLemmas.{each-reverse, held-first, locals-held}
 
 -- a map without a name
@@ -35,18 +35,18 @@ held-without_tree names values root front held q =
     by false = tt
 
 -- frames without a local
-held-frames : (names : Names) (name : List ℕ) (frames : List (Frame Place)) → AllByRecursion (λ (frame : Frame Place). AreHeld names frame.locals) frames
-    → AllByRecursion (λ (frame : Frame Place). AreHeld names frame.locals) (map (without_local name) frames)
+held-frames : (names : Names) (name : List ℕ) (frames : List (StoreFrame Place)) → AllByRecursion (λ (frame : StoreFrame Place). AreHeld names frame.locals) frames
+    → AllByRecursion (λ (frame : StoreFrame Place). AreHeld names frame.locals) (map (without_local name) frames)
 held-frames names name [] all = tt
 held-frames names name (frame ∷ frames) all = (held-remove names frame.locals name all.0, held-frames names name frames all.1)
 
-back-frames : (claim : Claim) (name : List ℕ) (frames : List (Frame Place)) → AllByRecursion (λ (frame : Frame Place). Covers claim.plan claim.reach frame.back) frames
-    → AllByRecursion (λ (frame : Frame Place). Covers claim.plan claim.reach frame.back) (map (without_local name) frames)
+back-frames : (claim : Claim) (name : List ℕ) (frames : List (StoreFrame Place)) → AllByRecursion (λ (frame : StoreFrame Place). Covers claim.plan claim.reach frame.back) frames
+    → AllByRecursion (λ (frame : StoreFrame Place). Covers claim.plan claim.reach frame.back) (map (without_local name) frames)
 back-frames claim name [] all = tt
 back-frames claim name (frame ∷ frames) all = (all.0, back-frames claim name frames all.1)
 
 -- a store in which a name no longer has a value
-pub kept-unset : (claim : Claim) (store : StoreOf Place) (name : List ℕ) → IsKept claim store → IsKept claim (unset store name)
+pub kept-unset : (claim : Claim) (store : StoreOf Place) (name : List ℕ) → KeepsToClaim claim store → KeepsToClaim claim (unset store name)
 unfolding unset
 kept-unset claim store name kept = record {
   variables = held-remove claim.names store.variables name kept.variables;
@@ -55,8 +55,8 @@ kept-unset claim store name kept = record {
 }
 
 -- the value of a name in a store
-pub held-value_in : (claim : Claim) (store : StoreOf Place) (name : List ℕ) → IsKept claim store → IsHeld (claim.names.bytes name) (value_in store name)
+pub held-value_in : (claim : Claim) (store : StoreOf Place) (name : List ℕ) → KeepsToClaim claim store → IsHeld (claim.names.bytes name) (value_in store name)
 held-value_in claim store name kept =
     held-first claim.names (searched_maps store) name
     (each-append (AreHeld claim.names) (all_locals store.frames) (store.variables ∷ [])
-    (locals-held claim.names (reverse store.frames) (each-reverse (λ (frame : Frame Place). AreHeld claim.names frame.locals) store.frames kept.locals)) (kept.variables, tt))
+    (locals-held claim.names (reverse store.frames) (each-reverse (λ (frame : StoreFrame Place). AreHeld claim.names frame.locals) store.frames kept.locals)) (kept.variables, tt))

@@ -4,7 +4,7 @@ use Rattle.std.specs.FinMap.{insert}
 use Rattle.std.specs.List.{AllByRecursion}
 use Rattle.dp_conf.specs.Blanks.{trim}
 use Rattle.dp_conf.specs.Levels.{arguments_of}
-use Rattle.dp_vars.specs.Stores.{Frame, StoreOf, innermost, set, unset, value_in}
+use Rattle.dp_vars.specs.Stores.{StoreFrame, StoreOf, innermost, set, unset, value_in}
 use Rattle.dp_vars.specs.Variables.{Named}
 use Rattle.dp_app.specs.Cells.{CellOf}
 use Rattle.dp_app.specs.Parts.{part}
@@ -22,7 +22,7 @@ use Rattle.dp_wide.specs.ReadNames.{is_listed, read_names, with_listed}
 use Rattle.dp_wide.specs.Settings.{without_mark}
 use Rattle.dp_reach.specs.Areas.{Covers}
 use Rattle.dp_reach.specs.Bounds.{Holds, IsBounded, Meets, MeetsAll, nothing_owed}
-use Rattle.dp_reach.specs.Holding.{AreHeld, Claim, IsGood, IsHeld, IsInside, IsKept}
+use Rattle.dp_reach.specs.Holding.{AreHeld, Claim, IsGood, IsHeld, IsInside, KeepsToClaim}
 use Rattle.dp_reach.proofs.StoreLemmas.{each-get, held-insert, kept-set, kept-without_frame}
 use Rattle.dp_reach.proofs.TargetLemmas.{arguments-within}
 use Rattle.dp_wide_reach.specs.Settings.{delete_tree_duties, deletion_duties, read_duties}
@@ -32,13 +32,13 @@ use Rattle.dp_wide_reach.proofs.HeldLemmas.{held-value_in, held-without_tree, ke
 pub macro_exit-bounded : IsBounded nothing_owed macro_exit_row
 macro_exit-bounded claim area pieces arguments cell good inside own fits met = by (innermost cell.store.frames) refl
   where
-    by : (o : Option (Frame Place)) → innermost cell.store.frames ≡ o → IsInside claim cell.place (exit_by cell o)
+    by : (o : Option (StoreFrame Place)) → innermost cell.store.frames ≡ o → IsInside claim cell.place (exit_by cell o)
     by None is = record { cell = good; next = tt }
     by (Some frame) is = record {
       cell = record { store = kept-without_frame claim cell.store good.store; globals = good.globals; caller = good.caller };
       next = λ place found.
           let same : frame.back ≡ place = cc in
-          subst (Covers claim.plan claim.reach) same (each-get (λ (frame : Frame Place). Covers claim.plan claim.reach frame.back) cell.store.frames (length cell.store.frames - 1) frame good.store.back is);
+          subst (Covers claim.plan claim.reach) same (each-get (λ (frame : StoreFrame Place). Covers claim.plan claim.reach frame.back) cell.store.frames (length cell.store.frames - 1) frame good.store.back is);
     }
 
 -- the row of `DBdel`
@@ -106,19 +106,19 @@ listed-within set own name part is (Some names) held = by (is_listed names name)
     by false = within-append own names (44 ∷ name) held (part 44 (part-right set (bytes_in (codes ",")) 44 refl), within-more set own more name is)
 
 -- the store after names lost their values
-kept-without_values : (claim : Claim) (names : List (List ℕ)) (store : StoreOf Place) → IsKept claim store → IsKept claim (without_values names store)
+kept-without_values : (claim : Claim) (names : List (List ℕ)) (store : StoreOf Place) → KeepsToClaim claim store → KeepsToClaim claim (without_values names store)
 kept-without_values claim [] store kept = kept
 kept-without_values claim (name ∷ names) store kept = kept-without_values claim names (unset store name) (kept-unset claim store name kept)
 
 kept-after_reading : (claim : Claim) (set : Bytes) (name : List ℕ) (store : StoreOf Place) → Meets claim (Holds read_names (either set (bytes_in (codes ",")))) → Within set name
-    → IsKept claim store → IsKept claim (after_reading name store)
+    → KeepsToClaim claim store → KeepsToClaim claim (after_reading name store)
 kept-after_reading claim set name store met is kept =
     kept-unset claim _ name (kept-set claim store read_names (with_listed (value_in store read_names) name) kept
     (listed-within set (claim.names.bytes read_names) name met is (value_in store read_names) (held-value_in claim store read_names kept)))
 
 -- an application that runs outside, whose store before it keeps to the claim
 outside-inside : (claim : Claim) (statuses : List (List ℕ)) (reads : Bool) (arguments : List ℕ) (cell : CellOf) → IsGood claim cell
-    → IsKept claim (after_arguments reads arguments cell.store) → (closing : Bool) → IsInside claim cell.place (outside_outcome statuses reads arguments cell closing)
+    → KeepsToClaim claim (after_arguments reads arguments cell.store) → (closing : Bool) → IsInside claim cell.place (outside_outcome statuses reads arguments cell closing)
 outside-inside claim statuses reads arguments cell good kept true = record { cell = good; next = tt }
 outside-inside claim statuses reads arguments cell good kept false = record {
   cell = record { store = kept-without_values claim statuses (after_arguments reads arguments cell.store) kept; globals = good.globals; caller = good.caller };

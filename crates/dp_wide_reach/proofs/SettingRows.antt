@@ -12,21 +12,21 @@ use Rattle.dp_app.specs.Cells.{CellOf}
 use Rattle.dp_pieces.specs.Bytes.{Bytes, Within}
 use Rattle.dp_pieces.specs.Cuts.{cut_known}
 use Rattle.dp_pieces.specs.Fitting.{IsCutKnown}
-use Rattle.dp_pieces.specs.Pieces.{Fits, Piece, pieces_set}
+use Rattle.dp_pieces.specs.Pieces.{Fits, PieceOf, pieces_set}
 use Rattle.dp_pieces.proofs.FitsLemmas.{fits-set}
 use Rattle.dp_pieces.proofs.LastLemmas.{known-fits}
 use Rattle.dp_pieces.proofs.WithinLemmas.{within-more, within-trim}
 use Rattle.dp_wide.specs.Cells.{cell_name}
-use Rattle.dp_wide.specs.Settings.{CallerText, Effect, OneTarget, NameAndNumber, EmptyKey, EachName, Settable, bare_name, before_quote, caller_by, caller_of, effect_of, first_value, later_values, mset_row, name_and_number, number_alone, set_row, settable_of, with_each, with_effect, with_one, with_pair, with_setting, with_settable, with_target, with_text, without_quotes}
+use Rattle.dp_wide.specs.Settings.{CallerTextOf, EffectOf, OneTarget, NameAndNumber, EmptyKey, EachName, Settable, bare_name, before_quote, caller_by, caller_of, effect_of, first_value, later_values, mset_row, name_and_number, number_alone, set_row, settable_of, with_each, with_effect, with_one, with_pair, with_setting, with_settable, with_target, with_text, without_quotes}
 use Rattle.dp_reach.specs.Bounds.{IsBounded, MeetsAll}
-use Rattle.dp_reach.specs.Holding.{AreHeld, Claim, IsGood, IsKept}
+use Rattle.dp_reach.specs.Holding.{AreHeld, Claim, IsGood, KeepsToClaim}
 use Rattle.dp_reach.proofs.StoreLemmas.{held-insert, kept-set, kept-set_local}
 use Rattle.dp_reach.proofs.TargetLemmas.{arguments-within, split-within}
 use Rattle.dp_wide_reach.specs.Settings.{any_duties, effect_duties, mset_duties, setting_duties, target_duties, wide_set_duties}
 
 -- the settable parts of a cell keep to the claim
 record AreSettled (claim : Claim) (s : Settable) : Type 0 where
-  store : IsKept claim s.store
+  store : KeepsToClaim claim s.store
   globals : AreHeld claim.names s.globals
   caller : Within claim.names.caller s.caller
 
@@ -68,7 +68,7 @@ quotes-within set (b ∷ bs) within = by (b == 34)
     by false = within
 
 -- the name and the number of a caller
-record IsTextWithin (set : Bytes) (caller : CallerText) : Type 0 where
+record IsTextWithin (set : Bytes) (caller : CallerTextOf) : Type 0 where
   name : Within set caller.name
   number : Within set caller.number
 
@@ -106,7 +106,7 @@ module _ (claim : Claim) (set : Bytes) where
   settled-target s Nothing value are is met = are
 
   -- what a name sets, if its duties are met, and a list of names is taken as a cell that may have the bytes
-  settled-effect : (s : Settable) (name value : List ℕ) (effect : Effect) → AreSettled claim s → Within set value → MeetsAll claim (effect_duties set effect)
+  settled-effect : (s : Settable) (name value : List ℕ) (effect : EffectOf) → AreSettled claim s → Within set value → MeetsAll claim (effect_duties set effect)
       → AreSettled claim (with_effect s name effect value)
   settled-effect s name value (OneTarget target) are is met = settled-target s target value are is met
   settled-effect s name value NameAndNumber are is met =
@@ -128,7 +128,7 @@ module _ (claim : Claim) (set : Bytes) where
     met-target Caller = (any.1.0, tt)
     met-target Nothing = tt
 
-    met-effect : (effect : Effect) → MeetsAll claim (effect_duties set effect)
+    met-effect : (effect : EffectOf) → MeetsAll claim (effect_duties set effect)
     met-effect (OneTarget target) = met-target target
     met-effect NameAndNumber = (any.1.0, (any.0 (cell_name (codes "CALLERID") (codes "name")), tt))
     met-effect (EmptyKey key) = tt
@@ -149,7 +149,7 @@ module _ (claim : Claim) (set : Bytes) where
         (settled-effect s (bare_name name) (first_value values) (effect_of (bare_name name)) are (first-within values all) (met-effect (effect_of (bare_name name))))
         (later-within values all)
 
-  settled-setting : (s : Settable) (name value : List ℕ) (effect : Effect) → AreSettled claim s → Within set value → MeetsAll claim (effect_duties set effect)
+  settled-setting : (s : Settable) (name value : List ℕ) (effect : EffectOf) → AreSettled claim s → Within set value → MeetsAll claim (effect_duties set effect)
       → AreSettled claim (with_setting s name effect value)
   unfolding parts_of
   settled-setting s name value (OneTarget target) are is met = settled-effect s name value (OneTarget target) are is met
@@ -173,8 +173,8 @@ module _ (claim : Claim) (set : Bytes) where
   settled-texts any s (text ∷ texts) are all = settled-texts any (with_text s text) texts (settled-text any s text are all.0) all.1
 
 -- a text with a known name, or without
-settled-pair : (claim : Claim) (s : Settable) (pieces : List Piece) (text : List ℕ) → AreSettled claim s → Fits pieces text
-    → (o : Option (List ℕ × List Piece)) → IsCutKnown 61 o text → MeetsAll claim (setting_duties pieces o) → AreSettled claim (with_text s text)
+settled-pair : (claim : Claim) (s : Settable) (pieces : List PieceOf) (text : List ℕ) → AreSettled claim s → Fits pieces text
+    → (o : Option (List ℕ × List PieceOf)) → IsCutKnown 61 o text → MeetsAll claim (setting_duties pieces o) → AreSettled claim (with_text s text)
 settled-pair claim s pieces text are fits None known met = settled-text claim (pieces_set pieces) met s text are (fits-set pieces text fits)
 settled-pair claim s pieces text are fits (Some cut) known met =
     subst (λ o. AreSettled claim (with_pair s o)) (sym known.1)

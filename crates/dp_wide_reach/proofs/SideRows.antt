@@ -11,9 +11,9 @@ use Rattle.dp_flow.specs.Conditions.{present_by, side_of, taken_side}
 use Rattle.dp_flow.specs.Jumps.{jump_if}
 use Rattle.dp_machine.specs.Targets.{parts_place}
 use Rattle.dp_pieces.specs.Bytes.{Bytes, Within}
-use Rattle.dp_pieces.specs.Cuts.{At, Cutting, Nowhere, Unsure, cut_level, cut_pieces}
+use Rattle.dp_pieces.specs.Cuts.{At, CuttingOf, Nowhere, Unsure, cut_level, cut_pieces}
 use Rattle.dp_pieces.specs.Fitting.{IsCutAs}
-use Rattle.dp_pieces.specs.Pieces.{Fits, Piece, pieces_set}
+use Rattle.dp_pieces.specs.Pieces.{Fits, PieceOf, pieces_set}
 use Rattle.dp_pieces.proofs.CutLemmas.{cut-level, cut-pieces}
 use Rattle.dp_pieces.proofs.FitsLemmas.{fits-set}
 use Rattle.dp_wide.specs.TimeChoice.{clock_in, goto_if_time_row, is_time, timed_side}
@@ -27,7 +27,7 @@ use Rattle.dp_reach.proofs.TargetLemmas.{FitsOne, arguments-within, covers-inclu
 use Rattle.dp_wide.specs.declared.times.Moment.{Moment}
 
 -- the side that is taken fits one of the sides of the pieces
-pub taken_side-fits : (rest : List Piece) (text : List ℕ) → Fits rest text → (sides : List (List Piece)) → sides_by rest (cut_level 58 0 rest) ≡ Some sides
+pub taken_side-fits : (rest : List PieceOf) (text : List ℕ) → Fits rest text → (sides : List (List PieceOf)) → sides_by rest (cut_level 58 0 rest) ≡ Some sides
     → (taken : Bool) (result : List ℕ) → taken_side taken text ≡ Some result → FitsOne sides result
 taken_side-fits rest text fits sides known taken result is =
     side-fits text rest fits (cut_level 58 0 rest) (cut_outside 58 text) (cut-level 58 rest text fits) sides known taken result result
@@ -59,11 +59,11 @@ taken_side-within set text within taken result is =
     side true (Some cut) from same = subst (Within set) (let e : cut.0 ≡ result = cc in e) (cut-within set 58 text [] cut.0 cut.1 within tt from).0
     side false (Some cut) from same = subst (Within set) (let e : cut.1 ≡ result = cc in e) (cut-within set 58 text [] cut.0 cut.1 within tt from).1
 
-timed_side-fits : (clock : Option Moment) (pieces : List Piece) (text result : List ℕ) → Fits pieces text → (sides : List (List Piece)) → sides_in pieces ≡ Some sides
+timed_side-fits : (clock : Option Moment) (pieces : List PieceOf) (text result : List ℕ) → Fits pieces text → (sides : List (List PieceOf)) → sides_in pieces ≡ Some sides
     → timed_side clock text ≡ Some result → FitsOne sides result
 timed_side-fits clock pieces text result fits sides known is = by (cut_pieces 63 pieces) (cut_once 63 text) (cut-pieces 63 pieces text fits) known is
   where
-    by : (cutting : Cutting) (cut : Option (List ℕ × List ℕ)) → IsCutAs cutting cut → sides_of cutting ≡ Some sides
+    by : (cutting : CuttingOf) (cut : Option (List ℕ × List ℕ)) → IsCutAs cutting cut → sides_of cutting ≡ Some sides
         → option_and_then (λ cut. taken_side (is_time clock cut.0) cut.1) cut ≡ Some result → FitsOne sides result
     by Nowhere None are known is = absurd cc
     by Nowhere (Some cut) are known is = absurd cc
@@ -80,12 +80,12 @@ timed_side-within clock set text result within is = by (cut_once 63 text) refl i
         taken_side-within set cut.1 (each-cut_rest (λ b. set b ≡ true) 63 text cut.0 cut.1 (cut_once-is 63 text cut.0 cut.1 from) within) (is_time clock cut.0) result same
 
 -- the target of a side
-covers-side : (claim : Claim) (area : Area) (own place : Place) (pieces : List Piece) (set : Bytes) (side : List ℕ) → IsIn area own → Within set side
-    → ((sides : List (List Piece)) → sides_in pieces ≡ Some sides → FitsOne sides side)
+covers-side : (claim : Claim) (area : Area) (own place : Place) (pieces : List PieceOf) (set : Bytes) (side : List ℕ) → IsIn area own → Within set side
+    → ((sides : List (List PieceOf)) → sides_in pieces ≡ Some sides → FitsOne sides side)
     → MeetsAll claim (sides_duties area set (sides_in pieces)) → parts_place claim.plan own (arguments_of side) ≡ Some place → Covers claim.plan claim.reach place
 covers-side claim area own place pieces set side inside within fits met found = by (sides_in pieces) refl met
   where
-    by : (o : Option (List (List Piece))) → sides_in pieces ≡ o → MeetsAll claim (sides_duties area set o) → Covers claim.plan claim.reach place
+    by : (o : Option (List (List PieceOf))) → sides_in pieces ≡ o → MeetsAll claim (sides_duties area set o) → Covers claim.plan claim.reach place
     by None from met =
         covers-included claim.plan claim.reach (targets_within area set) place (includes-all claim (targets_within area set) met)
         (in-within claim.plan own place area set (arguments_of side) inside (arguments-within set side within) found)

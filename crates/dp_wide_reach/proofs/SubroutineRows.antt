@@ -12,12 +12,12 @@ use Rattle.dp_app.specs.Cells.{CellOf}
 use Rattle.dp_app.specs.declared.place.Place.{Place}
 use Rattle.dp_machine.specs.Targets.{parts_place}
 use Rattle.dp_flow.specs.Conditions.{chosen_side}
-use Rattle.dp_flow.specs.Jumps.{SubroutineCall, argument_locals, called_by, inner_arguments, place_after}
+use Rattle.dp_flow.specs.Jumps.{SubroutineCallOf, argument_locals, called_by, inner_arguments, place_after}
 use Rattle.dp_pieces.specs.Arguments.{are_clean, shapes_of}
 use Rattle.dp_pieces.specs.Bytes.{Bytes, Within, digits}
-use Rattle.dp_pieces.specs.Cuts.{At, Cutting, Nowhere, Unsure, cut_level}
+use Rattle.dp_pieces.specs.Cuts.{At, CuttingOf, Nowhere, Unsure, cut_level}
 use Rattle.dp_pieces.specs.Fitting.{IsCutAs}
-use Rattle.dp_pieces.specs.Pieces.{Fits, Piece, any_bytes_of, exactly, pieces_set}
+use Rattle.dp_pieces.specs.Pieces.{Fits, PieceOf, any_bytes_of, exactly, pieces_set}
 use Rattle.dp_pieces.specs.Trimmed.{without_end_blanks}
 use Rattle.dp_pieces.proofs.ArgumentLemmas.{fits-arguments}
 use Rattle.dp_pieces.proofs.CutLemmas.{cut-level}
@@ -53,7 +53,7 @@ good-with_call claim cell locals good own are = record {
 }
 
 -- a subroutine that is entered with a text
-module _ (claim : Claim) (area : Area) (pieces : List Piece) (text : List ℕ) (cell : CellOf) (good : IsGood claim cell) (inside : IsIn area cell.place) (own : Covers claim.plan claim.reach cell.place)
+module _ (claim : Claim) (area : Area) (pieces : List PieceOf) (text : List ℕ) (cell : CellOf) (good : IsGood claim cell) (inside : IsIn area cell.place) (own : Covers claim.plan claim.reach cell.place)
     (fits : Fits pieces text) (met : MeetsAll claim (counted_duties area pieces)) where
   counted-inside : IsInside claim cell.place (gosub_row text cell)
   unfolding gosub_row
@@ -62,7 +62,7 @@ module _ (claim : Claim) (area : Area) (pieces : List Piece) (text : List ℕ) (
       front : List (List ℕ)
       front = take (length (arguments_of text) - 1) (arguments_of text)
 
-      enters : (part : List ℕ) → slice_get (arguments_of text) (length (arguments_of text) - 1) ≡ Some part → (o : Option SubroutineCall) → called_by part (cut_once 40 part) ≡ o
+      enters : (part : List ℕ) → slice_get (arguments_of text) (length (arguments_of text) - 1) ≡ Some part → (o : Option SubroutineCallOf) → called_by part (cut_once 40 part) ≡ o
           → IsInside claim cell.place (enter_counted cell front o)
       enters part at None is = record { cell = good; next = tt }
       enters part at (Some call) is = record {
@@ -83,7 +83,7 @@ pub counted_gosub-bounded : IsBounded counted_gosub_duties gosub_row
 counted_gosub-bounded claim area pieces arguments cell good inside own fits met = counted-inside claim area pieces arguments cell good inside own fits met
 
 -- one of several sides
-one-counted : (claim : Claim) (area : Area) (text : List ℕ) (cell : CellOf) → IsGood claim cell → IsIn area cell.place → Covers claim.plan claim.reach cell.place → (sides : List (List Piece))
+one-counted : (claim : Claim) (area : Area) (text : List ℕ) (cell : CellOf) → IsGood claim cell → IsIn area cell.place → Covers claim.plan claim.reach cell.place → (sides : List (List PieceOf))
     → FitsOne sides text → MeetsAll claim (flat_map (counted_duties area) sides) → IsInside claim cell.place (gosub_row text cell)
 one-counted claim area text cell good inside own [] fits met = absurd fits
 one-counted claim area text cell good inside own (pieces ∷ more) (inl here) met =
@@ -99,7 +99,7 @@ counted_gosub_if-bounded claim area pieces arguments cell good inside own fits m
     set : Bytes
     set = pieces_set pieces
 
-    fits-or : (o : Option (List (List Piece))) → sides_in pieces ≡ o → (side : List ℕ) → chosen_side arguments ≡ Some side → FitsOne (sides_or set o) side
+    fits-or : (o : Option (List (List PieceOf))) → sides_in pieces ≡ o → (side : List ℕ) → chosen_side arguments ≡ Some side → FitsOne (sides_or set o) side
     fits-or None from side is =
         inl (fits-any_bytes_of set side (chosen_side-within set arguments side (fits-set pieces arguments fits) is))
     fits-or (Some sides) from side is =
@@ -111,7 +111,7 @@ counted_gosub_if-bounded claim area pieces arguments cell good inside own fits m
         one-counted claim area side cell good inside own (sides_or set (sides_in pieces)) (fits-or (sides_in pieces) refl side is) met
 
 -- the arguments of a macro
-macro-arguments : (claim : Claim) (set : Bytes) (rest : List Piece) (text : List ℕ) → Fits rest text → Within set text → MeetsAll claim (inside_duties set (At rest []))
+macro-arguments : (claim : Claim) (set : Bytes) (rest : List PieceOf) (text : List ℕ) → Fits rest text → Within set text → MeetsAll claim (inside_duties set (At rest []))
     → AreLocals claim.names (argument_locals 1 (inner_arguments text))
 macro-arguments claim set rest [] fits within met = tt
 macro-arguments claim set rest (b ∷ bs) fits within met = by (are_clean 0 rest) refl met
@@ -138,7 +138,7 @@ module _ (claim : Claim) (area : Area) (cell : CellOf) (good : IsGood claim cell
       )
 
   -- the start of a macro
-  macro-covers : (pieces : List Piece) (name : List ℕ) (place : Place) → Fits pieces name → Meets claim (Leads (macro_area pieces))
+  macro-covers : (pieces : List PieceOf) (name : List ℕ) (place : Place) → Fits pieces name → Meets claim (Leads (macro_area pieces))
       → parts_place claim.plan cell.place (macro_target name) ≡ Some place → Covers claim.plan claim.reach place
   macro-covers pieces name place fits leads found =
       covers-included claim.plan claim.reach (macro_area pieces ∷ []) place (leads, tt)
@@ -146,7 +146,7 @@ module _ (claim : Claim) (area : Area) (cell : CellOf) (good : IsGood claim cell
       (fits-append (exactly (codes "macro-")) pieces (codes "macro-") name (fits-exactly (codes "macro-")) fits, (fits-exactly (codes "s"), (fits-exactly (codes "1"), tt))) found)
 
   -- a macro that is entered
-  macro-inside : (pieces : List Piece) (name : List ℕ) (arguments : List (List ℕ)) → Fits pieces (trim name) → Meets claim (Leads (macro_area pieces))
+  macro-inside : (pieces : List PieceOf) (name : List ℕ) (arguments : List (List ℕ)) → Fits pieces (trim name) → Meets claim (Leads (macro_area pieces))
       → AreLocals claim.names (argument_locals 1 arguments) → IsInside claim cell.place (enter_macro cell name arguments)
   macro-inside pieces name arguments fits leads locals = record {
     cell = good-with_call claim cell (macro_locals cell.place arguments) good own (locals-macro arguments locals);
@@ -173,7 +173,7 @@ macro-bounded claim area pieces arguments cell good inside own fits met =
     any : (name : List ℕ) → Within set name → Fits (any_bytes_of set) (trim name)
     any name is = fits-any_bytes_of set (trim name) (within-trim set name is)
 
-    by : (cutting : Cutting) (cut : Option (List ℕ × List ℕ)) → cut_outside 44 arguments ≡ cut → IsCutAs cutting cut → MeetsAll claim (called_macro_duties pieces cutting)
+    by : (cutting : CuttingOf) (cut : Option (List ℕ × List ℕ)) → cut_outside 44 arguments ≡ cut → IsCutAs cutting cut → MeetsAll claim (called_macro_duties pieces cutting)
         → IsInside claim cell.place (macro_by cell arguments cut)
     by Nowhere (Some cut) from are met = absurd cc
     by Nowhere None from are met =

@@ -4,11 +4,11 @@ use Rattle.dp_conf.specs.Blanks.{trim}
 use Rattle.dp_vars.specs.Functions.{SettingTarget, Variable, Global, Local, Caller, Nothing}
 use Rattle.dp_pieces.specs.Bytes.{Bytes, either}
 use Rattle.dp_pieces.specs.Cuts.{cut_known}
-use Rattle.dp_pieces.specs.Pieces.{Piece, bytes_in, pieces_set, text_known}
+use Rattle.dp_pieces.specs.Pieces.{PieceOf, bytes_in, pieces_set, text_known}
 use Rattle.dp_wide.specs.Cells.{cell_name}
 use Rattle.dp_wide.specs.Deleting.{deleted_mark}
 use Rattle.dp_wide.specs.ReadNames.{read_names}
-use Rattle.dp_wide.specs.Settings.{Effect, OneTarget, NameAndNumber, EmptyKey, EachName, bare_name, effect_of}
+use Rattle.dp_wide.specs.Settings.{EffectOf, OneTarget, NameAndNumber, EmptyKey, EachName, bare_name, effect_of}
 use Rattle.dp_reach.specs.Bounds.{Calls, Duties, Duty, Holds, HoldsAll}
 
 -- the duties if any name, and the caller's number, may be set to a text with these bytes
@@ -24,14 +24,14 @@ target_duties set Caller = Calls set ∷ []
 target_duties set Nothing = []
 
 -- the duties of what a name sets: a key of a cell only becomes empty, and a list of names may set any name
-abbrev pub effect_duties : Bytes → Effect → List Duty
+abbrev pub effect_duties : Bytes → EffectOf → List Duty
 effect_duties set (OneTarget target) = target_duties set target
 effect_duties set NameAndNumber = Calls set ∷ Holds (cell_name (codes "CALLERID") (codes "name")) set ∷ []
 effect_duties set (EmptyKey key) = []
 effect_duties set (EachName names) = any_duties set
 
 -- the duties of `NAME=VALUE`, given the text before the first `=` if it is known
-abbrev pub setting_duties : List Piece → Option (List ℕ × List Piece) → List Duty
+abbrev pub setting_duties : List PieceOf → Option (List ℕ × List PieceOf) → List Duty
 setting_duties pieces None = any_duties (pieces_set pieces)
 setting_duties pieces (Some cut) = effect_duties (pieces_set cut.1) (effect_of (bare_name cut.0))
 

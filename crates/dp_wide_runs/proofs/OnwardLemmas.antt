@@ -17,8 +17,8 @@ abbrev GoesOn : List ℕ → Type 0
 GoesOn name = (arguments : List ℕ) (cell : CellOf) → (after_dispatch (wide_rows name) arguments cell).1 ≡ Some Next
 
 -- a name in another case has the same row
-spelled : (name word : List ℕ) → same_word name word ≡ true → GoesOn word → GoesOn name
-spelled name word same goes arguments cell =
+same_in_any_case : (name word : List ℕ) → same_word name word ≡ true → GoesOn word → GoesOn name
+same_in_any_case name word same goes arguments cell =
     subst (λ row. (after_dispatch row arguments cell).1 ≡ Some Next) (wide_blind.row name word same) (goes arguments cell)
 
 -- a name that is one word, or passes another test
@@ -26,7 +26,7 @@ either : (name word : List ℕ) (rest : Bool) → GoesOn word → (rest ≡ true
 either name word rest goes later passes = by (same_word name word) refl passes
   where
     by : (b : Bool) → same_word name word ≡ b → (b || rest) ≡ true → GoesOn name
-    by true same e = spelled name word same goes
+    by true same e = same_in_any_case name word same goes
     by false same e = later e
 
 no_op : GoesOn (codes "NoOp")
@@ -41,9 +41,9 @@ log : GoesOn (codes "Log")
 unfolding wide_table inner_table standard_table going_names outside_applications
 log arguments cell = refl
 
-set : GoesOn (codes "Set")
+set_goes_on : GoesOn (codes "Set")
 unfolding wide_table inner_table standard_table going_names outside_applications set_row
-set arguments cell = refl
+set_goes_on arguments cell = refl
 
 mset : GoesOn (codes "MSet")
 unfolding wide_table inner_table standard_table going_names outside_applications mset_row
@@ -74,10 +74,10 @@ each_goes_on name =
     either name (codes "NoOp") _ no_op
     (either name (codes "Verbose") _ verbose
     (either name (codes "Log") _ log
-    (either name (codes "Set") _ set
+    (either name (codes "Set") _ set_goes_on
     (either name (codes "MSet") _ mset
     (either name (codes "Answer") _ answer
     (either name (codes "Ringing") _ ringing
     (either name (codes "Progress") _ progress
     (either name (codes "Proceeding") _ proceeding
-    (λ is. spelled name (codes "UserEvent") is user_event)))))))))
+    (λ is. same_in_any_case name (codes "UserEvent") is user_event)))))))))

@@ -37,13 +37,13 @@ abbrev pub without_shows : List WideTurn → List WideTurn
 without_shows turns = filter (λ turn. not (shows turn)) turns
 
 -- a run without the turns that show a value
-abbrev pub unshown : WideRun → WideRun
-unshown run = run_on run.world (without_shows run.turns)
+abbrev pub run_without_shows : WideRun → WideRun
+run_without_shows run = run_on run.world (without_shows run.turns)
 
 -- the watch after a turn that the machine is given: one more event is taken
-abbrev pub counted : Watch → Turn → Watch
-counted watch (Event event) = record { held = watch.held; taken = one_more watch.taken }
-counted watch (Show number name) = watch
+abbrev pub watch_after : Watch → Turn → Watch
+watch_after watch (Event event) = record { held = watch.held; taken = one_more watch.taken }
+watch_after watch (Show number name) = watch
 
 -- the line of the halt before a turn that a world meets; nothing if the break does not hold there
 abbrev pub halt_before : Watch → World → Turn → List ℕ
@@ -52,7 +52,7 @@ halt_before watch w (Show number name) = []
 
 -- the watch and a further state after a turn that the machine is given
 abbrev pub watched_after : {P : Type 0} → (P → World → Turn → P) → Watch × P → World → Turn → Watch × P
-watched_after after at w turn = (counted at.0 turn, after at.1 w turn)
+watched_after after at w turn = (watch_after at.0 turn, after at.1 w turn)
 
 -- the text above the line of a turn that the machine is given: the line of a halt stands above all other text
 abbrev pub watched_above : {P : Type 0} → (P → World → Turn → List ℕ) → Watch × P → World → Turn → List ℕ
@@ -82,7 +82,7 @@ pub record WideDebug : Type 0 where
 
 -- a run, debugged with a break: the turns that show a value are left out
 abbrev pub debug_on : Break → WideRun → WideDebug
-debug_on held run = record { held = held; run = unshown run }
+debug_on held run = record { held = held; run = run_without_shows run }
 
 -- the same, or the fault of the run's texts
 abbrev pub debug_with : Break → Result WideRun PbxFault → Result WideDebug PbxFault

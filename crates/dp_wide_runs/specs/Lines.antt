@@ -123,25 +123,25 @@ own_lines word text =
     if same_text word (codes "assume") then assume_lines (words_of text) else option_map (λ line. line ∷ []) (own_line word text)
 
 -- the channel that an event steps
-abbrev pub stepped : MachineEvent → Option ℕ
-stepped (Step channel) = Some channel
-stepped (Start context exten caller) = None
-stepped (Digit channel digit) = None
-stepped (Timeout channel) = None
-stepped (Poll channel) = None
-stepped (Hangup channel) = None
-stepped (DialResult channel status) = None
-stepped (Offer queue) = None
-stepped (Answer agent) = None
-stepped (Decline agent) = None
-stepped (AgentDone agent) = None
-stepped (Reload text) = None
-stepped (Assign channel name value) = None
-stepped (Redirect channel place) = None
+abbrev pub stepped_channel : MachineEvent → Option ℕ
+stepped_channel (Step channel) = Some channel
+stepped_channel (Start context exten caller) = None
+stepped_channel (Digit channel digit) = None
+stepped_channel (Timeout channel) = None
+stepped_channel (Poll channel) = None
+stepped_channel (Hangup channel) = None
+stepped_channel (DialResult channel status) = None
+stepped_channel (Offer queue) = None
+stepped_channel (Answer agent) = None
+stepped_channel (Decline agent) = None
+stepped_channel (AgentDone agent) = None
+stepped_channel (Reload text) = None
+stepped_channel (Assign channel name value) = None
+stepped_channel (Redirect channel place) = None
 
 -- the channel that a turn steps
 abbrev pub stepped_by : Turn → Option ℕ
-stepped_by (Event event) = stepped event
+stepped_by (Event event) = stepped_channel event
 stepped_by (Show channel name) = None
 
 -- a line of a plain script, given the channel that its turn steps: the steps after the first are further steps

@@ -43,13 +43,13 @@ abbrev pub unmarked_by : List ℕ → Option ℕ → List ℕ
 unmarked_by name None = []
 unmarked_by name (Some place) = drop place name
 
-abbrev pub unmarked : List ℕ → List ℕ
-unmarked name = unmarked_by name (position is_no_mark name)
+abbrev pub without_marks : List ℕ → List ℕ
+without_marks name = unmarked_by name (position is_no_mark name)
 
 -- the name that begins a text, given the byte before the text
 abbrev pub name_at : ℕ → List ℕ → Option (List ℕ)
 name_at before [] = None
-name_at before (b ∷ bs) = if begins_name before b then Some (unmarked (front_name (b ∷ bs))) else None
+name_at before (b ∷ bs) = if begins_name before b then Some (without_marks (front_name (b ∷ bs))) else None
 
 -- the names in a text that are not read, from left to right, given the byte before the text
 unfoldable pub names_after : ℕ → List ℕ → List (List ℕ)

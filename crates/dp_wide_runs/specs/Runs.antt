@@ -29,14 +29,14 @@ abbrev pub at_first : WideRun → Stops × World
 at_first run = (no_stops, run.world)
 
 -- the contents of a run's texts
-pub record WideContents : Type 0 where
+pub record WideContentsOf : Type 0 where
   pub plan : PlanOf
   pub queues : QueuesOf
   pub lines : List (ScriptLine WideTurn)
 
 -- the contents of the texts of a dialplan, its queues and a script, with an optional second dialplan; or the first fault: that of the
 -- dialplan, then the queues, then the script
-abbrev pub contents_of : List ℕ → Option (List ℕ) → Option (List ℕ) → List ℕ → Result WideContents PbxFault
+abbrev pub contents_of : List ℕ → Option (List ℕ) → Option (List ℕ) → List ℕ → Result WideContentsOf PbxFault
 contents_of plan queues second_plan script =
     files_of plan queues >>= λ files. wide_script_of second_plan script >>= λ lines.
     Ok (record { plan = files.plan; queues = files.queues; lines = lines })

@@ -4,7 +4,7 @@ use Rattle.std.specs.Prelude.{◌≡◌, ℕ, List, [], Option, Result, Ok}
 use Rattle.dp_machine.specs.World.{World}
 use Rattle.dp_machine.specs.declared.refusal.Refusal.{Refusal}
 use Rattle.dp_commands.specs.Turns.{refused_in, state_past}
-use Rattle.dp_commands.specs.Verbose.{InForce, above_turn_by, in_force_after_by, indented}
+use Rattle.dp_commands.specs.Verbose.{InForce, above_turn_by, in_force_after_by, indented_text}
 use Rattle.dp_commands.specs.declared.fault.PbxFault.{PbxFault}
 use Rattle.dp_commands.specs.declared.script.Turn.{Turn}
 use Rattle.dp_wide_runs.specs.Beside.{WritesBeside}
@@ -21,7 +21,7 @@ above_turn explanation in_force w turn = above_turn_by wide_meanings explanation
 
 -- the text above the line of a pass that is refused
 abbrev pub above_refusal : (Refusal → List ℕ) → Refusal → List ℕ
-above_refusal explanation refusal = indented (explanation refusal)
+above_refusal explanation refusal = indented_text (explanation refusal)
 
 -- the output and result of a verbose run, given the run or the fault of its texts, and the dialplan that is first in force
 abbrev pub WritesWideVerbose : (Refusal → List ℕ) → InForce → Option (List ℕ) → Option (List ℕ) → Result WideRun PbxFault → Result ℕ PbxFault → Type 0

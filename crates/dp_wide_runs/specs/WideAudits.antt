@@ -11,7 +11,7 @@ use Rattle.dp_commands.specs.declared.fault.PbxFault.{PbxFault}
 use Rattle.dp_commands.specs.declared.fault.PbxFault.TheVariants.{Coded, NoMemory}
 use Rattle.dp_wide_runs.specs.Kinds.{ChoiceOf}
 use Rattle.dp_wide_runs.specs.WideFindings.{AreTold}
-use Rattle.dp_wide_runs.specs.declared.wide_audit.Outcome.{Outcome}
+use Rattle.dp_wide_runs.specs.declared.wide_audit.WideAuditOutcome.{WideAuditOutcome}
 use Rattle.dp_wide_runs.specs.declared.wide_finding.WideFinding.{WideFinding}
 use Rattle.dp_wide_runs.specs.declared.wide_finding.WideFinding.TheVariants.{Plain, FallsThrough, EndlessRun, NoFunction}
 
@@ -40,11 +40,11 @@ abbrev pub report_of : PlanOf → List WideFinding → Audited
 report_of plan findings = record { text = findings_text plan findings; status = status_of findings }
 
 -- the report of an outcome
-abbrev pub reported : Outcome → Audited
-reported report = record { text = report.text.begun; status = report.status }
+abbrev pub outcome_report : WideAuditOutcome → Audited
+outcome_report report = record { text = report.text.begun; status = report.status }
 
 -- a report of an audit of the dialplan: it lists all findings that are to be reported, and no others
-pub record IsAudit (choice : ChoiceOf) (plan : PlanOf) (report : Audited) : Type 0 where
+pub record IsAuditReport (choice : ChoiceOf) (plan : PlanOf) (report : Audited) : Type 0 where
   pub findings : List WideFinding
   pub told : AreTold choice plan findings
   pub whole : report ≡ report_of plan findings
@@ -52,7 +52,7 @@ pub record IsAudit (choice : ChoiceOf) (plan : PlanOf) (report : Audited) : Type
 -- the output and result of an audit of the dialplan: such a report or, if a write fails, a prefix of one
 pub record WritesReport (choice : ChoiceOf) (plan : PlanOf) (old new : Option (List ℕ)) (result : Result ℕ PbxFault) : Type 0 where
   pub report : Audited
-  pub audit : IsAudit choice plan report
+  pub audit : IsAuditReport choice plan report
   pub writes : WritesAudit old new (Ok report) result
 
 -- the dialplan that a text holds, or the text's fault

@@ -9,8 +9,8 @@ ghost use Rattle.dp_debug.specs.Breaks.{first_before as first_break_before};
 ghost use Rattle.dp_wide_runs.specs.Debugging as spec;
 ghost use Rattle.dp_wide_runs.specs.Runs.{run_of_texts};
 
-use crate::begun::begin;
-use crate::manner::{Manner, Plain};
+use crate::beginning::begin;
+use crate::manner::{Manner, PlainManner};
 use crate::run::run_begun;
 use dp_commands::{
     Block, Explanations, PbxFault, PlanPlaces, RunTexts, Turn, VerboseTaker, push_end, push_number,
@@ -99,7 +99,7 @@ impl BreakWatch {
 
     /// Counts a turn that the machine was given.
     fn count(&mut self, turn: &Turn)
-        ensures { self.new ≡ spec.counted self.old turn.now }
+        ensures { self.new ≡ spec.watch_after self.old turn.now }
     {
         match turn {
             Turn::Event(_) => self.taken = self.taken.saturating_add(1),
@@ -228,7 +228,7 @@ pub fn debug_wide<W: WriteTold>(
     ensures told { W.has_failed writer.new ≡ (W.has_failed writer.old || is_write_failed result) }
 {
     let held = read_break(alloc, held)?;
-    debug_texts(alloc, texts, held, Plain, writer)
+    debug_texts(alloc, texts, held, PlainManner, writer)
 }
 
 /// Runs a script that may state facts under a debugger as [`crate::debug_wide`] does, and writes more above some of the lines, as

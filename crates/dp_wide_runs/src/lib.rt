@@ -2,7 +2,7 @@
 //! and audits for some kinds of findings.
 #![tactic(auto)]
 
-mod begun;
+mod beginning;
 mod debug;
 mod functions_called;
 mod kinds;

@@ -58,9 +58,9 @@ pub(crate) trait Manner: Drop {
 
 /// Turns that are taken without further lines. Contracts see nothing of it.
 #[derive(Drop)]
-pub(crate) struct Plain;
+pub(crate) struct PlainManner;
 
-impl Model for Plain {
+impl Model for PlainManner {
     ghost use Rattle.std.specs.Prelude.{⊤};
 
     ghost Value = { ⊤ };
@@ -68,7 +68,7 @@ impl Model for Plain {
     ghost view = { λ _. tt };
 }
 
-impl Manner for Plain {
+impl Manner for PlainManner {
     ghost after = { λ manner _ _. manner };
 
     ghost above = { λ _ _ _. [] };

@@ -71,8 +71,8 @@ fn marks_end(name: &[u8]) -> Option<usize>
 }
 
 /// A name without the marks of inheritance in front of it.
-fn unmarked(name: &[u8]) -> &[u8]
-    ensures { result.now ≡ spec.unmarked name.now }
+fn without_marks(name: &[u8]) -> &[u8]
+    ensures { result.now ≡ spec.without_marks name.now }
 {
     match marks_end(name) {
         Some(start) => &name[start..],
@@ -86,7 +86,7 @@ fn name_at(before: u8, text: &[u8]) -> Option<&[u8]>
 {
     let (byte, _) = text.split_first()?;
     if begins_name(before, *byte) {
-        return Some(unmarked(front_name(text)));
+        return Some(without_marks(front_name(text)));
     }
     None
 }

@@ -5,8 +5,8 @@ ghost use Rattle.dp_commands.specs.Script.{turns_of};
 ghost use Rattle.dp_wide_runs.specs.Beside.{WritesBeside};
 ghost use Rattle.dp_wide_runs.specs.Runs as spec;
 
-use crate::begun::{WideBegun, begin};
-use crate::manner::{Manner, Plain};
+use crate::beginning::{WideBegun, begin};
+use crate::manner::{Manner, PlainManner};
 use crate::taker::WideRunner;
 use dp_commands::{PbxFault, RunTexts, run_lines};
 use dp_conf::WriteTold;
@@ -59,5 +59,5 @@ pub fn run_wide<W: WriteTold>(
     ensures plain { IfOk result (spec.IsPlain (spec.run_of_texts texts.entry)) }
     ensures told { W.has_failed writer.new ≡ (W.has_failed writer.old || is_write_failed result) }
 {
-    run_texts(alloc, texts, Plain, writer)
+    run_texts(alloc, texts, PlainManner, writer)
 }

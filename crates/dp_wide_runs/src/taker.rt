@@ -104,7 +104,7 @@ fn place_past(
 
 /// A call that a script shows in a channel.
 #[derive(Clone, Copy)]
-struct Call<'a> {
+struct ShownCall<'a> {
     channel: u32,
     name: &'a [u8],
 }
@@ -141,11 +141,11 @@ fn reads_group(name: &[u8]) -> bool
 }
 
 /// The call that a turn shows.
-fn shown_call(turn: &Turn) -> Option<Call<'_>>
+fn shown_call(turn: &Turn) -> Option<ShownCall<'_>>
     ensures { option_map (λ call. (call.channel, call.name.now)) result ≡ shows.call_in turn.now }
 {
     match turn {
-        Turn::Show { channel, name } if reads_group(name.bytes()) => Some(Call {
+        Turn::Show { channel, name } if reads_group(name.bytes()) => Some(ShownCall {
             channel: *channel,
             name: name.bytes(),
         }),
@@ -167,7 +167,7 @@ fn group_of(alloc: Global, name: &[u8]) -> Result<Vec<u8>, NoMemory>
 fn expand_call(
     alloc: Global,
     machine: &Machine<WideApps>,
-    call: Call<'_>,
+    call: ShownCall<'_>,
 ) -> Result<Option<Expanded>, NoMemory>
     ensures value { IfOk result (λ expanded. option_map (λ known. known.bytes.items) expanded
         ≡ shows.call_value machine.now (call.entry.channel, call.entry.name.now)) }
@@ -265,7 +265,7 @@ impl<M: Manner> WideRunner<M> {
     fn show_call(
         &mut self,
         machine: &Machine<WideApps>,
-        call: Call<'_>,
+        call: ShownCall<'_>,
         expanded: Expanded,
         block: &mut Block,
     ) -> Result<bool, NoMemory>

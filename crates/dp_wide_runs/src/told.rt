@@ -16,7 +16,7 @@ use crate::wide_finding::{WideFinding, kind_of};
 use crate::wide_targets::WideJumps;
 use dp_app::AppTable;
 use dp_audit::{
-    FallThrough, Finding, Loop, Names, OnwardNames, find_fall_throughs, find_loops, find_missing,
+    AppNames, FallThrough, Finding, Loop, OnwardNames, find_fall_throughs, find_loops, find_missing,
 };
 use dp_conf::same_word;
 use dp_plan::{Dialplan, EntryId, NoMemory};
@@ -27,7 +27,7 @@ use std::alloc::Global;
 /// The names of the applications of this program.
 struct StandardNames;
 
-impl Names for StandardNames {
+impl AppNames for StandardNames {
     ghost use Rattle.dp_app.specs.Rows.{has_row};
     ghost use Rattle.dp_table.specs.Standard.{standard_rows};
 

@@ -92,26 +92,34 @@ fn push_text(out: &mut Block, plan: &Dialplan, findings: &[WideFinding]) -> Resu
 
 /// The result of an audit: its text, and its status.
 #[derive(Drop)]
-struct Outcome {
+struct WideAuditOutcome {
     text: Block,
     status: u8,
 }
 
 /// The report of the findings in a dialplan.
-fn report_of(alloc: Global, plan: &Dialplan, findings: &[WideFinding]) -> Result<Outcome, NoMemory>
-    ensures { IfOk result (λ report. spec.reported report ≡ spec.report_of plan.now findings.now) }
+fn report_of(
+    alloc: Global,
+    plan: &Dialplan,
+    findings: &[WideFinding],
+) -> Result<WideAuditOutcome, NoMemory>
+    ensures { IfOk result (λ report. spec.outcome_report report ≡ spec.report_of plan.now findings.now) }
 {
     let mut text = Block::new(alloc, 0)?;
     push_text(&mut text, plan, findings)?;
-    Ok(Outcome {
+    Ok(WideAuditOutcome {
         text,
         status: u8::from(!findings.is_empty()),
     })
 }
 
 /// The report of an audit of a dialplan.
-fn report(alloc: Global, plan: &Dialplan, choice: AuditChoice<'_>) -> Result<Outcome, NoMemory>
-    ensures { IfOk result (λ report. spec.IsAudit (choice_of choice.entry) plan.now (spec.reported report)) }
+fn report(
+    alloc: Global,
+    plan: &Dialplan,
+    choice: AuditChoice<'_>,
+) -> Result<WideAuditOutcome, NoMemory>
+    ensures { IfOk result (λ report. spec.IsAuditReport (choice_of choice.entry) plan.now (spec.outcome_report report)) }
 {
     let findings = find_told(alloc, plan, choice)?;
     report_of(alloc, plan, &findings)

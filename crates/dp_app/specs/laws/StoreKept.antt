@@ -1,7 +1,7 @@
 -- What pushing or dropping a frame, and setting a name, keeps of a store.
 use Rattle.std.specs.Prelude.{◌≡◌, ℕ, zero, suc, ◌-◌, Bool, true, false, List, [], ◌∷◌, Option, Some, None, length, map, refl}
 use Rattle.std.proofs.Common.{ap, sym, ◌∙◌}
-use Rattle.dp_vars.specs.Stores.{Frame, StoreOf, changed_at, holder, set, set_in, set_local, with_frame, with_local, without_frame}
+use Rattle.dp_vars.specs.Stores.{StoreFrame, StoreOf, changed_at, holder, set, set_in, set_local, with_frame, with_local, without_frame}
 use Rattle.dp_vars.specs.Variables.{Named}
 use Rattle.dp_vars.specs.declared.local.Local.{Local}
 use Rattle.dp_app.specs.laws.Keeping.{store_kept, queues_kept}
@@ -39,7 +39,7 @@ dropped_kept touch store touches =
     }
 
 -- setting a local does not change the places
-changed-places : (name value : List ℕ) (place : ℕ) (frames : List (Frame Place))
+changed-places : (name value : List ℕ) (place : ℕ) (frames : List (StoreFrame Place))
     → map (λ f. f.back) (changed_at (with_local name value) place frames) ≡ map (λ f. f.back) frames
 changed-places name value place [] = refl
 changed-places name value zero (f ∷ fs) = refl

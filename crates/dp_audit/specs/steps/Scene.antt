@@ -10,7 +10,7 @@ use Rattle.dp_audit.specs.steps.Hiding.{AreHidden}
 use Rattle.dp_audit.specs.Labels.{IsNaming}
 use Rattle.dp_audit.specs.Orders.{order_at}
 use Rattle.dp_audit.specs.Unset.{AreSet}
-use Rattle.dp_audit.specs.declared.scene.Known.{Known}
+use Rattle.dp_audit.specs.declared.scene.PlanKnowledge.{PlanKnowledge}
 use Rattle.dp_audit.specs.declared.scene.Scene.{Scene}
 
 -- the scene belongs to the context with the number
@@ -22,7 +22,7 @@ pub record IsScene (plan : PlanOf) (number : ℕ) (scene : Scene) : Type 0 where
   pub context : scene.context.now ≡ context_name plan number
 
 -- the records are what may name the labels of the dialplan, what it sets and what it hides
-pub record IsKnown (names : List ℕ → Bool) (plan : PlanOf) (known : Known) : Type 0 where
+pub record IsKnown (names : List ℕ → Bool) (plan : PlanOf) (known : PlanKnowledge) : Type 0 where
   pub naming : IsNaming names plan known.naming.now
   pub set : AreSet plan known.set.now
   pub hidden : AreHidden plan known.hidden.now

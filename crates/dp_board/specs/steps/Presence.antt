@@ -2,7 +2,7 @@
 use Rattle.std.specs.Prelude.{◌≡◌, ℕ, ◌<◌, ◌||◌, Bool, true, false, List, length, slice_index_or, if◌then◌else◌}
 use Rattle.std.specs.List.{sum_by}
 use Rattle.dp_board.specs.Settled.{has_seat}
-use Rattle.dp_board.specs.Sittings.{Sitting}
+use Rattle.dp_board.specs.Sittings.{SeatSitting}
 
 -- whether the number has its mark
 abbrev pub is_marked : List Bool → ℕ → Bool
@@ -13,7 +13,7 @@ abbrev pub unmarked_in : List Bool → ℕ
 unmarked_in present = sum_by (λ mark. if mark then 0 else 1) present
 
 -- the numbers of these seats were marked, and no others
-abbrev pub MarksSeats : List Bool → List Sitting → List Bool → Type 0
+abbrev pub MarksSeats : List Bool → List SeatSitting → List Bool → Type 0
 MarksSeats old seats new = (number : ℕ) → number < length old → is_marked new number ≡ (is_marked old number || has_seat seats number)
 
 -- each number has its mark

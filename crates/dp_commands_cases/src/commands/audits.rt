@@ -128,9 +128,9 @@ impl Question for InContext {
     }
 }
 
-struct InPlan;
+struct AuditInPlan;
 
-impl Question for InPlan {
+impl Question for AuditInPlan {
     fn answer(alloc: Global, asked: &str) -> Result<String, Fail> {
         let plan = bytes_of(alloc, asked)?;
         findings_of(alloc, &plan)
@@ -140,5 +140,5 @@ impl Question for InPlan {
 #[test]
 fn findings_are_reported(rt: HostRuntime) -> Result<(), Fail> {
     check::<InContext>(rt.alloc(), IN_CONTEXT)?;
-    check::<InPlan>(rt.alloc(), ROWS)
+    check::<AuditInPlan>(rt.alloc(), ROWS)
 }

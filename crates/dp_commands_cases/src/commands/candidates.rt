@@ -78,9 +78,9 @@ const ROWS: &str = r"
 abc\n¦main 1 1→fault 2 NoSection line 1
 ";
 
-struct InPlan;
+struct CandidatesInPlan;
 
-impl Question for InPlan {
+impl Question for CandidatesInPlan {
     fn answer(alloc: Global, asked: &str) -> Result<String, Fail> {
         let (plan, rest) = asked.split_once('¦').ok_or("no context")?;
         let plan = bytes_of(alloc, plan)?;
@@ -91,5 +91,5 @@ impl Question for InPlan {
 #[test]
 fn candidates_are_reported(rt: HostRuntime) -> Result<(), Fail> {
     check::<InHouse>(rt.alloc(), IN_HOUSE)?;
-    check::<InPlan>(rt.alloc(), ROWS)
+    check::<CandidatesInPlan>(rt.alloc(), ROWS)
 }

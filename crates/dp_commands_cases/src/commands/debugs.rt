@@ -1,7 +1,7 @@
 //! Debugged runs, with everything that they print, worked out by hand from the rules.
 use dp_case_tables::{Question, check_all};
 use dp_commands::debug_script;
-use dp_commands_fixture::{Texts, make_sink, outcome_text, read_texts};
+use dp_commands_fixture::{RunTextsOf, make_sink, outcome_text, read_texts};
 use dp_conf::NoMemory;
 use std::alloc::Global;
 use std::test::Fail;
@@ -93,7 +93,7 @@ main,s,1¦¦¦¦[main→end 0\nstatus 0
 ";
 
 /// The whole output of a debugged run of these texts, followed by its result.
-fn answer_to(alloc: Global, held: &str, texts: &Texts) -> Result<String, NoMemory> {
+fn answer_to(alloc: Global, held: &str, texts: &RunTextsOf) -> Result<String, NoMemory> {
     let mut writer = make_sink(alloc, 4096, None);
     let ended = debug_script(alloc, texts.lend(), held.as_bytes(), &mut writer);
     outcome_text(alloc, ended, writer)
@@ -112,9 +112,9 @@ fn answer_of(
 }
 
 /// The output and result of the debugged run of a case.
-struct Debugged;
+struct DebuggedScript;
 
-impl Question for Debugged {
+impl Question for DebuggedScript {
     fn answer(alloc: Global, asked: &str) -> Result<String, Fail> {
         let (held, rest) = asked.split_once('¦').ok_or("no dialplan")?;
         let (plan, rest) = rest.split_once('¦').ok_or("no queues")?;
@@ -127,5 +127,5 @@ impl Question for Debugged {
 /// Debugged runs of scripts, from their breaks to their ends.
 #[test]
 fn scripts_are_debugged(rt: HostRuntime) -> Result<(), Fail> {
-    check_all::<Debugged>(rt.alloc(), &[ROWS, ELSEWHERE, FAULTS])
+    check_all::<DebuggedScript>(rt.alloc(), &[ROWS, ELSEWHERE, FAULTS])
 }

@@ -1,6 +1,6 @@
 //! Long scripts, long chains of includes, and many notes.
 use dp_commands::{PbxFault, check_explained, match_one};
-use dp_commands_fixture::{Command, Run, Sink, check_into, check_text, make_sink};
+use dp_commands_fixture::{Command, JoinedRun, Sink, check_into, check_text, make_sink};
 use dp_conf::{NoMemory, Told};
 use dp_plan::Priority;
 use std::alloc::Global;
@@ -41,13 +41,13 @@ fn push_refused(text: &mut String, want: &mut String) -> Result<(), NoMemory> {
 
 fn check_started(alloc: Global, text: &str, trace: &str) -> Result<(), Fail> {
     let want = with_status(alloc, trace)?;
-    check_text::<Run>(alloc, text.as_bytes(), want.as_bytes())
+    check_text::<JoinedRun>(alloc, text.as_bytes(), want.as_bytes())
 }
 
 fn check_spent(alloc: Global, text: &mut String, want: &mut String) -> Result<(), Fail> {
     check_started(alloc, text, want)?;
     push_refused(text, want)?;
-    check_text::<Run>(alloc, text.as_bytes(), want.as_bytes())
+    check_text::<JoinedRun>(alloc, text.as_bytes(), want.as_bytes())
 }
 
 /// After 65,535 calls each further one is refused, and the existing calls go on.
@@ -75,12 +75,12 @@ fn loop_trace(alloc: Global, steps: u32, after: &str) -> Result<String, NoMemory
 fn check_block(alloc: Global, k: usize, steps: u32) -> Result<(), Fail> {
     let want = loop_trace(alloc, steps, "fault 9 WriteFailed, told")?;
     let writer = make_sink(alloc, usize::MAX, Some(k));
-    check_into::<Run>(alloc, LOOP, writer, want.as_bytes())
+    check_into::<JoinedRun>(alloc, LOOP, writer, want.as_bytes())
 }
 
 fn check_whole(alloc: Global) -> Result<(), Fail> {
     let want = loop_trace(alloc, 100_000, "status 0")?;
-    check_text::<Run>(alloc, LOOP, want.as_bytes())
+    check_text::<JoinedRun>(alloc, LOOP, want.as_bytes())
 }
 
 /// The greatest count is accepted. The lines are written in blocks: the first is full after 1,617 steps, and each further one after 1,617
@@ -104,7 +104,7 @@ fn wide_trace(alloc: Global, name: &str) -> Result<String, NoMemory> {
 fn check_name(alloc: Global, name: &str) -> Result<(), Fail> {
     let text = wide_run(alloc, name)?;
     let want = wide_trace(alloc, name)?;
-    check_text::<Run>(alloc, text.as_bytes(), want.as_bytes())
+    check_text::<JoinedRun>(alloc, text.as_bytes(), want.as_bytes())
 }
 
 /// A line is longer than a block.
@@ -166,7 +166,7 @@ fn deep_trace(alloc: Global, depth: u32) -> Result<String, NoMemory> {
 fn check_depth(alloc: Global) -> Result<(), Fail> {
     let text = deep_calls(alloc, 1_000)?;
     let want = deep_trace(alloc, 1_000)?;
-    check_text::<Run>(alloc, text.as_bytes(), want.as_bytes())
+    check_text::<JoinedRun>(alloc, text.as_bytes(), want.as_bytes())
 }
 
 /// The report on loading a dialplan with its notes explained, if the path of its file is `p`.

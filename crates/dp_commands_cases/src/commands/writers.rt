@@ -1,6 +1,6 @@
 //! Writers that fail.
 use dp_commands::{PbxFault, RunTexts, match_one, run_script};
-use dp_commands_fixture::{Check, Command, Run, Sink, check_into, make_sink};
+use dp_commands_fixture::{Check, Command, JoinedRun, Sink, check_into, make_sink};
 use dp_conf::{NoMemory, Told};
 use dp_plan::Priority;
 use std::alloc::Global;
@@ -101,11 +101,11 @@ fn check_each<C: Command>(
 
 #[test]
 fn commands_stop_at_the_first_failed_write(rt: HostRuntime) -> Result<(), Fail> {
-    check_each::<Run>(rt.alloc(), RUN, TRACE, b"status 0")?;
+    check_each::<JoinedRun>(rt.alloc(), RUN, TRACE, b"status 0")?;
     check_each::<RingAll>(rt.alloc(), RING_ALL_SCRIPT, RING_ALL_TRACE, b"status 1")?;
     check_each::<Check>(rt.alloc(), NOTED, CHECKED, b"status 0")?;
     check_each::<Match23>(rt.alloc(), NOTED, MATCHED, b"status 0")?;
-    check_failing::<Run>(rt.alloc(), RUN, (4096, 0), b"")
+    check_failing::<JoinedRun>(rt.alloc(), RUN, (4096, 0), b"")
 }
 
 /// Asserts that a command does not use a writer that always fails.
@@ -116,13 +116,13 @@ fn check_unasked<C: Command>(alloc: Global, text: &[u8], want: &[u8]) -> Result<
 /// Nothing is written for a faulty text, nor if nothing happens.
 #[test]
 fn faulty_texts_and_empty_runs_write_nothing(rt: HostRuntime) -> Result<(), Fail> {
-    check_unasked::<Run>(rt.alloc(), b"[main]\nabc\n", b"fault 4 NoEquals line 2")?;
-    check_unasked::<Run>(
+    check_unasked::<JoinedRun>(rt.alloc(), b"[main]\nabc\n", b"fault 4 NoEquals line 2")?;
+    check_unasked::<JoinedRun>(
         rt.alloc(),
         b";; script\nstart a b\njump 1\n",
         b"fault 70 BadScript line 2",
     )?;
-    check_unasked::<Run>(rt.alloc(), b";; script\nstep 1 0\n", b"status 0")?;
+    check_unasked::<JoinedRun>(rt.alloc(), b";; script\nstep 1 0\n", b"status 0")?;
     check_unasked::<Check>(rt.alloc(), b"[main]\nabc\n", b"fault 4 NoEquals line 2")?;
     check_unasked::<Match23>(rt.alloc(), b"abc\n", b"fault 2 NoSection line 1")
 }

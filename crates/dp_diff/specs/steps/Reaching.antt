@@ -5,5 +5,5 @@ use Rattle.dp_diff.specs.Reaches.{ReachOf}
 use Rattle.dp_diff.specs.declared.reaches.ReachTable.{ReachTable}
 
 -- what the table says
-abbrev pub seen : ReachTable → ReachOf
-seen table = record { plan = table.plan.now; has_entry = λ number. list_any (nat_eq number) table.numbers.keys }
+abbrev pub reach_of_table : ReachTable → ReachOf
+reach_of_table table = record { plan = table.plan.now; has_entry = λ number. list_any (nat_eq number) table.numbers.keys }

@@ -22,8 +22,8 @@ abbrev pub writer_of : Option (List ℕ) → Bool → WriterOf
 writer_of contents failed = record { contents = contents; failed = failed }
 
 -- a number up to the greatest one of 64 bits
-abbrev pub capped : ℕ → ℕ
-capped number = min number (2 ^ 64 - 1)
+abbrev pub capped_number : ℕ → ℕ
+capped_number number = min number (2 ^ 64 - 1)
 
 -- what was written stays as a prefix, and together with what waits it is the same as before, followed by these bytes
 abbrev pub Flows : Option (List ℕ) → List ℕ → Option (List ℕ) → List ℕ → List ℕ → Type 0
@@ -34,7 +34,7 @@ Flows (Some xs) waited (Some ys) waits bytes = (ys ++ waits ≡ xs ++ (waited ++
 -- the differences were told: their lines are written or wait, and they are counted
 pub record HasTold (w : WriterOf) (s : SheetOf) (v : WriterOf) (t : SheetOf) (told : List Difference) : Type 0 where
   pub flowed : Flows w.contents s.waiting v.contents t.waiting (text_of told)
-  pub counted : (number : ℕ) → s.count ≡ capped number → t.count ≡ capped (number + length told)
+  pub counted : (number : ℕ) → s.count ≡ capped_number number → t.count ≡ capped_number (number + length told)
   pub sound : v.failed ≡ w.failed
 
 -- telling them failed: only a prefix of what waited and of their lines is written

@@ -3,10 +3,10 @@ use Rattle.std.specs.Prelude.{◌≡◌, ℕ, ◌<◌, false, List, [], ◌∷�
 use Rattle.dp_expr.specs.declared.token.Token.{Token as BorrowedToken}
 use Rattle.dp_expr.specs.declared.token.Token.TheVariants as borrowed
 use Rattle.dp_expr.specs.declared.token.TokenCut.{TokenCut as BorrowedCut}
-use Rattle.dp_expr.specs.Tokens.{Token, Operand, Sign, Bang, Opening, Closing, Stray, Cut, is_blank, tokens_of}
+use Rattle.dp_expr.specs.Tokens.{TokenOf, Operand, Sign, Bang, Opening, Closing, Stray, Cut, is_blank, tokens_of}
 
 -- a token, with the bytes that it borrows
-abbrev pub token_seen : BorrowedToken → Token
+abbrev pub token_seen : BorrowedToken → TokenOf
 token_seen (borrowed.Operand bytes) = Operand bytes.now
 token_seen (borrowed.Sign operator) = Sign operator
 token_seen borrowed.Bang = Bang
@@ -24,6 +24,6 @@ IsStart [] = ⊤
 IsStart (b ∷ bytes) = is_blank b ≡ false
 
 -- the token is the first of the text, and the rest, which is shorter, has the others
-pub record IsNext (text : List ℕ) (token : Token) (rest : List ℕ) : Type 0 where
+pub record IsNext (text : List ℕ) (token : TokenOf) (rest : List ℕ) : Type 0 where
   pub tokens : tokens_of text ≡ token ∷ tokens_of rest
   pub shorter : length rest < length text

@@ -5,10 +5,10 @@ use Rattle.dp_expr.specs.declared.walk_place.WalkPlace.{WalkPlace}
 use Rattle.dp_expr.specs.steps.Frames.{frames_seen}
 use Rattle.dp_expr.specs.steps.Places.{place_seen}
 use Rattle.dp_expr.specs.Values.{Outcome}
-use Rattle.dp_expr.specs.Walk.{Frame, State}
+use Rattle.dp_expr.specs.Walk.{FrameOf, State}
 
 -- the frames of a stack, from its top
-abbrev pub stack_seen : Stack → List (Frame Outcome)
+abbrev pub stack_seen : Stack → List (FrameOf Outcome)
 stack_seen stack = frames_seen stack.frames.items
 
 -- the state of a walk at a place, with that stack

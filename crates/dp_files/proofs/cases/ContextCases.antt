@@ -8,11 +8,11 @@ use Rattle.dp_files.specs.ContextHistory.{extension_of}
 use Rattle.dp_files.specs.ContextLines.{context_lines, context_remarks, entry_reading, line_reading, numbered_reading}
 use Rattle.dp_files.specs.ContextWords.{context_line, is_old_form}
 use Rattle.dp_files.specs.Priorities.{label_within, priority_of, written_of}
-use Rattle.dp_files.specs.declared.remark.Note.TheVariants.{AfterHint, CallerId, DoubleLabel, Hint, IgnorePat, Switch}
+use Rattle.dp_files.specs.declared.remark.LineNote.TheVariants.{AfterHint, CallerId, DoubleLabel, Hint, IgnorePat, Switch}
 use Rattle.dp_files.specs.declared.remark.Fault.TheVariants.{OldForm}
 use Rattle.dp_files.specs.declared.remark.RemarkKind.{RemarkKind}
 use Rattle.dp_files.specs.declared.remark.RemarkKind.TheVariants.{Fault, Note}
-use Rattle.dp_files.specs.declared.remark.Remark.{Remark}
+use Rattle.dp_files.specs.declared.remark.LineRemark.{LineRemark}
 use Rattle.dp_files.specs.declared.source_line.MadeLine.{MadeLine}
 
 -- lines at places, beginning with this one
@@ -26,7 +26,7 @@ texts lines = map (λ (line : MadeLine). line.text) (context_lines (at_places 0 
 
 -- the remarks on them, each with the place of its line
 abbrev kinds : List (List ℕ) → List (ℕ × RemarkKind)
-kinds lines = map (λ (remark : Remark). (remark.source, remark.kind)) (context_remarks (at_places 0 lines))
+kinds lines = map (λ (remark : LineRemark). (remark.source, remark.kind)) (context_remarks (at_places 0 lines))
 
 -- how numbers are written
 two : decimal 2 ≡ codes "2"

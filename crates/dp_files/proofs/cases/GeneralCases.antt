@@ -1,7 +1,7 @@
 -- Lines of `[general]`, computed from their definition.
 use Rattle.std.proofs.Common.{◌≡◌, ℕ, List, [], ◌∷◌, codes, refl}
 use Rattle.dp_files.specs.GeneralLines.{general_lines, general_made, general_remarks}
-use Rattle.dp_files.specs.declared.remark.Note.TheVariants.{AutoFallThrough}
+use Rattle.dp_files.specs.declared.remark.LineNote.TheVariants.{AutoFallThrough}
 use Rattle.dp_files.specs.declared.remark.RemarkKind.TheVariants.{Note}
 
 -- a section with the setting in two lines, of which the second has the default value

@@ -1,13 +1,13 @@
 -- Priorities, computed from their definition.
 use Rattle.std.proofs.Common.{◌≡◌, ℕ, List, None, Some, Option, codes, refl}
-use Rattle.dp_files.specs.Priorities.{Base, Number, Next, Same, Label, Hint, Counted, Priority, written_of, label_within, priority_of}
+use Rattle.dp_files.specs.Priorities.{BaseOf, Number, Next, Same, Label, Hint, Counted, WrittenPriorityOf, written_of, label_within, priority_of}
 
 -- a base with this added number, and no label
-counts : Base → Option ℕ → Option Priority
+counts : BaseOf → Option ℕ → Option WrittenPriorityOf
 counts base more = Some (record { written = Counted base more; label = None })
 
 -- a base without an added number, and with a label
-named : Base → List ℕ → Option Priority
+named : BaseOf → List ℕ → Option WrittenPriorityOf
 named base label = Some (record { written = Counted base None; label = Some label })
 
 number : priority_of (codes "010") ≡ counts (Number 10) None

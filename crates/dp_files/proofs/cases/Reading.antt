@@ -2,15 +2,15 @@
 use Rattle.std.proofs.Common.{◌≡◌, List, Result, [], ◌∷◌, ◌++◌, Some, None, Ok, Err, refl, if◌then◌else◌}
 use Rattle.std.specs.Prelude.{codes}
 use Rattle.dp_conf.specs.Words.{same_text}
-use Rattle.dp_files.specs.Comments.{uncovered, file_lines}
+use Rattle.dp_files.specs.Comments.{rest_of_line, file_lines}
 use Rattle.dp_files.specs.Directives.{directive_of}
 use Rattle.dp_files.specs.Reading.{FilesOf, after_line, after_text, after_name, after_request, including, reading_of}
 use Rattle.dp_files.specs.Sources.{Files}
 use Rattle.dp_files.specs.declared.reading.ReadingFault.{ReadingFault}
 use Rattle.dp_files.specs.declared.reading.ReadingFault.TheVariants.{NotFound as not_found_error}
 use Rattle.dp_files.specs.declared.remark.Fault.TheVariants.{NotFound, IncludeDepth}
-use Rattle.dp_files.specs.declared.remark.Note.TheVariants.{OpenComment, Exec}
-use Rattle.dp_files.specs.declared.remark.Remark.{Remark}
+use Rattle.dp_files.specs.declared.remark.LineNote.TheVariants.{OpenComment, Exec}
+use Rattle.dp_files.specs.declared.remark.LineRemark.{LineRemark}
 use Rattle.dp_files.specs.declared.remark.RemarkKind.TheVariants.{Note, Fault}
 
 -- two files, the first of which includes the second and one that does not exist
@@ -31,7 +31,7 @@ reading-two : reading_of two (codes "m") ≡ Ok (record {
       ∷ record { file = 0; line = 3; text = codes "#include b" } ∷ record { file = 0; line = 4; text = codes "#tryinclude b" } ∷ [];
   remarks = record { source = 3; kind = Fault NotFound } ∷ [];
 })
-unfolding reading_of including after_request after_name after_text file_lines uncovered after_line directive_of
+unfolding reading_of including after_request after_name after_text file_lines rest_of_line after_line directive_of
 reading-two = refl
 
 reading-none : reading_of two (codes "c") ≡ Err not_found_error
@@ -39,7 +39,7 @@ unfolding reading_of
 reading-none = refl
 
 -- the remarks
-abbrev remarks_of : Result FilesOf ReadingFault → List Remark
+abbrev remarks_of : Result FilesOf ReadingFault → List LineRemark
 remarks_of (Ok read) = read.remarks
 remarks_of (Err fault) = []
 
@@ -52,7 +52,7 @@ own = record {
 
 -- ten are nested inside each other
 reading-own : remarks_of (reading_of own (codes "m")) ≡ record { source = 9; kind = Fault IncludeDepth } ∷ []
-unfolding reading_of including after_request after_name after_text file_lines uncovered after_line directive_of
+unfolding reading_of including after_request after_name after_text file_lines rest_of_line after_line directive_of
 reading-own = refl
 
 -- a file with names that match others, a command, and a block comment that is open at its end
@@ -68,5 +68,5 @@ many = record {
 -- the note on a comment comes before the remarks on the same line's files
 reading-many : remarks_of (reading_of many (codes "m"))
     ≡ record { source = 0; kind = Fault NotFound } ∷ record { source = 2; kind = Note Exec } ∷ record { source = 3; kind = Note OpenComment } ∷ record { source = 3; kind = Fault NotFound } ∷ []
-unfolding reading_of including after_request after_name after_text file_lines uncovered after_line directive_of
+unfolding reading_of including after_request after_name after_text file_lines rest_of_line after_line directive_of
 reading-many = refl

@@ -6,7 +6,7 @@ use Rattle.dp_conf.specs.declared.fault.LineKind.TheVariants.{NoSection, NoEqual
 use Rattle.dp_files.specs.SectionParts.{fault_at}
 use Rattle.dp_files.specs.Sections.{sections_of, after_content, after_named_header, after_item, sections_after, with_copies, copies_within, opening_of, section_of_next}
 use Rattle.dp_files.specs.declared.remark.Fault.TheVariants.{Line}
-use Rattle.dp_files.specs.declared.remark.Remark.{Remark}
+use Rattle.dp_files.specs.declared.remark.LineRemark.{LineRemark}
 use Rattle.dp_files.specs.declared.sections.SourceSection.{SourceSection}
 use Rattle.dp_files.specs.declared.source_line.SourceFile.{SourceFile}
 use Rattle.dp_files.specs.declared.source_line.SourceLine.{SourceLine}
@@ -31,7 +31,7 @@ abbrev section : ℕ → List ℕ → Bool → List ℕ → SourceSection
 section place name is_template lines = record { header = Some place; name = name; is_template = is_template; lines = lines }
 
 -- a faulty line
-abbrev fault : ℕ → LineKind → Remark
+abbrev fault : ℕ → LineKind → LineRemark
 fault place kind = fault_at place (Line kind)
 
 abbrev template_lines : List SourceLine

@@ -6,7 +6,7 @@ use Rattle.dp_conf.specs.Blanks.{trim}
 use Rattle.dp_conf.specs.Cut.{cut_once}
 use Rattle.dp_conf.specs.Levels.{arguments_of}
 use Rattle.dp_conf.specs.Words.{same_text}
-use Rattle.dp_vars.specs.Stores.{Frame, innermost, popped_setting, set, set_local, with_frame, without_frame}
+use Rattle.dp_vars.specs.Stores.{StoreFrame, innermost, popped_setting, set, set_local, with_frame, without_frame}
 use Rattle.dp_app.specs.laws.Keeping.{cell_kept, going_lawful, not_parked, store_kept}
 use Rattle.dp_app.specs.Lawful.{ParksNowhere, IsLawfulRow, KeepsUntouched, MayGo, MayPark, waiting_after, waiting_lists, waiting_parked}
 use Rattle.dp_app.specs.Cells.{CellOf}
@@ -20,7 +20,7 @@ use Rattle.dp_app.specs.Parts.{has_option, is_given, part}
 use Rattle.dp_flow.specs.Dialling as dialling
 use Rattle.dp_flow.specs.Jumps as jumps
 use Rattle.dp_flow.specs.Plain as plain
-use Rattle.dp_flow.specs.Jumps.{SubroutineCall}
+use Rattle.dp_flow.specs.Jumps.{SubroutineCallOf}
 use Rattle.dp_flow.specs.Settings as settings
 use Rattle.dp_app.specs.laws.StoreKept.{dropped_kept, pushed_kept, set_kept, set_local_kept, with_caller_kept, with_globals_kept, with_store_kept}
 use Rattle.dp_flow.specs.Touches.{nothing, settable, the_frames, the_variables, variables_and_frames}
@@ -57,17 +57,17 @@ abbrev front_of : List (List ℕ) → List (List ℕ)
 front_of parts = take (length parts - 1) parts
 
 -- the entry into a subroutine pushes at most one frame
-entered_kept : (cell : CellOf) (parts : List (List ℕ)) (o : Option SubroutineCall) → KeepsUntouched the_frames cell (jumps.enter_subroutine cell parts o).cell
+entered_kept : (cell : CellOf) (parts : List (List ℕ)) (o : Option SubroutineCallOf) → KeepsUntouched the_frames cell (jumps.enter_subroutine cell parts o).cell
 entered_kept cell parts None = cell_kept the_frames cell
 entered_kept cell parts (Some c) =
     with_store_kept the_frames cell (with_frame cell.store (jumps.place_after cell.place) (jumps.argument_locals 1 c.arguments))
     (pushed_kept the_frames cell.store (jumps.place_after cell.place) (jumps.argument_locals 1 c.arguments) refl)
 
-entered_same : (cell : CellOf) (parts : List (List ℕ)) (o : Option SubroutineCall) → (jumps.enter_subroutine cell parts o).cell.queues ≡ cell.queues
+entered_same : (cell : CellOf) (parts : List (List ℕ)) (o : Option SubroutineCallOf) → (jumps.enter_subroutine cell parts o).cell.queues ≡ cell.queues
 entered_same cell parts None = refl
 entered_same cell parts (Some c) = refl
 
-entered_going : (cell : CellOf) (parts : List (List ℕ)) (o : Option SubroutineCall) → ParksNowhere (jumps.enter_subroutine cell parts o).next
+entered_going : (cell : CellOf) (parts : List (List ℕ)) (o : Option SubroutineCallOf) → ParksNowhere (jumps.enter_subroutine cell parts o).next
 entered_going cell parts None = tt
 entered_going cell parts (Some c) = tt
 
@@ -103,7 +103,7 @@ gosub_if_lawful = going_lawful the_frames jumps.gosub_if_row
 
 -- the end of a subroutine, given the frame that is removed
 module _ (cell : CellOf) (value : List ℕ) where
-  return_kept : (o : Option (Frame Place))
+  return_kept : (o : Option (StoreFrame Place))
       → KeepsUntouched variables_and_frames cell (jumps.return_outcome cell (popped_setting cell.store (codes "GOSUB_RETVAL") value o)).cell
   return_kept None = with_store_kept variables_and_frames cell cell.store (store_kept variables_and_frames cell.store)
   return_kept (Some frame) =
@@ -111,11 +111,11 @@ module _ (cell : CellOf) (value : List ℕ) where
       (set_kept variables_and_frames cell.store (without_frame cell.store) (codes "GOSUB_RETVAL") value refl
       (dropped_kept variables_and_frames cell.store refl))
 
-  return_same : (o : Option (Frame Place)) → (jumps.return_outcome cell (popped_setting cell.store (codes "GOSUB_RETVAL") value o)).cell.queues ≡ cell.queues
+  return_same : (o : Option (StoreFrame Place)) → (jumps.return_outcome cell (popped_setting cell.store (codes "GOSUB_RETVAL") value o)).cell.queues ≡ cell.queues
   return_same None = refl
   return_same (Some frame) = refl
 
-  return_going : (o : Option (Frame Place)) → ParksNowhere (jumps.return_outcome cell (popped_setting cell.store (codes "GOSUB_RETVAL") value o)).next
+  return_going : (o : Option (StoreFrame Place)) → ParksNowhere (jumps.return_outcome cell (popped_setting cell.store (codes "GOSUB_RETVAL") value o)).next
   return_going None = tt
   return_going (Some frame) = tt
 

@@ -19,9 +19,9 @@ pending plan [] = []
 pending plan (frame ∷ frames) = pending plan frames ++ links_left plan frame
 
 -- the numbers below a bound that were not seen, each counted with its weight
-abbrev pub unseen : (ℕ → ℕ) → ℕ → List ℕ → ℕ
-unseen weight zero seen = 0
-unseen weight (suc bound) seen = unseen weight bound seen + (if has seen bound then 0 else weight bound)
+abbrev pub unseen_weight : (ℕ → ℕ) → ℕ → List ℕ → ℕ
+unseen_weight weight zero seen = 0
+unseen_weight weight (suc bound) seen = unseen_weight weight bound seen + (if has seen bound then 0 else weight bound)
 
 abbrev pub one : ℕ → ℕ
 one number = 1
@@ -32,11 +32,11 @@ link_count plan number = length (links_at plan number)
 
 -- the number of includes still to be checked
 abbrev pub work : PlanOf → List ℕ → List ContextVisit → ℕ
-work plan order frames = unseen (link_count plan) (context_count plan) order + length (pending plan frames)
+work plan order frames = unseen_weight (link_count plan) (context_count plan) order + length (pending plan frames)
 
 -- the marks are those of the order, which contains no context twice; and each context in progress is in it
 pub record IsFilling (plan : PlanOf) (order : List ℕ) (marks : List Bool) (frames : List ContextVisit) : Type 0 where
   pub marked : IsMarked order marks
-  pub counted : unseen one (context_count plan) order + length order ≡ context_count plan
+  pub counted : unseen_weight one (context_count plan) order + length order ≡ context_count plan
   pub short : length frames ≤ length order
   pub within : AreContexts plan order

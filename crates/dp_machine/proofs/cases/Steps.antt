@@ -19,7 +19,7 @@ use Rattle.dp_app.specs.declared.phase.Phase.{Phase}
 use Rattle.dp_app.specs.declared.phase.Phase.TheVariants.{Ready, Pause, Ended as phase_ended}
 use Rattle.dp_app.specs.declared.place.Place.{Place}
 use Rattle.dp_machine.specs.Channels.{hung_up}
-use Rattle.dp_machine.specs.Events.{Own, event_row, start_call, step_row, unfound}
+use Rattle.dp_machine.specs.Events.{Own, event_row, start_call, step_row, step_without_entry}
 use Rattle.dp_machine.specs.Found.{entry_found, is_found, label_found}
 use Rattle.dp_machine.specs.Replay.{replies_to}
 use Rattle.dp_machine.specs.Seen.{arguments_seen, globals_of}
@@ -210,19 +210,19 @@ step-invalid : step (channel (at (codes "9") 1) Ready false) ≡
       shared = blank_shared;
       reply = Invalid;
     }
-unfolding step_row entry_found found_entry visit unfound is_found set
+unfolding step_row entry_found found_entry visit step_without_entry is_found set
 step-invalid = refl
 
 -- a priority that does not exist is a hang-up
 step-no_priority : step (channel (at (codes "200") 3) Ready false) ≡
     record { channel = channel (at (codes "h") 1) Ready true; shared = blank_shared; reply = NoEntry }
-unfolding step_row entry_found found_entry visit unfound is_found hung_up
+unfolding step_row entry_found found_entry visit step_without_entry is_found hung_up
 step-no_priority = refl
 
 -- and so is an extension that does not exist, in a context without `i`
 step-no_i : step (channel (bare (codes "9") 1) Ready false) ≡
     record { channel = channel (bare (codes "9") 1) phase_ended false; shared = blank_shared; reply = NoEntry }
-unfolding step_row entry_found found_entry visit unfound is_found hung_up
+unfolding step_row entry_found found_entry visit step_without_entry is_found hung_up
 step-no_i = refl
 
 step-not_ready : step (channel (at (codes "100") 1) Pause false) ≡

@@ -15,13 +15,13 @@ use Rattle.dp_machine.specs.declared.templates.Arguments.TheVariants.{Plain, Rea
 use Rattle.dp_machine.specs.declared.templates.EntryTemplate.{EntryTemplate}
 
 -- a text is its own expansion and all in it is known, with any functions and in any view
-pub record IsPlain (text : List ℕ) : Type 0 where
+pub record IsPlainText (text : List ℕ) : Type 0 where
   pub same : (functions : FunctionTable) (sight : Sight) → expansion_with functions sight text ≡ text
   pub known : (functions : FunctionTable) (sight : Sight) → first_unknown functions sight text ≡ None
 
 -- the arguments are the template of this text
 abbrev pub AreTemplate : List ℕ → Arguments → Type 0
-AreTemplate text Plain = IsPlain text
+AreTemplate text Plain = IsPlainText text
 AreTemplate text (Read read) = pieces.AreOf text read
 
 -- the template is that of the entry's arguments

@@ -6,7 +6,7 @@ use Rattle.dp_pattern.specs.GoesOn.{GoesOn}
 use Rattle.dp_pattern.specs.Order.{name_cmp}
 use Rattle.dp_pattern.specs.Spelling.{spelling}
 use Rattle.dp_pattern.specs.declared.tail.Tail.TheVariants.{End, Dot, Bang}
-use Rattle.dp_pattern.proofs.WalkLemmas.{matched}
+use Rattle.dp_pattern.proofs.WalkLemmas.{walk_decides_match}
 
 -- `_1.` matches `1-2`, but not `1`
 takes_more : Matches (Pattern (codes "1" ∷ []) Dot) (codes "1-2")
@@ -20,7 +20,7 @@ takes_more = record {
 }
 
 wants_more : Matches (Pattern (codes "1" ∷ []) Dot) (codes "1") → ⊥
-wants_more found = true≢false (sym ((matched (Pattern (codes "1" ∷ []) Dot) (codes "1")).1 found))
+wants_more found = true≢false (sym ((walk_decides_match (Pattern (codes "1" ∷ []) Dot) (codes "1")).1 found))
 
 -- `_1!` matches `1`
 bang_takes_nothing : Matches (Pattern (codes "1" ∷ []) Bang) (codes "1")

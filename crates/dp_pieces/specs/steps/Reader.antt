@@ -4,29 +4,29 @@ use Rattle.dp_conf.specs.declared.groups.GroupKind.{GroupKind}
 use Rattle.dp_conf.specs.declared.groups.Mark.{Mark}
 use Rattle.dp_conf.specs.declared.groups.Mark.TheVariants.{End, Opening, Byte}
 use Rattle.dp_conf.specs.Groups.{opener}
-use Rattle.dp_pieces.specs.Pieces.{Known, Piece}
+use Rattle.dp_pieces.specs.Pieces.{Known, PieceOf}
 use Rattle.dp_pieces.specs.Texts.{GroupMeaning}
 
 -- an opening, with the place of its `$`
-pub record Open : Type 0 where
+pub record OpenOf : Type 0 where
   pub kind : GroupKind
   pub start : ℕ
 
 -- the pieces, and the waiting openings, the innermost first
 pub record Read : Type 0 where
-  pub pieces : List Piece
-  pub waiting : List Open
+  pub pieces : List PieceOf
+  pub waiting : List OpenOf
 
 -- the kinds of the waiting openings
-abbrev pub kinds_of : List Open → List GroupKind
+abbrev pub kinds_of : List OpenOf → List GroupKind
 kinds_of waiting = map (λ w. w.kind) waiting
 
 -- the pieces with those of a group in place of its opening and its body
-abbrev pub with_group : GroupMeaning → Open → List Piece → List Piece
+abbrev pub with_group : GroupMeaning → OpenOf → List PieceOf → List PieceOf
 with_group groups w pieces = take w.start pieces ++ groups w.kind (drop (w.start + 2) pieces)
 
 -- after the end of the innermost group
-abbrev pub after_group : GroupMeaning → List Open → List Piece → Read
+abbrev pub after_group : GroupMeaning → List OpenOf → List PieceOf → Read
 after_group groups [] pieces = record { pieces = pieces; waiting = [] }
 after_group groups (w ∷ waiting) pieces = record { pieces = with_group groups w pieces; waiting = waiting }
 

@@ -2,8 +2,8 @@
 use Rattle.std.specs.Prelude.{ℕ, Bool, true, not, ◌&&◌, ◌==◌, List, [], ◌∷◌, if◌then◌else◌}
 use Rattle.dp_conf.specs.Levels.{next_level}
 use Rattle.dp_pieces.specs.Bytes.{Bytes}
-use Rattle.dp_pieces.specs.Cuts.{At, Cutting, Nowhere, Unsure, may_cut, with_piece}
-use Rattle.dp_pieces.specs.Pieces.{AnyOf, Known, OneOf, Piece}
+use Rattle.dp_pieces.specs.Cuts.{At, CuttingOf, Nowhere, Unsure, may_cut, with_piece}
+use Rattle.dp_pieces.specs.Pieces.{AnyOf, Known, OneOf, PieceOf}
 use Rattle.dp_pieces.specs.declared.cuts.Rule.{Rule}
 use Rattle.dp_pieces.specs.declared.cuts.Rule.TheVariants.{First, Outside, Comma}
 use Rattle.dp_pieces.specs.declared.cuts.Stand.{Stand}
@@ -26,29 +26,29 @@ stand_unknown (First mark) level set = maybe_if (set mark)
 stand_unknown (Outside mark) level set = maybe_if (may_cut mark level set)
 stand_unknown Comma level set = Apart
 
-abbrev pub stand_of : Rule → ℕ → Piece → Stand
+abbrev pub stand_of : Rule → ℕ → PieceOf → Stand
 stand_of rule level (Known byte) = stand_known rule level byte
 stand_of rule level (OneOf set) = stand_unknown rule level set
 stand_of rule level (AnyOf set) = stand_unknown rule level set
 
 -- the level after a piece
-abbrev pub level_after : ℕ → Piece → ℕ
+abbrev pub level_after : ℕ → PieceOf → ℕ
 level_after level (Known byte) = next_level level byte
 level_after level (OneOf set) = level
 level_after level (AnyOf set) = level
 
 -- an unknown piece separates no arguments and changes no level
-abbrev pub is_clean_piece : ℕ → Piece → Bool
+abbrev pub is_clean_piece : ℕ → PieceOf → Bool
 is_clean_piece level (Known byte) = true
 is_clean_piece level (OneOf set) = not (may_cut 44 level set)
 is_clean_piece level (AnyOf set) = not (may_cut 44 level set)
 
 -- the cut at the first piece, or in those after it
-abbrev pub cut_by : Stand → Piece → List Piece → Cutting → Cutting
+abbrev pub cut_by : Stand → PieceOf → List PieceOf → CuttingOf → CuttingOf
 cut_by Here piece pieces later = At [] pieces
 cut_by Maybe piece pieces later = Unsure
 cut_by Apart piece pieces later = with_piece piece later
 
-abbrev pub cut_rule : Rule → ℕ → List Piece → Cutting
+abbrev pub cut_rule : Rule → ℕ → List PieceOf → CuttingOf
 cut_rule rule level [] = Nowhere
 cut_rule rule level (piece ∷ pieces) = cut_by (stand_of rule level piece) piece pieces (cut_rule rule (level_after level piece) pieces)

@@ -100,7 +100,11 @@ fn most_pieces(pieces: &[Piece], name: &Name) -> usize {
 /// What is known of a text of this shape that matches the name of an extension. It fails only if memory runs out.
 ///
 /// Dashes are ignored in a match, so a shape that may contain one is unchanged.
-pub fn matched(alloc: Global, pieces: &[Piece], name: &Name) -> Result<Vec<Piece>, NoMemory>
+pub fn pieces_after_match(
+    alloc: Global,
+    pieces: &[Piece],
+    name: &Name,
+) -> Result<Vec<Piece>, NoMemory>
     ensures { IfOk result (λ met. shown_all met.items ≡ after_match (shown_all pieces.now) name.now) }
 {
     let mut met = Vec::with_capacity(alloc, most_pieces(pieces, name))?;

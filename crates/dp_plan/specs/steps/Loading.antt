@@ -11,14 +11,14 @@ use Rattle.dp_plan.specs.Items.{line_item}
 use Rattle.dp_plan.specs.steps.Open.{reading_in}
 use Rattle.dp_plan.specs.declared.lines.Lines.{Lines}
 use Rattle.dp_plan.specs.declared.section.OpenSection.{OpenSection}
-use Rattle.dp_plan.specs.steps.Reader.{Reading, unread, after, history_in}
+use Rattle.dp_plan.specs.steps.Reader.{ItemReading, nothing_read, after, history_in}
 use Rattle.dp_plan.specs.declared.fault.LoadFault.{LoadFault}
 use Rattle.dp_plan.specs.declared.fault.LoadKind.{LoadKind}
 use Rattle.dp_plan.specs.Item.{Item}
 
 -- what the lines so far leave for the next one, and the dialplan under construction
 pub record MadeOf : Type 0 where
-  pub reading : Reading
+  pub reading : ItemReading
   pub draft : Drafted
 
 -- the result of the lines, given the open section
@@ -26,8 +26,8 @@ abbrev pub made_in : OpenSection → Lines → MadeOf
 made_in opened lines = record { reading = reading_in opened lines.reader; draft = lines.draft }
 
 -- before the first line
-abbrev pub unmade : MadeOf
-unmade = record { reading = unread; draft = nothing }
+abbrev pub nothing_made : MadeOf
+nothing_made = record { reading = nothing_read; draft = nothing }
 
 -- after one more item
 abbrev pub after_item : MadeOf → Item → MadeOf
@@ -62,4 +62,4 @@ draft_made state = state >>= λ made. Ok made.draft
 
 -- the result of all lines of a text: a fault of the text comes before those of a context
 unfoldable pub drafted_of : List ℕ → Result Drafted LoadFault
-drafted_of text = text_fault (lines_of text) >>= λ lines. draft_made (fold after_one (Ok unmade) lines)
+drafted_of text = text_fault (lines_of text) >>= λ lines. draft_made (fold after_one (Ok nothing_made) lines)

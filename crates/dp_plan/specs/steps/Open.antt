@@ -4,9 +4,9 @@ use Rattle.std.specs.Option.{option_map}
 use Rattle.dp_conf.specs.Words.{same_text}
 use Rattle.dp_pattern.specs.Name.{Meaning}
 use Rattle.dp_plan.specs.Extensions.{extension_of}
-use Rattle.dp_plan.specs.History.{History}
-use Rattle.dp_plan.specs.steps.Reader.{Reading, history_in}
-use Rattle.dp_plan.specs.steps.Table.{StandsAt, Table, HasNumber}
+use Rattle.dp_plan.specs.History.{PlanHistory}
+use Rattle.dp_plan.specs.steps.Reader.{ItemReading, history_in}
+use Rattle.dp_plan.specs.steps.Table.{IsFirstAt, Table, HasNumber}
 use Rattle.dp_plan.specs.declared.section.OpenContext.{OpenContext}
 use Rattle.dp_plan.specs.declared.section.OpenSection.{OpenSection}
 use Rattle.dp_plan.specs.declared.section.OpenSection.TheVariants.{Settings, Variables, Entries}
@@ -29,11 +29,11 @@ last_of Variables = None
 last_of (Entries opened) = last_name opened
 
 -- what the lines so far leave for the next one, given the open section
-abbrev pub reading_in : OpenSection → Table → Reading
+abbrev pub reading_in : OpenSection → Table → ItemReading
 reading_in opened table = record { section = section_of opened; name = last_of opened; extensions = table }
 
 -- the history with which a line of the context is read
-abbrev pub history_at : OpenContext → Table → History
+abbrev pub history_at : OpenContext → Table → PlanHistory
 history_at opened table = history_in (reading_in (Entries opened) table)
 
 -- the last extension of the context has its number
@@ -42,7 +42,7 @@ IsLast table opened = IfSome opened.last (λ last. HasNumber table (extension_of
 
 -- the context is at its place among the names, and its last extension has its number
 pub record IsOpen (names : List (List ℕ)) (table : Table) (opened : OpenContext) : Type 0 where
-  pub place : StandsAt (same_text opened.name) names opened.place
+  pub place : IsFirstAt (same_text opened.name) names opened.place
   pub last : IsLast table opened
 
 -- the same, if the section is that of a context

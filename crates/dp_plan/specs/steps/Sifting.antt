@@ -2,7 +2,7 @@
 -- text is `faults_of` of AllFaults.
 use Rattle.std.specs.Prelude.{List, [], ◌∷◌, ◌++◌, Result, Ok, Err}
 use Rattle.dp_conf.specs.Lines.{LineOf}
-use Rattle.dp_plan.specs.steps.Loading.{MadeOf, unmade, after_line}
+use Rattle.dp_plan.specs.steps.Loading.{MadeOf, nothing_made, after_line}
 use Rattle.dp_plan.specs.declared.fault.LoadFault.{LoadFault}
 
 -- the result of the lines without a fault, and the faults of the others
@@ -11,8 +11,8 @@ pub record Sifted : Type 0 where
   pub faults : List LoadFault
 
 -- before the first line
-abbrev pub unsifted : Sifted
-unsifted = record { made = unmade; faults = [] }
+abbrev pub nothing_sifted : Sifted
+nothing_sifted = record { made = nothing_made; faults = [] }
 
 -- with one more fault
 abbrev pub with_fault : Sifted → LoadFault → Sifted

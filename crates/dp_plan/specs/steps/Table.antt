@@ -7,7 +7,7 @@ use Rattle.dp_plan.specs.Extensions.{same_extension}
 use Rattle.dp_plan.specs.declared.extension.Extension.{Extension}
 
 -- an element passes the test, and the first one that does is at the place
-pub record StandsAt {X : Type 0} (test : X → Bool) (xs : List X) (place : ℕ) : Type 0 where
+pub record IsFirstAt {X : Type 0} (test : X → Bool) (xs : List X) (place : ℕ) : Type 0 where
   pub there : list_any test xs ≡ true
   pub at : place ≡ position_or_len test xs
 
@@ -21,7 +21,7 @@ number_in table extension = position_or_len (same_extension extension) (keys_of 
 
 -- the extension is among them and has the number
 abbrev pub HasNumber : Table → Extension → ℕ → Type 0
-HasNumber table extension = StandsAt (same_extension extension) (keys_of table)
+HasNumber table extension = IsFirstAt (same_extension extension) (keys_of table)
 
 -- the last priority of the extension with the number, if there is one
 abbrev pub priority_at : Table → Option ℕ → Option ℕ

@@ -6,9 +6,9 @@ use std::alloc::Global;
 use std::test::Fail;
 
 /// The faults of a text, each as `<fault CODE line L>`, or `refused: fault CODE line L` for a fault of the text itself.
-pub(super) struct EveryFault;
+pub(super) struct EveryPlanFault;
 
-impl Question for EveryFault {
+impl Question for EveryPlanFault {
     fn answer(alloc: Global, asked: &str) -> Result<String, Fail> {
         let text = bytes_of(alloc, asked)?;
         let found = plan_faults(alloc, &text);

@@ -1,16 +1,15 @@
 //! Loaded dialplans and faults, rendered as one line of text.
 use dp_case_tables::{Question, bytes_of};
 use dp_plan::{
-    Context, Dialplan, Entry, LoadFault, LoadKind, Name, NoMemory, Note, PlanKind, SharedText,
-    Text,
+    Context, Dialplan, Entry, LoadFault, LoadKind, Name, NoMemory, Note, PlanKind, SharedText, Text,
 };
 use std::alloc::Global;
 use std::test::Fail;
 
 /// What a text loads as, written as `plan_text` says.
-pub(super) struct Loads;
+pub(super) struct PlanLoads;
 
-impl Question for Loads {
+impl Question for PlanLoads {
     fn answer(alloc: Global, asked: &str) -> Result<String, Fail> {
         let text = bytes_of(alloc, asked)?;
         let read = Dialplan::load(alloc, &text);

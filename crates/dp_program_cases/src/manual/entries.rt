@@ -72,7 +72,7 @@ fn check_entry<R: Abort + AllocGlobal>(rt: &R, number: u8, name: &str) -> Result
     let head = format!(in rt.alloc(); "{number} {name}\n")?;
     let entry = fault.entry();
     assert!(rt; entry.starts_with(head.as_str()), "of {number}: {entry}");
-    let named = FaultNumber::named(name);
+    let named = FaultNumber::by_name(name);
     assert!(rt;
         named == Some(fault) || (name == TWICE && named.is_none()),
         "of {name}"

@@ -7,7 +7,7 @@ use Rattle.dp_conf.specs.declared.first_fault.FaultyLine.{FaultyLine}
 use Rattle.dp_conf.specs.declared.first_fault.TakeFault.{TakeFault}
 use Rattle.dp_conf.specs.declared.first_fault.TakeFault.TheVariants.{Line, NoMemory}
 use Rattle.dp_queue.specs.Faults.{fault_of_line, text_fault}
-use Rattle.dp_queue.specs.File.{FileOf, unread, after_line, after_lines}
+use Rattle.dp_queue.specs.File.{FileOf, nothing_read, after_line, after_lines}
 use Rattle.dp_queue.specs.declared.fault.QueueFault.{QueueFault}
 use Rattle.dp_queue.specs.declared.fault.QueueKind.{QueueKind}
 
@@ -36,4 +36,4 @@ outcome = made_or_fault fault_of_line
 
 -- the result of all lines of a text: a fault of the text comes before those of queues
 unfoldable pub file_of : List ℕ → Result FileOf QueueFault
-file_of text = text_fault (lines_of text) >>= λ lines. after_lines unread lines
+file_of text = text_fault (lines_of text) >>= λ lines. after_lines nothing_read lines

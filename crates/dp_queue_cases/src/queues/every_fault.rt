@@ -6,9 +6,9 @@ use std::alloc::Global;
 use std::test::Fail;
 
 /// The faults of a file, each as `<fault CODE NAME line L>`, or `refused: fault CODE NAME line L` for a fault of the text itself.
-pub(super) struct EveryFault;
+pub(super) struct EveryQueueFault;
 
-impl Question for EveryFault {
+impl Question for EveryQueueFault {
     fn answer(alloc: Global, asked: &str) -> Result<String, Fail> {
         let text = bytes_of(alloc, asked)?;
         let found = queue_faults(alloc, &text);

@@ -10,18 +10,18 @@ use std::alloc::Global;
 
 /// The words of a step.
 #[derive(Clone, Copy)]
-struct Words<'a> {
+struct StepWords<'a> {
     verb: &'a str,
     first: &'a str,
     second: &'a str,
     third: &'a str,
 }
 
-fn words_of(step: &str) -> Words<'_> {
+fn words_of(step: &str) -> StepWords<'_> {
     let (verb, rest) = step.split_once(' ').unwrap_or((step, ""));
     let (first, rest) = rest.split_once(' ').unwrap_or((rest, ""));
     let (second, third) = rest.split_once(' ').unwrap_or((rest, ""));
-    Words {
+    StepWords {
         verb,
         first,
         second,
@@ -125,7 +125,7 @@ fn fill(
     write!(out, "{added} added")
 }
 
-fn pause(queues: &mut Queues, words: Words<'_>, is_paused: bool) -> bool {
+fn pause(queues: &mut Queues, words: StepWords<'_>, is_paused: bool) -> bool {
     let queue = if words.first == "*" {
         None
     } else {
@@ -138,7 +138,7 @@ fn change_members(
     alloc: Global,
     out: &mut String,
     queues: &mut Queues,
-    words: Words<'_>,
+    words: StepWords<'_>,
 ) -> Result<(), NoMemory> {
     let queue = words.first.as_bytes();
     let agent = words.second.as_bytes();
@@ -154,7 +154,7 @@ fn change_members(
     }
 }
 
-fn act(out: &mut String, queues: &mut Queues, words: Words<'_>) -> Result<(), NoMemory> {
+fn act(out: &mut String, queues: &mut Queues, words: StepWords<'_>) -> Result<(), NoMemory> {
     let agent = words.first.as_bytes();
     match words.verb {
         "answer" => push_call(out, queues.answer(agent)),

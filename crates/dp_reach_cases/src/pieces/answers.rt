@@ -71,14 +71,14 @@ fn queues_of(alloc: Global, name: &str) -> Result<Queues, Fail> {
 
 /// What is asked of a dialplan and its queues.
 #[derive(Drop)]
-pub(super) struct Asked<'a> {
+pub(super) struct QuestionParts<'a> {
     pub(super) plan: Dialplan,
     pub(super) queues: Queues,
     pub(super) ask: Ask<'a>,
 }
 
 /// What a case asks, as `Answers` says.
-pub(super) fn asked_of(alloc: Global, asked: &str) -> Result<Asked<'_>, Fail> {
+pub(super) fn asked_of(alloc: Global, asked: &str) -> Result<QuestionParts<'_>, Fail> {
     let mut words = asked.split('|');
     let text = file_of(alloc, words.next().unwrap_or(""))?;
     let queues = queues_of(alloc, words.next().unwrap_or(""))?;
@@ -93,7 +93,7 @@ pub(super) fn asked_of(alloc: Global, asked: &str) -> Result<Asked<'_>, Fail> {
         caller: given_word(words.next()),
         facts: given_word(words.next()),
     };
-    Ok(Asked { plan, queues, ask })
+    Ok(QuestionParts { plan, queues, ask })
 }
 
 /// The status and the text of the report over a table.

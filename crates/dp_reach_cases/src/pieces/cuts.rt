@@ -4,7 +4,7 @@ use dp_case_tables::{Question, text_of};
 use dp_conf::read_number;
 use dp_pieces::{
     Cutting, Piece, are_clean, bytes_of, cut_known, cut_last, cut_level, cut_pieces, front,
-    shapes_of, trimmed, without,
+    shapes_of, trim_pieces, without,
 };
 use std::alloc::{AllocError, Global};
 use std::test::Fail;
@@ -27,7 +27,7 @@ impl Question for Cuts {
 fn answer_whole(alloc: Global, word: &str, pieces: &[Piece]) -> Result<String, Fail> {
     let mut out = String::new(alloc);
     match word {
-        "trim" => push_pieces(&mut out, &trimmed(alloc, pieces)?)?,
+        "trim" => push_pieces(&mut out, &trim_pieces(alloc, pieces)?)?,
         "arguments" => push_shapes(alloc, &mut out, pieces)?,
         "clean" => out.push_str(if are_clean(pieces) { "yes" } else { "no" })?,
         "bytes" => push_pieces(&mut out, &[Piece::OneOf(bytes_of(pieces))])?,

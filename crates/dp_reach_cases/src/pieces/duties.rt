@@ -1,7 +1,7 @@
 //! What applications owe because of the pieces of their arguments, and what a reach has, worked out by hand from the rules.
 use crate::pieces::notation::{pieces_of, push_pieces};
 use dp_case_tables::{Question, text_of};
-use dp_closed::{Area, Claim, Duty, Reach, duties, found_shape};
+use dp_closed::{KeptArea, KeptClaim, KeptDuty, ReachShapes, duties, found_shape};
 use dp_conf::read_number;
 use dp_pieces::{ByteSet, NameTable, Piece};
 use dp_plan::Dialplan;
@@ -16,20 +16,20 @@ impl Question for Duties {
         let (application, notation) = asked.split_once('|').ok_or("no arguments")?;
         let arguments = pieces_of(alloc, notation)?;
         let owed = duties(alloc, application.as_bytes(), &area_of(alloc)?, &arguments)?;
-        told(alloc, &owed)
+        duties_line(alloc, &owed)
     }
 }
 
 /// The area in `from`, at an extension of digits.
-pub(super) fn area_of(alloc: Global) -> Result<Area, Fail> {
-    Ok(Area {
+pub(super) fn area_of(alloc: Global) -> Result<KeptArea, Fail> {
+    Ok(KeptArea {
         context: pieces_of(alloc, "from")?,
         exten: pieces_of(alloc, "{0-9}*")?,
     })
 }
 
 /// Duties as a line.
-pub(super) fn told(alloc: Global, owed: &[Duty]) -> Result<String, Fail> {
+pub(super) fn duties_line(alloc: Global, owed: &[KeptDuty]) -> Result<String, Fail> {
     let mut out = String::new(alloc);
     for duty in owed {
         if !out.is_empty() {
@@ -46,24 +46,24 @@ fn push_set(out: &mut String, of: &str, set: &ByteSet) -> Result<(), Fail> {
     Ok(())
 }
 
-fn push_duty(out: &mut String, duty: &Duty) -> Result<(), Fail> {
+fn push_duty(out: &mut String, duty: &KeptDuty) -> Result<(), Fail> {
     match duty {
-        Duty::Leads(area) => {
+        KeptDuty::Leads(area) => {
             out.push_str("to ")?;
             push_pieces(out, &area.context)?;
             out.push(',')?;
             push_pieces(out, &area.exten)?;
         }
-        Duty::Holds(name, set) => {
+        KeptDuty::Holds(name, set) => {
             for byte in name {
                 out.push(char::from(*byte))?;
             }
             push_set(out, "", set)?;
         }
-        Duty::HoldsAll(set) => push_set(out, "each", set)?,
-        Duty::Calls(set) => push_set(out, "caller", set)?,
-        Duty::Waits => out.push_str("waits")?,
-        Duty::Anything => out.push_str("anything")?,
+        KeptDuty::HoldsAll(set) => push_set(out, "each", set)?,
+        KeptDuty::Calls(set) => push_set(out, "caller", set)?,
+        KeptDuty::Waits => out.push_str("waits")?,
+        KeptDuty::Anything => out.push_str("anything")?,
     }
     Ok(())
 }
@@ -127,7 +127,7 @@ UnpauseQueueMember|x→UPQMSTATUS {ADENPSU} ; UPQMSTATUS {DFNOTU}
 const PLAN: &[u8] = b"[a]\nexten => s,1,NoOp()\n[b]\nexten => s,1,NoOp()\n";
 
 /// The reach with digits and `s` in `a`, and `s` in `b`.
-fn reach_of(alloc: Global) -> Result<Reach, Fail> {
+fn reach_of(alloc: Global) -> Result<ReachShapes, Fail> {
     let mut a = Vec::new(alloc);
     a.push(pieces_of(alloc, "{0-9}*")?)?;
     a.push(pieces_of(alloc, "s")?)?;
@@ -136,7 +136,7 @@ fn reach_of(alloc: Global) -> Result<Reach, Fail> {
     let mut shapes = Vec::new(alloc);
     shapes.push(a)?;
     shapes.push(b)?;
-    Ok(Reach { shapes })
+    Ok(ReachShapes { shapes })
 }
 
 /// Whether that reach has the places of a context's shape and, after a bar, an extension's.
@@ -197,18 +197,18 @@ fn table_of(alloc: Global) -> Result<NameTable, Fail> {
     Ok(names)
 }
 
-fn owed_in_a(alloc: Global, application: &str, arguments: &[Piece]) -> Result<Vec<Duty>, Fail> {
-    let area = Area {
+fn owed_in_a(alloc: Global, application: &str, arguments: &[Piece]) -> Result<Vec<KeptDuty>, Fail> {
+    let area = KeptArea {
         context: pieces_of(alloc, "a")?,
         exten: pieces_of(alloc, "{0-9}*")?,
     };
     Ok(duties(alloc, application.as_bytes(), &area, arguments)?)
 }
 
-fn is_met(alloc: Global, claim: Claim<'_>, asked: &str) -> Result<bool, Fail> {
+fn is_met(alloc: Global, claim: KeptClaim<'_>, asked: &str) -> Result<bool, Fail> {
     let (application, notation) = asked.split_once('|').ok_or("no arguments")?;
     if application == "way" {
-        return Ok(claim.meets(alloc, &Duty::Waits)?);
+        return Ok(claim.meets(alloc, &KeptDuty::Waits)?);
     }
     let owed = owed_in_a(alloc, application, &pieces_of(alloc, notation)?)?;
     Ok(claim.meets_all(alloc, &owed)?)
@@ -231,7 +231,7 @@ impl Question for Claimed {
         let names = table_of(alloc)?;
         let reach = reach_of(alloc)?;
         let ways = ways_of(alloc, asked)?;
-        let claim = Claim {
+        let claim = KeptClaim {
             plan: &plan,
             names: &names,
             reach: &reach,
@@ -270,7 +270,7 @@ const NAMES: &[u8] =
     b"[c]\nexten => 100,1,NoOp()\nexten => _1X.,1,NoOp()\nexten => _X.,1,NoOp()\nexten => _X.,2,NoOp()\nexten => s,1,NoOp()\n";
 
 /// What is known of the extensions of a shape, after a bar, at which the entry with a number is found there.
-pub(super) struct Found;
+pub(super) struct FoundShapes;
 
 fn answer_found(
     alloc: Global,
@@ -288,7 +288,7 @@ fn answer_found(
     Ok(out)
 }
 
-impl Question for Found {
+impl Question for FoundShapes {
     fn answer(alloc: Global, asked: &str) -> Result<String, Fail> {
         let (number, exten) = asked.split_once('|').ok_or("no extension")?;
         let Ok((plan, _)) = Dialplan::load(alloc, NAMES) else {

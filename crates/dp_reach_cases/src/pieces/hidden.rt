@@ -4,7 +4,7 @@ ghost use Rattle.dp_closed.specs.Shown.{shown_duties};
 ghost use Rattle.dp_reach.specs.Bounds.{Anything};
 
 use dp_app::{AppNumber, AppTable, Cell, Move};
-use dp_closed::{Area, Duty, DutyTable};
+use dp_closed::{DutyTable, KeptArea, KeptDuty};
 use dp_conf::{NoMemory, same_word};
 use dp_pieces::{ByteSet, NamesAt};
 use dp_table::StandardApps;
@@ -42,11 +42,11 @@ impl AppTable for HiddenApps {
 }
 
 /// The duties of `Playback`.
-fn anything_owed(alloc: Global) -> Result<Vec<Duty>, NoMemory>
+fn anything_owed(alloc: Global) -> Result<Vec<KeptDuty>, NoMemory>
     ensures { IfOk result (λ list. shown_duties list.items ≡ Anything ∷ []) }
 {
     let mut list = Vec::new(alloc);
-    list.push(Duty::Anything)?;
+    list.push(KeptDuty::Anything)?;
     Ok(list)
 }
 
@@ -57,17 +57,17 @@ impl DutyTable for HiddenApps {
 
     ghost bounded = { hidden_bounded };
 
-    fn owed(
+    fn duties_of(
         alloc: Global,
         names: &NamesAt<'_>,
-        area: &Area,
+        area: &KeptArea,
         name: &[u8],
         arguments: &[u8],
-    ) -> Result<Vec<Duty>, NoMemory> {
+    ) -> Result<Vec<KeptDuty>, NoMemory> {
         if same_word(name, b"Playback") {
             return anything_owed(alloc);
         }
-        StandardApps::owed(alloc, names, area, name, arguments)
+        StandardApps::duties_of(alloc, names, area, name, arguments)
     }
 
     fn expanded_bytes(

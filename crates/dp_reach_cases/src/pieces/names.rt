@@ -54,9 +54,9 @@ fn answer_of(alloc: Global, table: &NameTable, asked: &str) -> Result<String, Fa
 
 /// Steps with blanks between them, then a question after a bar: the bytes of a name, of the caller's number or of any value, whether a name
 /// may have some, or whether any value may have all of them and the digits.
-pub(super) struct Names;
+pub(super) struct NameSteps;
 
-impl Question for Names {
+impl Question for NameSteps {
     fn answer(alloc: Global, asked: &str) -> Result<String, Fail> {
         let (steps, question) = asked.split_once('|').ok_or("no question")?;
         let mut table = NameTable::new(alloc);

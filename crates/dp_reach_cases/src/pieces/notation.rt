@@ -13,7 +13,7 @@ fn put_range(set: &mut ByteSet, low: u8, high: u8) {
 
 /// The state of reading a notation: outside braces, in braces, or after their end.
 #[derive(Clone, Copy)]
-enum State {
+enum NotationState {
     Text,
     Set,
     Closed,
@@ -23,7 +23,7 @@ enum State {
 #[derive(Drop)]
 struct Notation {
     pieces: Vec<Piece>,
-    state: State,
+    state: NotationState,
     set: ByteSet,
     low: Option<u8>,
     is_range: bool,
@@ -33,13 +33,13 @@ impl Notation {
     /// Reads a byte outside braces.
     fn take_text(&mut self, byte: u8) -> Result<(), AllocError> {
         if byte == b'{' {
-            self.state = State::Set;
+            self.state = NotationState::Set;
             self.set = ByteSet::none();
             self.low = None;
             self.is_range = false;
             return Ok(());
         }
-        self.state = State::Text;
+        self.state = NotationState::Text;
         self.pieces.push(Piece::Known(byte))?;
         Ok(())
     }
@@ -69,7 +69,7 @@ impl Notation {
         if self.is_range {
             self.set.put(b'-');
         }
-        self.state = State::Closed;
+        self.state = NotationState::Closed;
         self.pieces.push(Piece::OneOf(self.set))?;
         Ok(())
     }
@@ -79,7 +79,7 @@ impl Notation {
         if byte != b'*' {
             return self.take_text(byte);
         }
-        self.state = State::Text;
+        self.state = NotationState::Text;
         let _one = self.pieces.pop();
         self.pieces.push(Piece::AnyOf(self.set))?;
         Ok(())
@@ -88,9 +88,9 @@ impl Notation {
     /// Reads a byte.
     fn take(&mut self, byte: u8) -> Result<(), AllocError> {
         match self.state {
-            State::Text => self.take_text(byte),
-            State::Set => self.take_set(byte),
-            State::Closed => self.take_closed(byte),
+            NotationState::Text => self.take_text(byte),
+            NotationState::Set => self.take_set(byte),
+            NotationState::Closed => self.take_closed(byte),
         }
     }
 }
@@ -99,7 +99,7 @@ impl Notation {
 pub(super) fn pieces_of(alloc: Global, notation: &str) -> Result<Vec<Piece>, AllocError> {
     let mut reading = Notation {
         pieces: Vec::new(alloc),
-        state: State::Text,
+        state: NotationState::Text,
         set: ByteSet::none(),
         low: None,
         is_range: false,

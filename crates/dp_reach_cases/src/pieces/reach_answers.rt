@@ -13,7 +13,7 @@ use std::test::Fail;
 /// The question is that of `Answers`. The answer is `none`, or its parts, with a `¶` behind each: the status with `proved` or `unproved` and
 /// where calls come in; each entry as `CONTEXT,NAME,PRIORITY` and each line on the way to a context behind a `>`, or whether the target is
 /// reached; and each further line behind a `!`.
-pub(super) struct Parts;
+pub(super) struct AnswerParts;
 
 /// The same over a table of which nothing is known of what `Playback` does.
 pub(super) struct HiddenParts;
@@ -82,7 +82,7 @@ fn parts_over<T: DutyTable>(alloc: Global, asked: &str) -> Result<String, Fail> 
     }
 }
 
-impl Question for Parts {
+impl Question for AnswerParts {
     fn answer(alloc: Global, asked: &str) -> Result<String, Fail> {
         parts_over::<StandardApps>(alloc, asked)
     }

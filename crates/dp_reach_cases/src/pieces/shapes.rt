@@ -2,14 +2,14 @@
 use crate::pieces::notation::{pieces_of, push_pieces};
 use dp_case_tables::{Question, text_of};
 use dp_pattern::Name;
-use dp_pieces::{Piece, covers, is_within, matched, may_fit, may_match};
+use dp_pieces::{Piece, covers, is_within, may_fit, may_match, pieces_after_match};
 use std::alloc::Global;
 use std::test::Fail;
 
 /// A word, then a name or a shape, then a shape after a bar.
-pub(super) struct Shapes;
+pub(super) struct ShapeAnswers;
 
-impl Question for Shapes {
+impl Question for ShapeAnswers {
     fn answer(alloc: Global, asked: &str) -> Result<String, Fail> {
         let (asked, notation) = asked.split_once('|').ok_or("no shape")?;
         let (word, of) = asked.split_once(' ').ok_or("no name")?;
@@ -38,7 +38,7 @@ fn answer_name(alloc: Global, word: &str, name: &Name, shape: &[Piece]) -> Resul
     match word {
         "may" => out.push_str(yes_or_no(may_match(shape, name)))?,
         "covers" => out.push_str(yes_or_no(covers(shape, name)))?,
-        "meet" => push_pieces(&mut out, &matched(alloc, shape, name)?)?,
+        "meet" => push_pieces(&mut out, &pieces_after_match(alloc, shape, name)?)?,
         _ => out.push_str("no such word")?,
     }
     Ok(out)

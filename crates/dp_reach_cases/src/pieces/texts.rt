@@ -7,7 +7,7 @@ use std::alloc::Global;
 use std::test::Fail;
 
 /// The shape of the channel's extension, then a text after a bar. The channel is in `from`.
-pub(super) struct Texts;
+pub(super) struct ShapedTexts;
 
 /// The table in which `X` has `a` and `b`, `fwd` has `S` and `2`, the caller's number has `1` and `2`, and any value also has `z`.
 fn table_of(alloc: Global) -> Result<NameTable, Fail> {
@@ -19,7 +19,7 @@ fn table_of(alloc: Global) -> Result<NameTable, Fail> {
     Ok(table)
 }
 
-impl Question for Texts {
+impl Question for ShapedTexts {
     fn answer(alloc: Global, asked: &str) -> Result<String, Fail> {
         let (shape, text) = asked.split_once('|').ok_or("no shape")?;
         let table = table_of(alloc)?;

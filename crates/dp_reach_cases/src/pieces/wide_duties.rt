@@ -1,5 +1,5 @@
 //! What the applications of the wide table owe because of the pieces of their arguments, worked out by hand from the rules.
-use crate::pieces::duties::{area_of, told};
+use crate::pieces::duties::{area_of, duties_line};
 use crate::pieces::notation::pieces_of;
 use dp_case_tables::Question;
 use dp_wide_duties::duties;
@@ -14,7 +14,7 @@ impl Question for WideOwed {
         let (application, notation) = asked.split_once('|').ok_or("no arguments")?;
         let arguments = pieces_of(alloc, notation)?;
         let owed = duties(alloc, application.as_bytes(), &area_of(alloc)?, &arguments)?;
-        told(alloc, &owed)
+        duties_line(alloc, &owed)
     }
 }
 

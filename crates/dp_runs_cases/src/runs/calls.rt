@@ -2,7 +2,7 @@
 use crate::runs::manual::PAGES;
 use dp_case_tables::{Question, check_all};
 use dp_commands::run_script;
-use dp_commands_fixture::{Texts, make_sink, outcome_text, read_texts};
+use dp_commands_fixture::{RunTextsOf, make_sink, outcome_text, read_texts};
 use dp_conf::NoMemory;
 use std::alloc::Global;
 use std::test::Fail;
@@ -191,7 +191,7 @@ exten => s,1,A¦¦Done A→fault 70 BadScript line 1
 const TABLES: &[&str] = &[ROWS, DIALOGUES, ENDS, QUEUES, RELOADS, FAULTS, PAGES];
 
 /// The whole output of a run of these texts, followed by its result.
-fn answer_to(alloc: Global, texts: &Texts) -> Result<String, NoMemory> {
+fn answer_to(alloc: Global, texts: &RunTextsOf) -> Result<String, NoMemory> {
     let mut writer = make_sink(alloc, 4096, None);
     let ended = run_script(alloc, texts.lend(), &mut writer);
     outcome_text(alloc, ended, writer)
@@ -209,9 +209,9 @@ pub(super) fn answer_of(
 }
 
 /// The output and result of the run of a case.
-struct Call;
+struct CallRun;
 
-impl Question for Call {
+impl Question for CallRun {
     fn answer(alloc: Global, asked: &str) -> Result<String, Fail> {
         let (plan, rest) = asked.split_once('¦').ok_or("no queues")?;
         let (queues, script) = rest.split_once('¦').ok_or("no script")?;
@@ -223,5 +223,5 @@ impl Question for Call {
 /// Calls with digits, queues and agents, from their starts to their ends.
 #[test]
 fn calls_run_from_start_to_end(rt: HostRuntime) -> Result<(), Fail> {
-    check_all::<Call>(rt.alloc(), TABLES)
+    check_all::<CallRun>(rt.alloc(), TABLES)
 }

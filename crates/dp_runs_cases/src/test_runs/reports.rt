@@ -5,7 +5,7 @@ use dp_commands::{LinePlaces, LinePosition, PbxFault, RunTexts, SourceLines};
 use dp_commands_fixture::{push_fault, read_texts};
 use dp_plan::Text;
 use dp_test_runs::{
-    CoveredPlan, Items, Point, Report, TestTexts, TestedFile, add_entered, coverage_text,
+    CoveredPlan, FailureReport, Point, RunItems, TestTexts, TestedFile, add_entered, coverage_text,
     has_failed, run_tests,
 };
 use dp_tests::{TestFaults, TestFile, read_tests};
@@ -70,7 +70,7 @@ exten => s,1,Hangup()\nexten => t,1,Answer()¦¦test one\ncall main s→one ok\n
 ";
 
 /// Adds the lines of a trace, with a `|` between two.
-fn push_trace(out: &mut String, report: &Report) -> Result<(), Fail> {
+fn push_trace(out: &mut String, report: &FailureReport) -> Result<(), Fail> {
     let mut part = " ";
     for text in report.trace.as_slice() {
         write!(out, "{part}{text}")?;
@@ -80,7 +80,7 @@ fn push_trace(out: &mut String, report: &Report) -> Result<(), Fail> {
 }
 
 /// Adds a report.
-fn push_report(out: &mut String, report: &Report) -> Result<(), Fail> {
+fn push_report(out: &mut String, report: &FailureReport) -> Result<(), Fail> {
     write!(
         out,
         "[{} '{}' got '{}'",
@@ -118,7 +118,7 @@ fn push_points(out: &mut String, points: &[Point]) -> Result<(), Fail> {
 }
 
 /// A way to tell what tests came to.
-trait Telling {
+trait TestTelling {
     /// Adds what the tests of a file on this dialplan came to.
     fn tell(
         alloc: Global,
@@ -129,7 +129,7 @@ trait Telling {
 }
 
 /// What the tests of a file with this text come to on the texts of a case, whose dialplan's lines come from these places.
-fn told_text<T: Telling>(
+fn told_text<T: TestTelling>(
     alloc: Global,
     texts: &RunTexts<'_>,
     text: &[u8],
@@ -172,7 +172,7 @@ fn file_text(alloc: Global, script: &[u8]) -> Result<Vec<u8>, Fail> {
 }
 
 /// What the tests of a case come to, given where the lines of its dialplan come from.
-fn answer_to<T: Telling>(
+fn answer_to<T: TestTelling>(
     alloc: Global,
     asked: &str,
     places: LinePlaces<'_>,
@@ -190,9 +190,9 @@ fn answer_to<T: Telling>(
 }
 
 /// What the tests of a case come to, with their reports.
-struct Reports;
+struct TestReports;
 
-impl Telling for Reports {
+impl TestTelling for TestReports {
     fn tell(
         _alloc: Global,
         out: &mut String,
@@ -203,23 +203,23 @@ impl Telling for Reports {
     }
 }
 
-impl Question for Reports {
+impl Question for TestReports {
     fn answer(alloc: Global, asked: &str) -> Result<String, Fail> {
-        answer_to::<Reports>(alloc, asked, LinePlaces::InFile("a"))
+        answer_to::<TestReports>(alloc, asked, LinePlaces::InFile("a"))
     }
 }
 
 /// The coverage of the dialplan of a case by its tests.
 struct Coverage;
 
-impl Telling for Coverage {
+impl TestTelling for Coverage {
     fn tell(
         alloc: Global,
         out: &mut String,
         plan: CoveredPlan<'_>,
         points: &[Point],
     ) -> Result<(), Fail> {
-        let mut entered = Items::none(alloc);
+        let mut entered = RunItems::none(alloc);
         add_entered(&mut entered, points)?;
         match coverage_text(alloc, plan, entered.as_slice()) {
             Ok(text) => write!(out, "{text}")?,
@@ -236,22 +236,22 @@ impl Question for Coverage {
 }
 
 /// What the tests of a case come to, and the coverage of its dialplan, whose lines come from several files.
-struct Sources;
+struct ReportSources;
 
-impl Telling for Sources {
+impl TestTelling for ReportSources {
     fn tell(
         alloc: Global,
         out: &mut String,
         plan: CoveredPlan<'_>,
         points: &[Point],
     ) -> Result<(), Fail> {
-        Reports::tell(alloc, out, plan, points)?;
+        TestReports::tell(alloc, out, plan, points)?;
         out.push_str("\n")?;
         Coverage::tell(alloc, out, plan, points)
     }
 }
 
-impl Question for Sources {
+impl Question for ReportSources {
     fn answer(alloc: Global, asked: &str) -> Result<String, Fail> {
         let x = Text::copy_of(alloc, b"x")?;
         let y = Text::copy_of(alloc, b"y")?;
@@ -262,7 +262,7 @@ impl Question for Sources {
             LinePosition { file: 0, line: 2 },
             LinePosition { file: 2, line: 9 },
         ];
-        answer_to::<Sources>(
+        answer_to::<ReportSources>(
             alloc,
             asked,
             LinePlaces::InFiles(SourceLines {
@@ -276,13 +276,13 @@ impl Question for Sources {
 /// Entries are told with the lines of the files that they come from.
 #[test]
 fn entries_are_told_with_their_sources(rt: HostRuntime) -> Result<(), Fail> {
-    check_all::<Sources>(rt.alloc(), &[SOURCES])
+    check_all::<ReportSources>(rt.alloc(), &[SOURCES])
 }
 
 /// A test that fails is reported with its line, what was expected, what came of it, and the last entries that ran.
 #[test]
 fn reports_say_what_was_expected_and_what_came(rt: HostRuntime) -> Result<(), Fail> {
-    check_all::<Reports>(rt.alloc(), &[REPORTS])
+    check_all::<TestReports>(rt.alloc(), &[REPORTS])
 }
 
 /// The coverage of a dialplan names exactly the entries that no test ran.

@@ -1,9 +1,9 @@
 -- Results as text, row by row.
 use Rattle.std.proofs.Common.{◌≡◌, [], ◌∷◌, ◌++◌, codes, refl}
 use Rattle.std.specs.List.{flat_map}
-use Rattle.dp_test_runs.specs.Tap.{block_text, line_of, name_byte, quoted}
+use Rattle.dp_test_runs.specs.Tap.{block_text, line_of, name_byte, quoted_text}
 
-quotes : quoted (codes "it's") ≡ codes "'it''s'"
+quotes : quoted_text (codes "it's") ≡ codes "'it''s'"
 quotes = refl
 
 marks : flat_map name_byte (codes "a #1 \\ b") ≡ codes "a \\#1 \\\\ b"

@@ -3,7 +3,7 @@ use Rattle.std.specs.Prelude.{ℕ, Bool, List, [], ◌∷◌, ◌++◌, Option, 
 use Rattle.std.specs.Option.{option_or, option_to_list}
 use Rattle.dp_tests.specs.Files.{acts_at, fault_at, fault_by, test_by}
 use Rattle.dp_tests.specs.Meanings.{is_fact}
-use Rattle.dp_tests.specs.declared.draft.Draft.{Draft}
+use Rattle.dp_tests.specs.declared.draft.TestDraft.{TestDraft}
 use Rattle.dp_tests.specs.declared.expectation.Expectation.{Expectation}
 use Rattle.dp_tests.specs.declared.fault.TestFault.{TestFault}
 use Rattle.dp_tests.specs.declared.fault.TestFaultKind.{TestFaultKind}
@@ -21,44 +21,44 @@ use Rattle.dp_tests.specs.declared.meaning.LineMeaning.TheVariants.{Nothing, Hea
 use Rattle.dp_tests.specs.declared.meaning.MeantLine.{MeantLine}
 
 -- before the first line
-abbrev pub undrafted : Draft
-undrafted = record { dialplan = None; queues = None; clock = None; assume = None; setup = []; tests = []; current = None }
+abbrev pub nothing_drafted : TestDraft
+nothing_drafted = record { dialplan = None; queues = None; clock = None; assume = None; setup = []; tests = []; current = None }
 
 -- with the open test at its end
-abbrev pub closed : Draft → Draft
-closed draft = record draft { tests = draft.tests ++ option_to_list draft.current; current = None }
+abbrev pub with_test_closed : TestDraft → TestDraft
+with_test_closed draft = record draft { tests = draft.tests ++ option_to_list draft.current; current = None }
 
 -- with a test that begins
-abbrev pub begun : Draft → ℕ → List ℕ → Draft
-begun draft line name = record draft { tests = draft.tests ++ option_to_list draft.current; current = Some (test_by name line []) }
+abbrev pub with_new_test : TestDraft → ℕ → List ℕ → TestDraft
+with_new_test draft line name = record draft { tests = draft.tests ++ option_to_list draft.current; current = Some (test_by name line []) }
 
 -- with one more line in this test, which is open
-abbrev pub in_test : Draft → Test → TestLine → Draft
+abbrev pub in_test : TestDraft → Test → TestLine → TestDraft
 in_test draft test line = record draft { current = Some (test_by test.name test.line (test.lines ++ line ∷ [])) }
 
 -- with one more line in the open test
-abbrev pub with_line : Draft → Option Test → TestLine → Draft
+abbrev pub with_line : TestDraft → Option Test → TestLine → TestDraft
 with_line draft None line = draft
 with_line draft (Some test) line = in_test draft test line
 
 -- with one more event line in the open test or else in the setup
-abbrev pub with_event : Draft → Option Test → TestLine → Draft
+abbrev pub with_event : TestDraft → Option Test → TestLine → TestDraft
 with_event draft None line = record draft { setup = draft.setup ++ line ∷ [] }
 with_event draft (Some test) line = in_test draft test line
 
 -- with one more line of the head, unless there is one with the word
-abbrev pub with_head : Draft → HeadWord → HeadLine → Draft
+abbrev pub with_head : TestDraft → HeadWord → HeadLine → TestDraft
 with_head draft Dialplan line = record draft { dialplan = option_or draft.dialplan (Some line) }
 with_head draft Queues line = record draft { queues = option_or draft.queues (Some line) }
 with_head draft Clock line = record draft { clock = option_or draft.clock (Some line) }
 with_head draft Assume line = record draft { assume = option_or draft.assume (Some line) }
 
 -- with a line of the head that is in a test
-abbrev pub with_fact : Draft → HeadWord → HeadLine → Draft
+abbrev pub with_fact : TestDraft → HeadWord → HeadLine → TestDraft
 with_fact draft word line = if is_fact word then with_line draft draft.current (acts_at line.line (acts.Turns line.turns)) else draft
 
 -- with a line of the head
-abbrev pub with_head_line : Draft → Option Test → HeadWord → HeadLine → Draft
+abbrev pub with_head_line : TestDraft → Option Test → HeadWord → HeadLine → TestDraft
 with_head_line draft None word line = with_head draft word line
 with_head_line draft (Some test) word line = with_fact draft word line
 
@@ -67,31 +67,31 @@ abbrev pub expects : Expectation → Act
 expects expectation = acts.Expect expectation
 
 -- after one more line
-abbrev pub drafted_by : Draft → ℕ → LineMeaning → Draft
+abbrev pub drafted_by : TestDraft → ℕ → LineMeaning → TestDraft
 drafted_by draft line Nothing = draft
 drafted_by draft line (Head word text turns) =
     with_head_line draft draft.current word (record { line = line; text = text; turns = turns })
-drafted_by draft line (Begin name) = begun draft line name
+drafted_by draft line (Begin name) = with_new_test draft line name
 drafted_by draft line (Event act) = with_event draft draft.current (acts_at line act)
 drafted_by draft line (Expect expectation) = with_line draft draft.current (acts_at line (expects expectation))
 drafted_by draft line (Faulty kind) = draft
 
-abbrev pub drafted_after : Draft → MeantLine → Draft
+abbrev pub drafted_after : TestDraft → MeantLine → TestDraft
 drafted_after draft line = drafted_by draft line.line line.meaning
 
 -- whether the head has a line with a word
-abbrev pub has_head : Draft → HeadWord → Bool
+abbrev pub has_head : TestDraft → HeadWord → Bool
 has_head draft Dialplan = is_some draft.dialplan
 has_head draft Queues = is_some draft.queues
 has_head draft Clock = is_some draft.clock
 has_head draft Assume = is_some draft.assume
 
 -- what is wrong with the next line
-abbrev pub fault_with : Draft → LineMeaning → Option TestFaultKind
+abbrev pub fault_with : TestDraft → LineMeaning → Option TestFaultKind
 fault_with draft meaning = fault_by (is_some draft.current) (has_head draft) meaning
 
 -- the faults of the next lines
-abbrev pub faults_from : Draft → List MeantLine → List TestFault
+abbrev pub faults_from : TestDraft → List MeantLine → List TestFault
 faults_from draft [] = []
 faults_from draft (line ∷ lines) = fault_at line.line (fault_with draft line.meaning) ++ faults_from (drafted_after draft line) lines
 
@@ -101,7 +101,7 @@ with_dialplan_fault has_dialplan faults =
     if has_dialplan then faults else (record { line = 1; kind = NoDialplan }) ∷ faults
 
 -- the file of the lines without the open test, given its dialplan
-abbrev pub closed_file : Draft → Option HeadLine → Option TestFile
+abbrev pub closed_file : TestDraft → Option HeadLine → Option TestFile
 closed_file draft None = None
 closed_file draft (Some dialplan) =
     Some (record {
@@ -114,8 +114,8 @@ closed_file draft (Some dialplan) =
     })
 
 -- the file of the lines
-abbrev pub drafted_file : Draft → Option TestFile
-drafted_file draft = closed_file (closed draft) draft.dialplan
+abbrev pub drafted_file : TestDraft → Option TestFile
+drafted_file draft = closed_file (with_test_closed draft) draft.dialplan
 
 -- the file, if it has no faults
 abbrev pub file_or_faults : Option TestFile → List TestFault → Result TestFile (List TestFault)
@@ -124,5 +124,5 @@ file_or_faults (Some file) [] = Ok file
 file_or_faults (Some file) (fault ∷ faults) = Err (fault ∷ faults)
 
 -- the file of all lines, or all their faults, given those that each line has
-abbrev pub finished : Draft → List TestFault → Result TestFile (List TestFault)
-finished draft faults = file_or_faults (drafted_file draft) (with_dialplan_fault (has_head draft Dialplan) faults)
+abbrev pub draft_result : TestDraft → List TestFault → Result TestFile (List TestFault)
+draft_result draft faults = file_or_faults (drafted_file draft) (with_dialplan_fault (has_head draft Dialplan) faults)

@@ -44,9 +44,9 @@ fn push_arguments(out: &mut String, arguments: &[&[u8]]) -> Result<(), NoMemory>
 }
 
 /// The arguments of a text.
-pub(super) struct Arguments;
+pub(super) struct SplitArguments;
 
-impl Question for Arguments {
+impl Question for SplitArguments {
     fn answer(alloc: Global, asked: &str) -> Result<String, Fail> {
         let text = bytes_of(alloc, asked)?;
         let arguments = split_args(alloc, &text)?;

@@ -9,7 +9,7 @@ use std::test::Fail;
 
 /// A reader of this number of bytes `x`, at most `step` at once, whose read with the number `fails_at`, counted from 0, returns an error.
 #[derive(Drop)]
-struct Source {
+struct ShortSource {
     left: usize,
     step: usize,
     reads: usize,
@@ -17,7 +17,7 @@ struct Source {
     kind: ErrorKind,
 }
 
-impl Read for Source {
+impl Read for ShortSource {
     fn read(&mut self, buffer: &mut [u8]) -> io::Result<usize> {
         let turn = self.reads;
         self.reads = turn.saturating_add(1);
@@ -33,8 +33,8 @@ impl Read for Source {
     }
 }
 
-fn in_steps(left: usize, step: usize) -> Source {
-    Source {
+fn in_steps(left: usize, step: usize) -> ShortSource {
+    ShortSource {
         left,
         step,
         reads: 0,
@@ -58,7 +58,7 @@ fn kind_of(word: &str) -> Result<ErrorKind, Fail> {
 }
 
 /// The reader that fails at a read with an error of a kind, given `READ KIND`.
-fn failing(left: usize, step: usize, words: &str) -> Result<Source, Fail> {
+fn failing(left: usize, step: usize, words: &str) -> Result<ShortSource, Fail> {
     let (turn, kind) = words.split_once(' ').ok_or("no kind")?;
     let mut source = in_steps(left, step);
     source.fails_at = Some(number_of(turn)?);
@@ -67,7 +67,7 @@ fn failing(left: usize, step: usize, words: &str) -> Result<Source, Fail> {
 }
 
 /// The reader for `BYTES STEP` or for `BYTES STEP READ KIND`.
-fn source_of(words: &str) -> Result<Source, Fail> {
+fn source_of(words: &str) -> Result<ShortSource, Fail> {
     let (left, words) = words.split_once(' ').ok_or("no step")?;
     let left = number_of(left)?;
     match words.split_once(' ') {
@@ -85,9 +85,9 @@ fn push_read(out: &mut String, read: &Result<Vec<u8>, ReadFault>) -> Result<(), 
 }
 
 /// The number of bytes that are read from the reader, or the fault, and whether the reader failed.
-struct Bytes;
+struct BytesRead;
 
-impl Question for Bytes {
+impl Question for BytesRead {
     fn answer(alloc: Global, asked: &str) -> Result<String, Fail> {
         let mut reader = Told::new(source_of(asked)?);
         let read = read_whole(alloc, &mut reader);
@@ -128,9 +128,9 @@ const BYTES: &str = r"
 ";
 
 /// The number of reads that it takes to read the reader whole.
-struct Reads;
+struct ReadCount;
 
-impl Question for Reads {
+impl Question for ReadCount {
     fn answer(alloc: Global, asked: &str) -> Result<String, Fail> {
         let mut reader = Told::new(source_of(asked)?);
         let _bytes = read_whole(alloc, &mut reader)?;
@@ -161,8 +161,8 @@ fn check_buffer(rt: &impl Abort) {
 
 fn check_readers(rt: &impl Abort, alloc: Global) -> Result<(), Fail> {
     assert_eq!(rt; MOST_BYTES, 16_777_216);
-    check::<Bytes>(alloc, BYTES)?;
-    check::<Reads>(alloc, READS)?;
+    check::<BytesRead>(alloc, BYTES)?;
+    check::<ReadCount>(alloc, READS)?;
     check_buffer(rt);
     check_text(rt, alloc)
 }
@@ -175,14 +175,14 @@ fn readers_are_read_whole(rt: HostRuntime) -> Result<(), Fail> {
 
 /// A writer that takes at most `step` bytes at once, and whose write with the number `fails_at`, counted from 0, returns an error.
 #[derive(Drop)]
-struct Sink {
+struct ShortSink {
     held: Vec<u8>,
     step: usize,
     writes: usize,
     fails_at: Option<usize>,
 }
 
-impl Write for Sink {
+impl Write for ShortSink {
     fn write(&mut self, bytes: &[u8]) -> io::Result<usize> {
         let turn = self.writes;
         self.writes = turn.saturating_add(1);
@@ -200,9 +200,9 @@ impl Write for Sink {
 }
 
 /// The writer for `STEP WRITE`, where `-` means no write.
-fn sink_of(alloc: Global, words: &str) -> Result<Sink, Fail> {
+fn sink_of(alloc: Global, words: &str) -> Result<ShortSink, Fail> {
     let (step, turn) = words.split_once(' ').ok_or("no write")?;
-    Ok(Sink {
+    Ok(ShortSink {
         held: Vec::new(alloc),
         step: number_of(step)?,
         writes: 0,
@@ -211,7 +211,7 @@ fn sink_of(alloc: Global, words: &str) -> Result<Sink, Fail> {
 }
 
 /// Whether everything between the bars is taken.
-fn takes_all(writer: &mut Told<Sink>, pieces: &str) -> bool {
+fn takes_all(writer: &mut Told<ShortSink>, pieces: &str) -> bool {
     let mut is_taken = true;
     for piece in pieces.split('|') {
         if writer.write_told(piece.as_bytes()).is_err() {
@@ -221,7 +221,11 @@ fn takes_all(writer: &mut Told<Sink>, pieces: &str) -> bool {
     is_taken
 }
 
-fn push_written(out: &mut String, mut writer: Told<Sink>, pieces: &str) -> Result<(), NoMemory> {
+fn push_written(
+    out: &mut String,
+    mut writer: Told<ShortSink>,
+    pieces: &str,
+) -> Result<(), NoMemory> {
     let is_taken = takes_all(&mut writer, pieces);
     let has_failed = writer.has_failed();
     push_bytes(out, &writer.into_inner().held)?;
@@ -235,9 +239,9 @@ fn push_written(out: &mut String, mut writer: Told<Sink>, pieces: &str) -> Resul
 }
 
 /// The contents of a writer, whether it refused a text, and whether it failed.
-struct Written;
+struct WrittenTexts;
 
-impl Question for Written {
+impl Question for WrittenTexts {
     fn answer(alloc: Global, asked: &str) -> Result<String, Fail> {
         let (words, pieces) = asked.split_once(':').ok_or("no text")?;
         let writer = Told::new(sink_of(alloc, words)?);
@@ -269,5 +273,5 @@ const WRITTEN: &str = r"
 
 #[test]
 fn writers_take_all_or_fail(rt: HostRuntime) -> Result<(), Fail> {
-    check::<Written>(rt.alloc(), WRITTEN)
+    check::<WrittenTexts>(rt.alloc(), WRITTEN)
 }

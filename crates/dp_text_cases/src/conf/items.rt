@@ -79,11 +79,11 @@ abc→fault 2 line 1
 
 /// The items of a text as the rows show them, one after another. Contracts see nothing of them: the rows show everything.
 #[derive(Drop)]
-struct Shown {
+struct ShownItems {
     out: String,
 }
 
-impl Model for Shown {
+impl Model for ShownItems {
     ghost Value = { Unit {0} };
 
     ghost view = { λ _. tt };
@@ -97,7 +97,7 @@ fn push_pair(out: &mut String, line: usize, key: &Text, value: &Text) -> Result<
     write!(out, "{line}{{{key}}}{{{value}}}")
 }
 
-impl TakeLine for Shown {
+impl TakeLine for ShownItems {
     ghost after_line = { λ shown _. shown };
 
     fn take(&mut self, alloc: Global, line: Line<'_>) -> Result<(), NoMemory> {
@@ -117,9 +117,9 @@ impl TakeLine for Shown {
 
 fn items_of(alloc: Global, text: &[u8]) -> Result<String, ConfFault> {
     let out = String::new(alloc);
-    let mut shown = Shown { out };
+    let mut shown = ShownItems { out };
     take_lines(alloc, text, &mut shown)?;
-    let Shown { out } = shown;
+    let ShownItems { out } = shown;
     Ok(out)
 }
 
@@ -158,9 +158,9 @@ fn items_or_fault(alloc: Global, items: Result<String, ConfFault>) -> Result<Str
 }
 
 /// The items of a text, or its fault.
-struct Items;
+struct ItemsOfText;
 
-impl Question for Items {
+impl Question for ItemsOfText {
     fn answer(alloc: Global, asked: &str) -> Result<String, Fail> {
         let text = bytes_of(alloc, asked)?;
         items_or_fault(alloc, items_of(alloc, &text))
@@ -168,9 +168,9 @@ impl Question for Items {
 }
 
 /// The same for a text that is read at once.
-struct ItemsRead;
+struct ItemsReadAtOnce;
 
-impl Question for ItemsRead {
+impl Question for ItemsReadAtOnce {
     fn answer(alloc: Global, asked: &str) -> Result<String, Fail> {
         let text = bytes_of(alloc, asked)?;
         items_or_fault(alloc, items_read(alloc, &text))
@@ -178,15 +178,15 @@ impl Question for ItemsRead {
 }
 
 /// The items that were taken, up to the fault if there is one.
-struct Taken;
+struct TakenItems;
 
-impl Question for Taken {
+impl Question for TakenItems {
     fn answer(alloc: Global, asked: &str) -> Result<String, Fail> {
         let text = bytes_of(alloc, asked)?;
         let out = String::new(alloc);
-        let mut shown = Shown { out };
+        let mut shown = ShownItems { out };
         let _fault = take_lines(alloc, &text, &mut shown);
-        let Shown { out } = shown;
+        let ShownItems { out } = shown;
         Ok(out)
     }
 }
@@ -245,9 +245,9 @@ const COMPARED: &str = r"
 ";
 
 fn check_items(alloc: Global) -> Result<(), Fail> {
-    check_all::<Items>(alloc, &[TEXTS, FAULT_LINES, ESCAPED_SEMICOLONS])?;
-    check_all::<ItemsRead>(alloc, &[TEXTS, FAULT_LINES, ESCAPED_SEMICOLONS])?;
-    check::<Taken>(alloc, TAKEN)?;
+    check_all::<ItemsOfText>(alloc, &[TEXTS, FAULT_LINES, ESCAPED_SEMICOLONS])?;
+    check_all::<ItemsReadAtOnce>(alloc, &[TEXTS, FAULT_LINES, ESCAPED_SEMICOLONS])?;
+    check::<TakenItems>(alloc, TAKEN)?;
     check::<Compared>(alloc, COMPARED)
 }
 

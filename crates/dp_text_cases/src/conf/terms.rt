@@ -14,9 +14,9 @@ fn sameness(left: &[u8], right: &[u8]) -> &'static str {
 }
 
 /// Whether the words on both sides of a bar are the same.
-pub(super) struct Words;
+pub(super) struct SameWords;
 
-impl Question for Words {
+impl Question for SameWords {
     fn answer(alloc: Global, asked: &str) -> Result<String, Fail> {
         let (left, right) = asked.split_once('|').ok_or("no two words")?;
         let left = bytes_of(alloc, left)?;
@@ -80,9 +80,9 @@ fn push_cut(out: &mut String, cut: Option<(&[u8], &[u8])>) -> Result<(), NoMemor
 }
 
 /// The text before and after the first comma.
-pub(super) struct Cut;
+pub(super) struct FirstComma;
 
-impl Question for Cut {
+impl Question for FirstComma {
     fn answer(alloc: Global, asked: &str) -> Result<String, Fail> {
         let mut out = String::new(alloc);
         push_cut(&mut out, cut_once(asked.as_bytes(), b','))?;

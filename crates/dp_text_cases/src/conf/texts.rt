@@ -25,9 +25,9 @@ fn push_text(out: &mut String, alloc: Global, text: &Text, other: &[u8]) -> Resu
 }
 
 /// The text before the bar, whether its clone is the same, and whether a copy of the text after the bar is.
-pub(super) struct Same;
+pub(super) struct SameClone;
 
-impl Question for Same {
+impl Question for SameClone {
     fn answer(alloc: Global, asked: &str) -> Result<String, Fail> {
         let (left, right) = asked.split_once('|').ok_or("no two texts")?;
         let text = Text::new(bytes_of(alloc, left)?);
@@ -53,9 +53,9 @@ fn map_of_two(alloc: Global) -> Result<HashMap<Text, u32>, NoMemory> {
 }
 
 /// The value of the text in a map, where `main` has 1 and `out` has 2.
-pub(super) struct Places;
+pub(super) struct MapPlaces;
 
-impl Question for Places {
+impl Question for MapPlaces {
     fn answer(alloc: Global, asked: &str) -> Result<String, Fail> {
         let map = map_of_two(alloc)?;
         let text = Text::new(bytes_of(alloc, asked)?);

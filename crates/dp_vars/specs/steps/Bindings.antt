@@ -27,22 +27,22 @@ is_at depth [] = false
 is_at depth (b ∷ bs) = eqb b.depth depth
 
 -- the bindings without the innermost one, if that is at that depth
-abbrev pub unbound : ℕ → List Binding → List Binding
-unbound depth [] = []
-unbound depth (b ∷ bs) = if eqb b.depth depth then bs else b ∷ bs
+abbrev pub without_binding_at : ℕ → List Binding → List Binding
+without_binding_at depth [] = []
+without_binding_at depth (b ∷ bs) = if eqb b.depth depth then bs else b ∷ bs
 
 -- the bindings with this one as the innermost, which replaces one at that depth
 abbrev pub with_binding : ℕ → List ℕ → List Binding → List Binding
-with_binding depth value bs = binding depth value ∷ unbound depth bs
+with_binding depth value bs = binding depth value ∷ without_binding_at depth bs
 
 -- the bindings with the value of the innermost one changed, or that of the channel if there is none
-abbrev pub rebound : List ℕ → List Binding → List Binding
-rebound value bs = with_binding (depth_of bs) value bs
+abbrev pub with_innermost_value : List ℕ → List Binding → List Binding
+with_innermost_value value bs = with_binding (depth_of bs) value bs
 
 -- the same below the innermost one, if that is at this depth
 abbrev pub bound_below : ℕ → List ℕ → List Binding → List Binding
-bound_below depth value [] = rebound value []
-bound_below depth value (b ∷ bs) = if eqb b.depth depth then b ∷ rebound value bs else rebound value (b ∷ bs)
+bound_below depth value [] = with_innermost_value value []
+bound_below depth value (b ∷ bs) = if eqb b.depth depth then b ∷ with_innermost_value value bs else with_innermost_value value (b ∷ bs)
 
 -- each binding is further out than the one before it, and the innermost is below this depth
 abbrev pub Falls : ℕ → List Binding → Type 0

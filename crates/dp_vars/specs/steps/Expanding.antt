@@ -1,7 +1,7 @@
 -- Openings that wait for their ends, and their places in what is written.
 use Rattle.std.specs.Prelude.{ℕ, ◌+◌, ◌≤◌, List, [], ◌∷◌, length, map}
 use Rattle.dp_conf.specs.declared.groups.GroupKind.{GroupKind}
-use Rattle.dp_vars.specs.Expanding.{Written}
+use Rattle.dp_vars.specs.Expanding.{WrittenSoFar}
 use Rattle.dp_vars.specs.declared.expanding.WaitingOpening.{WaitingOpening}
 
 -- the kinds of the waiting openings
@@ -14,5 +14,5 @@ StandIn [] size = Unit {0}
 StandIn (w ∷ waiting) size = (w.start + 2 ≤ size) × StandIn waiting w.start
 
 -- the openings are within what is written
-abbrev pub AreWritten : Written → Type 0
+abbrev pub AreWritten : WrittenSoFar → Type 0
 AreWritten written = StandIn written.waiting (length written.bytes)

@@ -4,7 +4,7 @@ use Rattle.dp_conf.specs.GroupsRead.{outer_of}
 use Rattle.dp_conf.specs.declared.groups.GroupKind.{GroupKind}
 use Rattle.dp_conf.specs.declared.groups.Mark.{Mark}
 use Rattle.dp_conf.specs.declared.groups.Mark.TheVariants.{End, Opening, Byte}
-use Rattle.dp_vars.specs.Expanding.{Written, after}
+use Rattle.dp_vars.specs.Expanding.{WrittenSoFar, after}
 use Rattle.dp_vars.specs.Functions.{FunctionTable}
 use Rattle.dp_vars.specs.Sights.{Sight}
 use Rattle.dp_vars.specs.Spans.{text_at}
@@ -16,14 +16,14 @@ use Rattle.dp_vars.specs.declared.text_piece.TextPiece.TheVariants.{Run, Name, C
 use Rattle.dp_vars.specs.declared.span.Span.{Span}
 
 -- the written text with a group of this kind and this body
-abbrev pub with_group : FunctionTable → Sight → GroupKind → Written → List ℕ → Written
+abbrev pub with_group : FunctionTable → Sight → GroupKind → WrittenSoFar → List ℕ → WrittenSoFar
 with_group functions sight kind written body =
     with_found written (group_value_with functions sight kind body) (unknown_group functions sight kind body)
 
 -- the piece is the group of this kind whose body is at this place, whatever is seen
 abbrev pub IsGroup : List ℕ → GroupKind → Span → TextPiece → Type 0
 IsGroup text kind body piece =
-    (functions : FunctionTable) (sight : Sight) (written : Written)
+    (functions : FunctionTable) (sight : Sight) (written : WrittenSoFar)
     → past functions sight text written piece ≡ with_group functions sight kind written (text_at text body)
 
 -- a text that is being read into pieces: those so far, the last one first, the kinds of the waiting openings, the
@@ -34,12 +34,12 @@ pub record ReadSoFar : Type 0 where
   pub run : Span
 
 -- after pieces, of which the last comes first
-abbrev pub past_last : FunctionTable → Sight → List ℕ → List TextPiece → Written
+abbrev pub past_last : FunctionTable → Sight → List ℕ → List TextPiece → WrittenSoFar
 past_last functions sight text [] = blank
 past_last functions sight text (piece ∷ pieces) = past functions sight text (past_last functions sight text pieces) piece
 
 -- after all that is read so far
-abbrev pub written_in : FunctionTable → Sight → List ℕ → ReadSoFar → Written
+abbrev pub written_in : FunctionTable → Sight → List ℕ → ReadSoFar → WrittenSoFar
 written_in functions sight text so_far = with_bytes (past_last functions sight text so_far.pieces) (text_at text so_far.run)
 
 -- the waiting openings after a mark

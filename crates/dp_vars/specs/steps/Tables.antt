@@ -5,8 +5,8 @@ use Rattle.std.specs.List.{IsDistinct}
 use Rattle.std.specs.Map.{lookup}
 use Rattle.std.specs.Option.{option_and_then}
 use Rattle.std.specs.FinMap.{empty, get, insert, remove}
-use Rattle.dp_vars.specs.steps.Bindings.{Falls, find, unbound}
-use Rattle.dp_vars.specs.Stores.{Frame, StoreOf, slot}
+use Rattle.dp_vars.specs.steps.Bindings.{Falls, find, without_binding_at}
+use Rattle.dp_vars.specs.Stores.{StoreFrame, StoreOf, slot}
 use Rattle.dp_vars.specs.Variables.{Named}
 use Rattle.dp_vars.specs.declared.frame.HeldFrame.{HeldFrame}
 use Rattle.dp_vars.specs.declared.binding_stack.Binding.{Binding}
@@ -35,9 +35,9 @@ with_stack [] name bs = (name, bs) ∷ []
 with_stack (e ∷ es) name bs = if pointwise nat_eq name e.0 then (e.0, bs) ∷ es else e ∷ with_stack es name bs
 
 -- the entries without bindings for a name; a name that is not in them is not added
-abbrev pub cleared : Entries → List ℕ → Entries
-cleared [] name = []
-cleared (e ∷ es) name = if pointwise nat_eq name e.0 then (e.0, []) ∷ es else e ∷ cleared es name
+abbrev pub without_bindings : Entries → List ℕ → Entries
+without_bindings [] name = []
+without_bindings (e ∷ es) name = if pointwise nat_eq name e.0 then (e.0, []) ∷ es else e ∷ without_bindings es name
 
 -- the bindings of the name with a number
 abbrev pub stack_at : Entries → ℕ → List Binding
@@ -48,7 +48,7 @@ stack_at (e ∷ es) (suc number) = stack_at es number
 -- the entries without the binding at a depth, if it is the innermost one of the name with a number
 abbrev pub unbound_at : ℕ → Entries → ℕ → Entries
 unbound_at depth [] number = []
-unbound_at depth (e ∷ es) zero = (e.0, unbound depth e.1) ∷ es
+unbound_at depth (e ∷ es) zero = (e.0, without_binding_at depth e.1) ∷ es
 unbound_at depth (e ∷ es) (suc number) = e ∷ unbound_at depth es number
 
 -- the map with a value for the name, or with none
@@ -68,7 +68,7 @@ IsAmong number (n ∷ ns) = (n ≡ number) ⊎ IsAmong number ns
 
 module _ {B : Type 0} where
   -- the frames, of which the first has its locals at this depth
-  abbrev pub frames_from : ℕ → Entries → List (HeldFrame B) → List (Frame B)
+  abbrev pub frames_from : ℕ → Entries → List (HeldFrame B) → List (StoreFrame B)
   frames_from depth entries [] = []
   frames_from depth entries (h ∷ hs) = record { back = h.back; locals = map_at depth entries } ∷ frames_from (suc depth) entries hs
 
@@ -87,7 +87,7 @@ module _ {B : Type 0} where
   with_number number (h ∷ g ∷ hs) = h ∷ with_number number (g ∷ hs)
 
   -- the value of a name among the locals of the frame at a place
-  abbrev pub local_at : List (Frame B) → ℕ → List ℕ → Option (List ℕ)
+  abbrev pub local_at : List (StoreFrame B) → ℕ → List ℕ → Option (List ℕ)
   local_at frames place name = option_and_then (λ frame. get frame.locals name) (slice_get frames place)
 
   -- each name that has a value in the store is one of its names

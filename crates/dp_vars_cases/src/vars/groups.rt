@@ -1,5 +1,5 @@
 //! Groups, and openings without ends.
-use crate::vars::{World, expansion};
+use crate::vars::{ViewedWorld, expansion};
 use dp_case_tables::{Question, bytes_of, check};
 use dp_conf::{NoMemory, nesting};
 use std::alloc::Global;
@@ -113,7 +113,7 @@ impl Question for Deep {
 
 /// The expansion of a text in an empty world.
 fn expand_alone(alloc: Global, text: &[u8]) -> Result<String, Fail> {
-    let world = World::new(alloc);
+    let world = ViewedWorld::new(alloc);
     Ok(expansion(alloc, &world, text)?)
 }
 

@@ -1,5 +1,5 @@
 //! Names of a store by their numbers.
-use crate::vars::{World, take_all};
+use crate::vars::{ViewedWorld, take_all};
 use dp_case_tables::{Question, check_all};
 use dp_conf::NoMemory;
 use std::alloc::Global;
@@ -47,7 +47,7 @@ fn push_number(out: &mut String, number: Option<usize>) -> Result<(), NoMemory> 
     }
 }
 
-fn push_numbers(out: &mut String, world: &World, names: &str) -> Result<(), NoMemory> {
+fn push_numbers(out: &mut String, world: &ViewedWorld, names: &str) -> Result<(), NoMemory> {
     for name in names.split(' ') {
         push_number(out, world.store.slot(name.as_bytes()))?;
     }
@@ -55,14 +55,14 @@ fn push_numbers(out: &mut String, world: &World, names: &str) -> Result<(), NoMe
 }
 
 /// The numbers of names separated by blanks, with a dash for none.
-fn numbers_of(alloc: Global, world: &World, names: &str) -> Result<String, NoMemory> {
+fn numbers_of(alloc: Global, world: &ViewedWorld, names: &str) -> Result<String, NoMemory> {
     let mut out = String::new(alloc);
     push_numbers(&mut out, world, names)?;
     Ok(out)
 }
 
 /// The numbers in a world of the names after the last ` ; `, after the steps before it.
-fn numbers_in(alloc: Global, world: &mut World, asked: &str) -> Result<String, Fail> {
+fn numbers_in(alloc: Global, world: &mut ViewedWorld, asked: &str) -> Result<String, Fail> {
     let (steps, names) = asked.rsplit_once(" ; ").unwrap_or(("", asked));
     take_all(alloc, world, steps)?;
     let out = numbers_of(alloc, world, names)?;
@@ -74,7 +74,7 @@ struct Numbered;
 
 impl Question for Numbered {
     fn answer(alloc: Global, asked: &str) -> Result<String, Fail> {
-        let mut world = World::new(alloc);
+        let mut world = ViewedWorld::new(alloc);
         numbers_in(alloc, &mut world, asked)
     }
 }

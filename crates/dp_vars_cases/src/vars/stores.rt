@@ -1,5 +1,5 @@
 //! Variables of a channel, frames and locals.
-use crate::vars::{PutsTold, World, local_of, push_frame};
+use crate::vars::{PutsTold, ViewedWorld, local_of, push_frame};
 use dp_conf::NoMemory;
 use dp_vars::{Globals, Store};
 use std::alloc::Global;
@@ -88,7 +88,7 @@ fn check_doubled_local(rt: &impl Abort, alloc: Global) -> Result<(), Fail> {
     Ok(())
 }
 
-fn check_local(rt: &impl Abort, alloc: Global, world: &mut World) -> Result<(), Fail> {
+fn check_local(rt: &impl Abort, alloc: Global, world: &mut ViewedWorld) -> Result<(), Fail> {
     assert!(rt; !world.store.set_local(alloc, b"A", b"1")?, "no frame");
     push_frame(alloc, world, b"B", b"2")?;
     assert!(rt; world.store.set_local(alloc, b"A", b"1")?, "a frame");
@@ -98,11 +98,11 @@ fn check_local(rt: &impl Abort, alloc: Global, world: &mut World) -> Result<(), 
 
 /// A local needs a frame.
 fn local(rt: &impl Abort, alloc: Global) -> Result<(), Fail> {
-    let mut world = World::new(alloc);
+    let mut world = ViewedWorld::new(alloc);
     check_local(rt, alloc, &mut world)
 }
 
-fn check_refused(rt: &impl Abort, alloc: Global, world: &mut World) {
+fn check_refused(rt: &impl Abort, alloc: Global, world: &mut ViewedWorld) {
     let change = PutsTold { is_refused: true };
     let set = world
         .store
@@ -113,7 +113,7 @@ fn check_refused(rt: &impl Abort, alloc: Global, world: &mut World) {
 
 /// A name whose change fails gets no number.
 fn check_refused_change(rt: &impl Abort, alloc: Global) {
-    let mut world = World::new(alloc);
+    let mut world = ViewedWorld::new(alloc);
     check_refused(rt, alloc, &mut world);
 }
 

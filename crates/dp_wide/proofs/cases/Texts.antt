@@ -1,6 +1,6 @@
 -- Texts that are cut, counted and filtered, computed from the definitions themselves.
 use Rattle.std.proofs.Common.{◌≡◌, [], ◌∷◌, refl, codes}
-use Rattle.dp_wide.specs.Texts.{delimiter_of, field_count, cut, kept_of}
+use Rattle.dp_wide.specs.Texts.{delimiter_of, field_count, cut_fields, kept_of}
 
 delimiter-first : delimiter_of (codes " x") ≡ 32
 delimiter-first = refl
@@ -21,40 +21,40 @@ count-empty = refl
 count-ends : field_count 44 (codes ",a,") ≡ 3
 count-ends = refl
 
-cut-one : cut (codes "a-b-c-d") 45 (codes "2") ≡ codes "b"
-unfolding cut
+cut-one : cut_fields (codes "a-b-c-d") 45 (codes "2") ≡ codes "b"
+unfolding cut_fields
 cut-one = refl
 
 -- in their own order, and each once
-cut-order : cut (codes "a-b-c-d") 45 (codes "3-&1&3-4") ≡ codes "a-c-d"
-unfolding cut
+cut-order : cut_fields (codes "a-b-c-d") 45 (codes "3-&1&3-4") ≡ codes "a-c-d"
+unfolding cut_fields
 cut-order = refl
 
-cut-front : cut (codes "a-b-c-d") 45 (codes "-2") ≡ codes "a-b"
-unfolding cut
+cut-front : cut_fields (codes "a-b-c-d") 45 (codes "-2") ≡ codes "a-b"
+unfolding cut_fields
 cut-front = refl
 
 -- no field has the number 0, or a number past the last
-cut-outside : cut (codes "a-b") 45 (codes "0&9") ≡ []
-unfolding cut
+cut-outside : cut_fields (codes "a-b") 45 (codes "0&9") ≡ []
+unfolding cut_fields
 cut-outside = refl
 
-cut-backwards : cut (codes "a-b-c") 45 (codes "3-2") ≡ []
-unfolding cut
+cut-backwards : cut_fields (codes "a-b-c") 45 (codes "3-2") ≡ []
+unfolding cut_fields
 cut-backwards = refl
 
 -- one part that is not a range leaves nothing
-cut-faulty : cut (codes "a-b") 45 (codes "1&x") ≡ []
-unfolding cut
+cut-faulty : cut_fields (codes "a-b") 45 (codes "1&x") ≡ []
+unfolding cut_fields
 cut-faulty = refl
 
-cut-dash : cut (codes "a-b") 45 (codes "-") ≡ []
-unfolding cut
+cut-dash : cut_fields (codes "a-b") 45 (codes "-") ≡ []
+unfolding cut_fields
 cut-dash = refl
 
 -- a number of any length is read exactly
-cut-far : cut (codes "a-b") 45 (codes "2-99999999999999999999999") ≡ codes "b"
-unfolding cut
+cut-far : cut_fields (codes "a-b") 45 (codes "2-99999999999999999999999") ≡ codes "b"
+unfolding cut_fields
 cut-far = refl
 
 kept-range : kept_of (codes "0-9x") (codes "a1-x9") ≡ codes "1x9"

@@ -18,8 +18,8 @@ use Rattle.dp_wide.specs.TimeChoice.{clock_in, goto_if_time_row, timed_side}
 true_is_false : true ≡ false → ⊥
 true_is_false e = cc
 
-untouched : {X : Type 0} → true ≡ false → X
-untouched e = absurd (true_is_false e)
+touches_nothing : {X : Type 0} → true ≡ false → X
+touches_nothing e = absurd (true_is_false e)
 
 -- what keeps to some touch keeps to the touch of everything
 all_kept : (touch : Touch) (before after : CellOf) → KeepsUntouched touch before after → KeepsUntouched everything before after
@@ -27,19 +27,19 @@ all_kept touch before after kept = record {
   number = kept.number;
   place = kept.place;
   closing = kept.closing;
-  caller = untouched;
-  globals = untouched;
-  store = record { places = untouched; variables = untouched; locals = untouched; names = untouched };
+  caller = touches_nothing;
+  globals = touches_nothing;
+  store = record { places = touches_nothing; variables = touches_nothing; locals = touches_nothing; names = touches_nothing };
   queues = record {
     names = kept.queues.names;
     settings = kept.queues.settings;
     finished = kept.queues.finished;
     known = kept.queues.known;
     states = kept.queues.states;
-    members = untouched;
-    lasts = untouched;
-    agents = untouched;
-    waiting = untouched;
+    members = touches_nothing;
+    lasts = touches_nothing;
+    agents = touches_nothing;
+    waiting = touches_nothing;
   };
 }
 

@@ -2,7 +2,7 @@
 use Rattle.std.specs.Prelude.{◌≡◌, ℕ, List, [], Option, Some, None, refl}
 use Rattle.dp_conf.specs.Blanks.{trim}
 use Rattle.dp_conf.specs.Levels.{cut_outside}
-use Rattle.dp_vars.specs.Stores.{Frame, innermost, without_frame}
+use Rattle.dp_vars.specs.Stores.{StoreFrame, innermost, without_frame}
 use Rattle.dp_app.specs.Cells.{CellOf}
 use Rattle.dp_app.specs.Lawful.{IsLawfulRow, KeepsUntouched, ParksNowhere}
 use Rattle.dp_app.specs.declared.place.Place.{Place}
@@ -33,15 +33,15 @@ macro_lawful = going_lawful the_frames spec.macro_row
     (λ arguments cell. macro_same cell arguments (cut_outside 44 arguments))
     (λ arguments cell. macro_going cell arguments (cut_outside 44 arguments))
 
-exit_kept : (cell : CellOf) (o : Option (Frame Place)) → KeepsUntouched the_frames cell (spec.exit_by cell o).cell
+exit_kept : (cell : CellOf) (o : Option (StoreFrame Place)) → KeepsUntouched the_frames cell (spec.exit_by cell o).cell
 exit_kept cell None = cell_kept the_frames cell
 exit_kept cell (Some frame) = with_store_kept the_frames cell (without_frame cell.store) (dropped_kept the_frames cell.store refl)
 
-exit_same : (cell : CellOf) (o : Option (Frame Place)) → (spec.exit_by cell o).cell.queues ≡ cell.queues
+exit_same : (cell : CellOf) (o : Option (StoreFrame Place)) → (spec.exit_by cell o).cell.queues ≡ cell.queues
 exit_same cell None = refl
 exit_same cell (Some frame) = refl
 
-exit_going : (cell : CellOf) (o : Option (Frame Place)) → ParksNowhere (spec.exit_by cell o).next
+exit_going : (cell : CellOf) (o : Option (StoreFrame Place)) → ParksNowhere (spec.exit_by cell o).next
 exit_going cell None = tt
 exit_going cell (Some frame) = tt
 

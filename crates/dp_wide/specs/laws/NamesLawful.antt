@@ -45,16 +45,16 @@ with_named_overlooks is_named looks row_of knowledge rows same overlooks name ro
     overlooked_by (is_named name) (row_of name) (looks name) (knowledge.looks name) (rows name) row (same name) (overlooks name) there h
 
 -- what depends only on the lower-case letters of a name is the same for each of its spellings
-pub lowered : {X : Type 0} (of_lower : List ℕ → X) (name spelling : List ℕ) → same_word name spelling ≡ true
+pub lower_case_decides : {X : Type 0} (of_lower : List ℕ → X) (name spelling : List ℕ) → same_word name spelling ≡ true
     → of_lower (map to_ascii_lowercase spelling) ≡ of_lower (map to_ascii_lowercase name)
-lowered of_lower name spelling same =
+lower_case_decides of_lower name spelling same =
     ap of_lower (sym ((bytes_decides (map to_ascii_lowercase name) (map to_ascii_lowercase spelling)).0 same))
 
 -- a word of a list is in the list in each of its spellings
 pub is_word_of-spelled : (words : List (List ℕ)) (name spelling : List ℕ) → same_word name spelling ≡ true
     → is_word_of words spelling ≡ is_word_of words name
 is_word_of-spelled words name spelling same =
-    lowered (λ lower. list_any (λ word. pointwise nat_eq lower (map to_ascii_lowercase word)) words) name spelling same
+    lower_case_decides (λ lower. list_any (λ word. pointwise nat_eq lower (map to_ascii_lowercase word)) words) name spelling same
 
 -- a blind table with more rows is blind if the names and their rows ignore case
 pub with_named_blind : (is_named : List ℕ → Bool) (touch : Touch) (row_of : List ℕ → Row) (touches : List ℕ → Touch) (rows : Rows)

@@ -15,7 +15,7 @@ use Rattle.dp_app.specs.Rows.{Rows}
 use Rattle.dp_app.specs.declared.touch.Touch.{Touch}
 use Rattle.dp_flow.specs.Touches.{the_variables}
 use Rattle.dp_wide.specs.Outside.{after_arguments, is_outside, is_read, outside_applications, outside_outcome, outside_row, outside_statuses, row_outside, without_values, with_outside, with_outside_knowledge, with_outside_touch}
-use Rattle.dp_wide.specs.laws.NamesLawful.{lowered, with_named_blind, with_named_lawful, with_named_overlooks}
+use Rattle.dp_wide.specs.laws.NamesLawful.{lower_case_decides, with_named_blind, with_named_lawful, with_named_overlooks}
 use Rattle.dp_wide.specs.laws.UnsetKept.{after_arguments_kept, without_values_kept}
 
 false_is_true : false ≡ true → ⊥
@@ -57,14 +57,14 @@ outside_lawful statuses reads = record {
 -- an application that runs outside is the same in each spelling of its name, and so is the knowledge of it
 outside_statuses-spelled : (name spelling : List ℕ) → same_word name spelling ≡ true → outside_statuses spelling ≡ outside_statuses name
 outside_statuses-spelled name spelling same =
-    lowered (λ lower. option_map (λ a. a.1) (find (λ a. pointwise nat_eq lower (map to_ascii_lowercase a.0)) outside_applications)) name spelling same
+    lower_case_decides (λ lower. option_map (λ a. a.1) (find (λ a. pointwise nat_eq lower (map to_ascii_lowercase a.0)) outside_applications)) name spelling same
 
 is_outside-spelled : (name spelling : List ℕ) → same_word name spelling ≡ true → is_outside spelling ≡ is_outside name
 is_outside-spelled name spelling same = ap (λ (o : Option (List (List ℕ))). is_some o) (outside_statuses-spelled name spelling same)
 
 is_read-spelled : (name spelling : List ℕ) → same_word name spelling ≡ true → is_read spelling ≡ is_read name
 is_read-spelled name spelling same =
-    lowered
+    lower_case_decides
     (λ lower. pointwise nat_eq lower (map to_ascii_lowercase (codes "Read"))
     || pointwise nat_eq lower (map to_ascii_lowercase (codes "ReadExten")))
     name spelling same

@@ -13,7 +13,7 @@ use Rattle.dp_app.specs.laws.StoreKept.{set_kept, set_local_kept}
 use Rattle.dp_flow.specs.Touches.{settable}
 use Rattle.dp_wide.specs.Cells.{cell_name}
 use Rattle.dp_wide.specs.Settings as spec
-use Rattle.dp_wide.specs.Settings.{Effect, OneTarget, NameAndNumber, EmptyKey, EachName, Settable, bare_name, effect_of, settable_of, with_settable}
+use Rattle.dp_wide.specs.Settings.{EffectOf, OneTarget, NameAndNumber, EmptyKey, EachName, Settable, bare_name, effect_of, settable_of, with_settable}
 
 -- frames return to the same places
 abbrev SamePlaces : Settable → Settable → Type 0
@@ -32,7 +32,7 @@ target_same s (Local name) value = local_same s.store name value
 target_same s Caller value = refl
 target_same s Nothing value = refl
 
-effect_same : (s : Settable) (name : List ℕ) (effect : Effect) (value : List ℕ) → SamePlaces s (spec.with_effect s name effect value)
+effect_same : (s : Settable) (name : List ℕ) (effect : EffectOf) (value : List ℕ) → SamePlaces s (spec.with_effect s name effect value)
 effect_same s name (OneTarget target) value = target_same s target value
 effect_same s name NameAndNumber value = set_same s.store (cell_name (codes "CALLERID") (codes "name")) (spec.caller_of value).name
 effect_same s name (EmptyKey key) value = refl
@@ -47,7 +47,7 @@ each_same s (name ∷ names) values =
     each_same (spec.with_one s name (spec.first_value values)) names (spec.later_values values)
     ∙ one_same s name (spec.first_value values)
 
-setting_same : (s : Settable) (name : List ℕ) (effect : Effect) (value : List ℕ) → SamePlaces s (spec.with_setting s name effect value)
+setting_same : (s : Settable) (name : List ℕ) (effect : EffectOf) (value : List ℕ) → SamePlaces s (spec.with_setting s name effect value)
 setting_same s name (OneTarget target) value = target_same s target value
 setting_same s name NameAndNumber value = effect_same s name NameAndNumber value
 setting_same s name (EmptyKey key) value = refl
@@ -65,8 +65,8 @@ true_is_false : true ≡ false → ⊥
 true_is_false e = cc
 
 -- a cell with its settable parts after settings
-settled : (cell : CellOf) (s : Settable) → SamePlaces (settable_of cell) s → KeepsUntouched settable cell (with_settable cell s)
-settled cell s same = record {
+settable_keeps : (cell : CellOf) (s : Settable) → SamePlaces (settable_of cell) s → KeepsUntouched settable cell (with_settable cell s)
+settable_keeps cell s same = record {
   number = refl;
   place = refl;
   closing = refl;
@@ -85,13 +85,13 @@ settled cell s same = record {
 pub set_lawful : IsLawfulRow settable spec.set_row
 unfolding spec.set_row
 set_lawful = going_lawful settable spec.set_row
-    (λ arguments cell. settled cell (spec.with_text (settable_of cell) arguments) (pair_same (settable_of cell) (cut_once 61 arguments)))
+    (λ arguments cell. settable_keeps cell (spec.with_text (settable_of cell) arguments) (pair_same (settable_of cell) (cut_once 61 arguments)))
     (λ arguments cell. refl) (λ arguments cell. tt)
 
 -- the row of `MSet`
 pub mset_lawful : IsLawfulRow settable spec.mset_row
 unfolding spec.mset_row
 mset_lawful = going_lawful settable spec.mset_row
-    (λ arguments cell. settled cell (fold spec.with_text (settable_of cell) (arguments_of arguments))
+    (λ arguments cell. settable_keeps cell (fold spec.with_text (settable_of cell) (arguments_of arguments))
     (texts_same (settable_of cell) (arguments_of arguments)))
     (λ arguments cell. refl) (λ arguments cell. tt)

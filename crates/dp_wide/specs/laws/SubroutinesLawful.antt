@@ -8,7 +8,7 @@ use Rattle.dp_app.specs.Lawful.{IsLawfulRow, KeepsUntouched, ParksNowhere}
 use Rattle.dp_app.specs.laws.Keeping.{cell_kept, going_lawful}
 use Rattle.dp_app.specs.laws.StoreKept.{pushed_kept, with_store_kept}
 use Rattle.dp_flow.specs.Conditions.{chosen_side}
-use Rattle.dp_flow.specs.Jumps.{SubroutineCall, place_after, subroutine_call}
+use Rattle.dp_flow.specs.Jumps.{SubroutineCallOf, place_after, subroutine_call}
 use Rattle.dp_flow.specs.Touches.{the_frames}
 use Rattle.dp_wide.specs.Subroutines as spec
 
@@ -22,15 +22,15 @@ called_kept cell locals =
     with_store_kept the_frames cell (with_frame cell.store (place_after cell.place) locals)
     (pushed_kept the_frames cell.store (place_after cell.place) locals refl)
 
-counted_kept : (cell : CellOf) (front : List (List ℕ)) (o : Option SubroutineCall) → KeepsUntouched the_frames cell (spec.enter_counted cell front o).cell
+counted_kept : (cell : CellOf) (front : List (List ℕ)) (o : Option SubroutineCallOf) → KeepsUntouched the_frames cell (spec.enter_counted cell front o).cell
 counted_kept cell front None = cell_kept the_frames cell
 counted_kept cell front (Some c) = called_kept cell (spec.counted_locals c.arguments)
 
-counted_same : (cell : CellOf) (front : List (List ℕ)) (o : Option SubroutineCall) → (spec.enter_counted cell front o).cell.queues ≡ cell.queues
+counted_same : (cell : CellOf) (front : List (List ℕ)) (o : Option SubroutineCallOf) → (spec.enter_counted cell front o).cell.queues ≡ cell.queues
 counted_same cell front None = refl
 counted_same cell front (Some c) = refl
 
-counted_going : (cell : CellOf) (front : List (List ℕ)) (o : Option SubroutineCall) → ParksNowhere (spec.enter_counted cell front o).next
+counted_going : (cell : CellOf) (front : List (List ℕ)) (o : Option SubroutineCallOf) → ParksNowhere (spec.enter_counted cell front o).next
 counted_going cell front None = tt
 counted_going cell front (Some c) = tt
 

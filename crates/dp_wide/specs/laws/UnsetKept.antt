@@ -1,7 +1,7 @@
 -- What is kept of a store in which names have lost their values.
 use Rattle.std.specs.Prelude.{◌≡◌, ℕ, Bool, true, false, List, [], ◌∷◌, map, refl}
 use Rattle.std.proofs.Common.{ap, sym, ◌∙◌}
-use Rattle.dp_vars.specs.Stores.{Frame, StoreOf, set, unset, value_in, without_local}
+use Rattle.dp_vars.specs.Stores.{StoreFrame, StoreOf, set, unset, value_in, without_local}
 use Rattle.dp_app.specs.Lawful.{KeepsStore}
 use Rattle.dp_app.specs.laws.StoreKept.{set_kept}
 use Rattle.dp_app.specs.declared.place.Place.{Place}
@@ -18,7 +18,7 @@ no_false true is h = absurd (true_is_false h)
 no_false false is h = absurd (true_is_false (sym is))
 
 -- frames without a local return to the same places
-places-without_local : (name : List ℕ) (frames : List (Frame Place)) → map (λ f. f.back) (map (without_local name) frames) ≡ map (λ f. f.back) frames
+places-without_local : (name : List ℕ) (frames : List (StoreFrame Place)) → map (λ f. f.back) (map (without_local name) frames) ≡ map (λ f. f.back) frames
 places-without_local name [] = refl
 places-without_local name (f ∷ fs) = ap (λ rest. f.back ∷ rest) (places-without_local name fs)
 

@@ -1,5 +1,5 @@
 -- A caller, as the bytes of its texts.
-use Rattle.dp_wide.specs.Settings.{CallerText as CallerBytes}
+use Rattle.dp_wide.specs.Settings.{CallerTextOf as CallerBytes}
 use Rattle.dp_wide.specs.declared.settings.callers.CallerText.{CallerText}
 
 -- its name and its number

@@ -8,13 +8,13 @@ ghost use Rattle.dp_wide.specs.Effects.{effect_seen};
 use crate::cells::is_of_all;
 use dp_conf::{cut_once, trim};
 use dp_flow::argument_of;
-use dp_vars::Target;
+use dp_vars::SetTarget;
 
 /// What setting a name does.
 #[derive(Clone, Copy)]
 pub enum Effect<'a> {
     /// One thing.
-    OneTarget(Target<'a>),
+    OneTarget(SetTarget<'a>),
     /// The name and the number of the caller.
     NameAndNumber,
     /// The cell of a key of the database, which becomes empty.
@@ -56,13 +56,13 @@ pub(crate) fn does_more(function: &[u8], argument: &[u8]) -> bool
 }
 
 /// The cell of a function, given its whole name.
-fn cell_target<'a>(name: &'a [u8], function: &[u8]) -> Target<'a>
+fn cell_target<'a>(name: &'a [u8], function: &[u8]) -> SetTarget<'a>
     ensures { target_seen result ≡ spec.cell_target name.now function.now }
 {
     if is_of_all(function) {
-        Target::Global(name)
+        SetTarget::Global(name)
     } else {
-        Target::Variable(name)
+        SetTarget::Variable(name)
     }
 }
 
@@ -71,11 +71,11 @@ fn caller_effect<'a>(name: &'a [u8], argument: &[u8]) -> Effect<'a>
     ensures { effect_seen result ≡ spec.caller_effect name.now argument.now }
 {
     if argument == b"num".as_slice() || argument == b"number".as_slice() {
-        Effect::OneTarget(Target::Caller)
+        Effect::OneTarget(SetTarget::Caller)
     } else if argument == b"all".as_slice() {
         Effect::NameAndNumber
     } else {
-        Effect::OneTarget(Target::Variable(name))
+        Effect::OneTarget(SetTarget::Variable(name))
     }
 }
 
@@ -84,9 +84,9 @@ fn function_effect<'a>(name: &'a [u8], function: &[u8], argument: &'a [u8]) -> E
     ensures { effect_seen result ≡ spec.function_effect name.now function.now argument.now }
 {
     if function == b"GLOBAL".as_slice() {
-        Effect::OneTarget(Target::Global(argument))
+        Effect::OneTarget(SetTarget::Global(argument))
     } else if function == b"LOCAL".as_slice() {
-        Effect::OneTarget(Target::Local(argument))
+        Effect::OneTarget(SetTarget::Local(argument))
     } else if function == b"CALLERID".as_slice() {
         caller_effect(name, argument)
     } else if function == b"DB_DELETE".as_slice() {
@@ -94,20 +94,20 @@ fn function_effect<'a>(name: &'a [u8], function: &[u8], argument: &'a [u8]) -> E
     } else if function == b"ARRAY".as_slice() {
         Effect::EachName(argument)
     } else if does_more(function, argument) {
-        Effect::OneTarget(Target::Nothing)
+        Effect::OneTarget(SetTarget::Nothing)
     } else {
         Effect::OneTarget(cell_target(name, function))
     }
 }
 
 /// The variable with a name; the empty name sets nothing.
-fn variable_target(name: &[u8]) -> Target<'_>
+fn variable_target(name: &[u8]) -> SetTarget<'_>
     ensures { target_seen result ≡ spec.variable_target name.now }
 {
     if name.is_empty() {
-        Target::Nothing
+        SetTarget::Nothing
     } else {
-        Target::Variable(name)
+        SetTarget::Variable(name)
     }
 }
 
@@ -119,7 +119,7 @@ pub fn effect_of(name: &[u8]) -> Effect<'_>
     match cut_once(name, b'(') {
         None => Effect::OneTarget(variable_target(name)),
         Some((function, after)) => match argument_of(after) {
-            None => Effect::OneTarget(Target::Nothing),
+            None => Effect::OneTarget(SetTarget::Nothing),
             Some(argument) => function_effect(name, function, argument),
         },
     }
@@ -130,12 +130,12 @@ pub fn effect_of(name: &[u8]) -> Effect<'_>
 /// Up to two leading marks of inheritance, each a `_`, have no effect. `GLOBAL(name)` is a global, `LOCAL(name)` a local of the innermost
 /// frame, and `CALLERID(num)` or `CALLERID(number)` the caller's number. Any other `NAME(argument)` is a cell: a global for functions whose
 /// cells belong to all channels, and a variable for the others.
-pub fn setting_target(name: &[u8]) -> Target<'_>
+pub fn setting_target(name: &[u8]) -> SetTarget<'_>
     ensures { target_seen result ≡ spec.wide_target name.now }
 {
     match effect_of(bare_name(name)) {
         Effect::OneTarget(target) => target,
-        _ => Target::Nothing,
+        _ => SetTarget::Nothing,
     }
 }
 

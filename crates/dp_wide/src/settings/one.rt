@@ -12,7 +12,7 @@ use crate::settings::callers::{CallerText, caller_of};
 use crate::settings::effects::{Effect, bare_name, effect_of};
 use dp_app::Cell;
 use dp_conf::{NoMemory, Text};
-use dp_vars::{Change, Target};
+use dp_vars::{Change, SetTarget};
 use std::alloc::Global;
 
 /// A new text in place of another.
@@ -47,7 +47,7 @@ fn set_caller(alloc: Global, cell: &mut Cell, caller: CallerText<'_>) -> Result<
 fn set_target(
     alloc: Global,
     cell: &mut Cell,
-    target: Target<'_>,
+    target: SetTarget<'_>,
     value: &[u8],
 ) -> Result<(), NoMemory>
     ensures ok { OnOk result (cell_now cell.new ≡ with_settable (cell_now cell.old)
@@ -56,13 +56,13 @@ fn set_target(
     ensures loans { KeepsLoans cell.old cell.new }
 {
     match target {
-        Target::Variable(name) => cell.store.set(alloc, name, value)?,
-        Target::Global(name) => cell.globals.put(alloc, name, value)?,
-        Target::Local(name) => {
+        SetTarget::Variable(name) => cell.store.set(alloc, name, value)?,
+        SetTarget::Global(name) => cell.globals.put(alloc, name, value)?,
+        SetTarget::Local(name) => {
             let _has_frame = cell.store.set_local(alloc, name, value)?;
         }
-        Target::Caller => *cell.caller = Text::copy_of(alloc, value)?,
-        Target::Nothing => {}
+        SetTarget::Caller => *cell.caller = Text::copy_of(alloc, value)?,
+        SetTarget::Nothing => {}
     }
     Ok(())
 }
@@ -84,7 +84,7 @@ pub(super) fn set_effect(
         Effect::OneTarget(target) => set_target(alloc, cell, target, value),
         Effect::NameAndNumber => set_caller(alloc, cell, caller_of(value)),
         Effect::EmptyKey(key) => empty_key(alloc, cell.globals, key),
-        Effect::EachName(_) => set_target(alloc, cell, Target::Variable(name), value),
+        Effect::EachName(_) => set_target(alloc, cell, SetTarget::Variable(name), value),
     }
 }
 

@@ -5,7 +5,7 @@ use std::alloc::Global;
 use std::test::Fail;
 
 /// The name and the arguments of the application that an `ExecIf` runs, with a bar between.
-pub(super) struct Called;
+pub(super) struct CalledSide;
 
 fn push_call(out: &mut String, name: &[u8], arguments: &[u8]) -> Result<(), NoMemory> {
     push_bytes(out, name)?;
@@ -13,7 +13,7 @@ fn push_call(out: &mut String, name: &[u8], arguments: &[u8]) -> Result<(), NoMe
     push_bytes(out, arguments)
 }
 
-impl Question for Called {
+impl Question for CalledSide {
     fn answer(alloc: Global, asked: &str) -> Result<String, Fail> {
         let arguments = bytes_of(alloc, asked)?;
         let Some((name, arguments)) = exec_if_application(&arguments) else {
@@ -119,9 +119,9 @@ f(a,b)c?NoOp:Hangup→NoOp|
 ";
 
 /// The value of `IF`.
-pub(super) struct Value;
+pub(super) struct IfValue;
 
-impl Question for Value {
+impl Question for IfValue {
     fn answer(alloc: Global, asked: &str) -> Result<String, Fail> {
         let argument = bytes_of(alloc, asked)?;
         let mut out = String::new(alloc);

@@ -12,7 +12,7 @@ use std::str;
 use std::test::Fail;
 
 /// The program's own table, after those that go on, those that run outside and those that end a call.
-type Names = WithGoing<WithOutside<With<Busy, With<Congestion, StandardApps>>>>;
+type NamesBefore = WithGoing<WithOutside<With<Busy, With<Congestion, StandardApps>>>>;
 
 /// Lines of the dialplan, separated by `
 /// `, and what happens to a call to `s`, separated by `;`. The words are `step`, `time` for a time-out, `hang` for a hang-up, `NAME=VALUE`
@@ -81,7 +81,7 @@ s,1,NoOp()\nh,1,Busy()¦hang;step;?→Ended h,1
 ";
 
 /// Adds how a channel waits, and its place.
-fn push_state(out: &mut String, machine: &Machine<Names>) -> Result<(), NoMemory> {
+fn push_state(out: &mut String, machine: &Machine<NamesBefore>) -> Result<(), NoMemory> {
     match (machine.phase(1), machine.place(1)) {
         (Some(phase), Some(place)) => {
             write!(out, "{phase:?} {},{}", place.exten, place.priority)
@@ -94,7 +94,7 @@ fn push_state(out: &mut String, machine: &Machine<Names>) -> Result<(), NoMemory
 fn push_value(
     out: &mut String,
     alloc: Global,
-    machine: &Machine<Names>,
+    machine: &Machine<NamesBefore>,
     name: &str,
 ) -> Result<(), NoMemory> {
     write!(out, "{name}=")?;
@@ -105,7 +105,7 @@ fn push_value(
 fn push_answer(
     out: &mut String,
     alloc: Global,
-    machine: &Machine<Names>,
+    machine: &Machine<NamesBefore>,
     word: &str,
 ) -> Result<(), NoMemory> {
     if !out.is_empty() {
@@ -145,7 +145,7 @@ fn event_of(alloc: Global, word: &str) -> Result<Option<Event>, NoMemory> {
 fn do_word(
     out: &mut String,
     alloc: Global,
-    machine: &mut Machine<Names>,
+    machine: &mut Machine<NamesBefore>,
     word: &str,
 ) -> Result<(), NoMemory> {
     match event_of(alloc, word)? {
@@ -160,7 +160,7 @@ fn do_word(
 fn do_words(
     out: &mut String,
     alloc: Global,
-    machine: &mut Machine<Names>,
+    machine: &mut Machine<NamesBefore>,
     words: &str,
 ) -> Result<(), NoMemory> {
     machine.apply(alloc, call(alloc, b"main", b"s", b"")?)?;
@@ -171,8 +171,8 @@ fn do_words(
 }
 
 /// The answers to the words on a call.
-pub(super) fn told(alloc: Global, lines: &str, words: &str) -> Result<String, Fail> {
-    let mut machine: Machine<Names> = machine_of(alloc, lines)?;
+pub(super) fn call_answers(alloc: Global, lines: &str, words: &str) -> Result<String, Fail> {
+    let mut machine: Machine<NamesBefore> = machine_of(alloc, lines)?;
     let mut out = String::new(alloc);
     do_words(&mut out, alloc, &mut machine, words)?;
     Ok(out)
@@ -185,6 +185,6 @@ impl Question for Story {
     fn answer(alloc: Global, asked: &str) -> Result<String, Fail> {
         let (lines, words) = asked.split_once('¦').ok_or("no words")?;
         let lines = bytes_of(alloc, lines)?;
-        told(alloc, str::from_utf8(&lines)?, words)
+        call_answers(alloc, str::from_utf8(&lines)?, words)
     }
 }

@@ -1,5 +1,5 @@
 //! What each application of a list does, and what each variable of a list is.
-use crate::names::calls::told;
+use crate::names::calls::call_answers;
 use dp_case_tables::Question;
 use dp_machine::NoMemory;
 use dp_wide::{is_given_by_asterisk, is_status};
@@ -63,7 +63,7 @@ VMSTATU VMSTATUSS STATUS UNIQUEI UNIQUEIDS CHANNEL(name) RECORDSTATUS→none
 fn kind_of(alloc: Global, name: &str) -> Result<String, Fail> {
     let mut lines = String::new(alloc);
     write!(lines, "s,1,{name}(a,b)\nh,1,{name}(a,b)\n")?;
-    told(alloc, &lines, "step;?;hang;step;?")
+    call_answers(alloc, &lines, "step;?;hang;step;?")
 }
 
 /// The word for what an application does.
@@ -88,9 +88,9 @@ fn push_other(out: &mut String, name: &str, word: &str) -> Result<(), NoMemory> 
 }
 
 /// What all applications of some names do.
-pub(super) struct Kind;
+pub(super) struct KindOfNames;
 
-impl Question for Kind {
+impl Question for KindOfNames {
     fn answer(alloc: Global, asked: &str) -> Result<String, Fail> {
         let mut out = String::new(alloc);
         for name in asked.split(' ') {

@@ -10,7 +10,7 @@ use std::alloc::Global;
 use std::test::Fail;
 
 /// The table by another author after the names. Its function `AWAY(x)` is never known, and `Ping(?)` asks `PINGS`.
-type Names = WithGoing<WithOutside<OwnApps>>;
+type OwnNames = WithGoing<WithOutside<OwnApps>>;
 
 /// An application with its arguments, and what is unknown ahead of a channel there.
 pub(super) const AHEAD: &str = r"
@@ -57,7 +57,7 @@ fn push_unknown(out: &mut String, unknown: Unknown) -> Result<(), NoMemory> {
 fn push_ahead(
     out: &mut String,
     alloc: Global,
-    machine: &mut Machine<Names>,
+    machine: &mut Machine<OwnNames>,
 ) -> Result<(), NoMemory> {
     machine.apply(alloc, call(alloc, b"main", b"s", b"")?)?;
     match machine.unknown_ahead(alloc, 1)? {
@@ -73,7 +73,7 @@ impl Question for Ahead {
     fn answer(alloc: Global, asked: &str) -> Result<String, Fail> {
         let mut line = text_of(alloc, "s,1,")?;
         line.push_str(asked)?;
-        let mut machine: Machine<Names> = machine_of(alloc, &line)?;
+        let mut machine: Machine<OwnNames> = machine_of(alloc, &line)?;
         let mut out = String::new(alloc);
         push_ahead(&mut out, alloc, &mut machine)?;
         Ok(out)

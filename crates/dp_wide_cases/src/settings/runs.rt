@@ -10,13 +10,13 @@ use std::str;
 use std::test::Fail;
 
 /// The applications that call.
-type Calling = With<
+type CallingApps = With<
     GosubWide,
     With<GosubIfWide, With<Macro, With<MacroExit, With<Return, With<NoOp, NoApps>>>>>,
 >;
 
 /// Those and the ones that set.
-type SettingApps = With<SetWide, With<MSet, With<DbDel, With<DbDelTree, Calling>>>>;
+type SettingApps = With<SetWide, With<MSet, With<DbDel, With<DbDelTree, CallingApps>>>>;
 
 type SettingMachine = Machine<SettingApps>;
 
@@ -24,7 +24,7 @@ type SettingMachine = Machine<SettingApps>;
 /// `, where a line that begins with `[` or `exten` is used as it is; then the number of steps that the first of two calls takes there, and
 /// questions, separated by `;`: the value of a name in the first call, with an `@` before it in the second, or with only `=` the place of
 /// the first. The answers are separated by `|`.
-pub(super) struct Run;
+pub(super) struct SettingsRun;
 
 /// Adds a line of the dialplan.
 fn push_line(text: &mut String, line: &str) -> Result<(), NoMemory> {
@@ -111,7 +111,7 @@ fn answers_of(alloc: Global, lines: &str, steps: u32, words: &str) -> Result<Str
     Ok(answers_to(alloc, &machine, words)?)
 }
 
-impl Question for Run {
+impl Question for SettingsRun {
     fn answer(alloc: Global, asked: &str) -> Result<String, Fail> {
         let (lines, rest) = asked.split_once('¦').ok_or("no steps")?;
         let (steps, words) = rest.split_once('¦').ok_or("no words")?;

@@ -1,6 +1,6 @@
 //! What names set from outside.
 use dp_case_tables::{Question, bytes_of, push_bytes};
-use dp_wide::{Target, setting_target};
+use dp_wide::{SetTarget, setting_target};
 use std::alloc::{AllocError, Global};
 use std::test::Fail;
 
@@ -11,20 +11,20 @@ fn push_named(out: &mut String, word: &str, name: &[u8]) -> Result<(), AllocErro
 }
 
 /// Adds what is set.
-fn push_target(out: &mut String, target: Target<'_>) -> Result<(), AllocError> {
+fn push_target(out: &mut String, target: SetTarget<'_>) -> Result<(), AllocError> {
     match target {
-        Target::Variable(name) => push_named(out, "variable ", name),
-        Target::Global(name) => push_named(out, "global ", name),
-        Target::Local(name) => push_named(out, "local ", name),
-        Target::Caller => out.push_str("caller"),
-        Target::Nothing => out.push_str("nothing"),
+        SetTarget::Variable(name) => push_named(out, "variable ", name),
+        SetTarget::Global(name) => push_named(out, "global ", name),
+        SetTarget::Local(name) => push_named(out, "local ", name),
+        SetTarget::Caller => out.push_str("caller"),
+        SetTarget::Nothing => out.push_str("nothing"),
     }
 }
 
 /// What setting a name sets.
-pub(super) struct TargetOf;
+pub(super) struct TargetOfSetting;
 
-impl Question for TargetOf {
+impl Question for TargetOfSetting {
     fn answer(alloc: Global, asked: &str) -> Result<String, Fail> {
         let name = bytes_of(alloc, asked)?;
         let mut out = String::new(alloc);

@@ -1,6 +1,6 @@
 //! Values that are cut into fields, worked out by hand from the rules.
 use dp_case_tables::{Question, bytes_of, push_bytes};
-use dp_wide::{cut, delimiter_of, field_count};
+use dp_wide::{cut_fields, delimiter_of, field_count};
 use std::alloc::Global;
 use std::test::Fail;
 
@@ -38,15 +38,15 @@ pub(super) const DELIMITERS: &str = r"
 ";
 
 /// The chosen fields of a value: the value, the byte at which it is cut, and the choice.
-pub(super) struct Cut;
+pub(super) struct ChosenFields;
 
-impl Question for Cut {
+impl Question for ChosenFields {
     fn answer(alloc: Global, asked: &str) -> Result<String, Fail> {
         let (value, rest) = asked.split_once('|').ok_or("no delimiter")?;
         let (delimiter, fields) = rest.split_once('|').ok_or("no fields")?;
         let value = bytes_of(alloc, value)?;
         let delimiter = bytes_of(alloc, delimiter)?;
-        let chosen = cut(alloc, &value, delimiter_of(&delimiter), fields.as_bytes())?;
+        let chosen = cut_fields(alloc, &value, delimiter_of(&delimiter), fields.as_bytes())?;
         let mut out = String::new(alloc);
         push_bytes(&mut out, &chosen)?;
         Ok(out)
@@ -124,9 +124,9 @@ a||2→
 ";
 
 /// The number of fields of a value.
-pub(super) struct Count;
+pub(super) struct FieldCount;
 
-impl Question for Count {
+impl Question for FieldCount {
     fn answer(alloc: Global, asked: &str) -> Result<String, Fail> {
         let (value, delimiter) = asked.split_once('|').ok_or("no delimiter")?;
         let delimiter = bytes_of(alloc, delimiter)?;

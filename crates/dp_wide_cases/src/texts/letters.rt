@@ -5,9 +5,9 @@ use std::alloc::Global;
 use std::test::Fail;
 
 /// The bytes of a text that a set has.
-pub(super) struct Kept;
+pub(super) struct KeptBytes;
 
-impl Question for Kept {
+impl Question for KeptBytes {
     fn answer(alloc: Global, asked: &str) -> Result<String, Fail> {
         let (set, text) = asked.split_once('|').ok_or("no text")?;
         let set = bytes_of(alloc, set)?;

@@ -17,9 +17,9 @@ fn push_moment(out: &mut String, moment: Moment) -> Result<(), NoMemory> {
 }
 
 /// The moment that a text writes.
-pub(super) struct Read;
+pub(super) struct WrittenMoment;
 
-impl Question for Read {
+impl Question for WrittenMoment {
     fn answer(alloc: Global, asked: &str) -> Result<String, Fail> {
         let mut out = String::new(alloc);
         match read_moment(asked.as_bytes()) {

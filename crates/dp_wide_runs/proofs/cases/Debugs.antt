@@ -11,7 +11,7 @@ use Rattle.dp_commands.specs.declared.fault.Code.TheVariants.{BadBreak, BadScrip
 use Rattle.dp_commands.specs.declared.fault.PbxFault.TheVariants.{Coded}
 use Rattle.dp_commands.specs.declared.script.Turn.TheVariants.{Event, Show}
 use Rattle.dp_wide_runs.specs.Beside.{beside_after, step_beside}
-use Rattle.dp_wide_runs.specs.Debugging.{counted, halt_before, watched_above, watched_after, watched_last, watching, wide_debug_of, without_shows}
+use Rattle.dp_wide_runs.specs.Debugging.{watch_after, halt_before, watched_above, watched_after, watched_last, watching, wide_debug_of, without_shows}
 use Rattle.dp_wide_runs.specs.Turns.{at_stop, no_stops, unknown_line}
 use Rattle.dp_wide_runs.specs.declared.wide_turn.WideTurn.TheVariants.{Plain, Further, Pass}
 
@@ -21,7 +21,7 @@ shows_left_out : without_shows (Plain (Show 1 (codes "A")) ∷ Plain (Event (Ste
 shows_left_out = refl
 
 -- each event counts
-events_count : (held : Break) → (counted (counted (watching held) (Event (Step 1))) (Event (Timeout 2))).taken ≡ 2
+events_count : (held : Break) → (watch_after (watch_after (watching held) (Event (Step 1))) (Event (Timeout 2))).taken ≡ 2
 events_count held = refl
 
 line_of_a_halt : halt_text true 3 ≡ codes "break 3\n"

@@ -1,5 +1,5 @@
 use Rattle.std.proofs.Common.{refl}
-use Rattle.dp_answer.specs.Reports.{Told}
+use Rattle.dp_answer.specs.Reports.{ToldText}
 use Rattle.dp_answer.specs.Steps.{shown_report}
 use Rattle.dp_answer.proofs.AnswerLemmas.{told-all}
 use Rattle.dp_answer.proofs.report.report_all.Goals as goal

@@ -1,7 +1,7 @@
 use Rattle.std.proofs.Common.{◌≡◌, ◌<◌, ℕ, List, length, replicate, sym, ap, subst, ◌∙◌, All}
 use Rattle.std.proofs.lemmas.List.{length-replicate}
 use Rattle.dp_board.specs.Settled.{Agrees, IsLeastDifference}
-use Rattle.dp_board.specs.Sittings.{Sitting}
+use Rattle.dp_board.specs.Sittings.{SeatSitting}
 use Rattle.dp_board.specs.declared.entry.Entry.{Entry}
 use Rattle.dp_board.proofs.settle.close.Goals as goal
 
@@ -26,7 +26,7 @@ returns-in-None-clause-ok g c =
     record {
       whole = c.history_of-history.ensures.whole;
       records =
-          subst (λ (ss : List Sitting). All (Agrees c.history_of-history.result.entries) ss) seats
+          subst (λ (ss : List SeatSitting). All (Agrees c.history_of-history.result.entries) ss) seats
           (subst (λ (es : List Entry). All (Agrees es) c.deref.result.now) c.entries.ensures c.in-None.ensures);
     }
 
@@ -34,6 +34,6 @@ pub returns-in-Some-clause-err : goal.returns-in-Some-clause-err
 returns-in-Some-clause-err g c =
     let seats : c.deref.result.now ≡ c.args.seats.items = c.deref.ensures.value ∙ c.history_of-history.ensures.same in
     let least : IsLeastDifference c.history_of-history.result.entries c.args.seats.items c.in-Some.found =
-    subst (λ (ss : List Sitting). IsLeastDifference c.history_of-history.result.entries ss c.in-Some.found) seats
+    subst (λ (ss : List SeatSitting). IsLeastDifference c.history_of-history.result.entries ss c.in-Some.found) seats
     (subst (λ (es : List Entry). IsLeastDifference es c.deref.result.now c.in-Some.found) c.entries.ensures c.in-Some.ensures) in
     ((c.history_of-history.ensures.whole, least), c.history_of-history.ensures.same)

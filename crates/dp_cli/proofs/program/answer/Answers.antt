@@ -1,6 +1,6 @@
 use Rattle.std.proofs.Common.{ap}
 use Rattle.dp_cli.specs.Status.{explained_status, sink}
-use Rattle.dp_cli.proofs.AnswerLemmas.{fulfils_lacks, mistaken, no_kind}
+use Rattle.dp_cli.proofs.AnswerLemmas.{fulfils_lacks, mistake_status, no_kind}
 use Rattle.dp_cli.proofs.program.answer.Goals as goal
 
 -- words that are a request are refused only if memory runs out
@@ -11,4 +11,4 @@ returns-in-Err-clause-fulfils g c = λ want none is.
     (ap (λ out. sink (g.W.WriteTold.contents out) (g.W.WriteTold.has_failed out)) (c.refuse.ensures.mistake (ap explained_status memory))) c.refuse.ensures.refuses
 
 pub returns-in-Err-clause-silent : goal.returns-in-Err-clause-silent
-returns-in-Err-clause-silent g c = λ some all. c.refuse.ensures.mistake (mistaken _ c.in-Err.error.kind c.in-Err.ensures.kinds all)
+returns-in-Err-clause-silent g c = λ some all. c.refuse.ensures.mistake (mistake_status _ c.in-Err.error.kind c.in-Err.ensures.kinds all)

@@ -4,7 +4,7 @@ use Rattle.dp_conf.specs.Groups.{depth_of}
 use Rattle.dp_conf.specs.GroupsRead.{levels, nesting_of}
 use Rattle.dp_conf.specs.steps.Nest.{kinds_of}
 use Rattle.dp_conf.proofs.GroupsLemmas.{one_reading}
-use Rattle.dp_conf.proofs.NestLemmas.{come, come-mark, come-over, come-text, come-above, nesting_of-length}
+use Rattle.dp_conf.proofs.NestLemmas.{nesting_to_come, come-mark, come-over, come-text, come-above, nesting_of-length}
 use Rattle.dp_conf.proofs.PlainNest.{nesting_of-plain}
 use Rattle.dp_conf.proofs.nest.nesting.Goals as goal
 
@@ -21,7 +21,7 @@ returns-then-not-contains-clause-reading c reading reads =
 
 pub loop-mark-init : goal.loop-mark-init
 loop-mark-init c =
-    ap (λ nest. come nest.waiting nest.deepest (levels c.args.text.now (kinds_of nest.waiting) 0)) c.new-nest.ensures ∙ come-text c.args.text.now
+    ap (λ nest. nesting_to_come nest.waiting nest.deepest (levels c.args.text.now (kinds_of nest.waiting) 0)) c.new-nest.ensures ∙ come-text c.args.text.now
 
 pub take-requires : goal.take-requires
 take-requires c =
@@ -34,21 +34,21 @@ take-requires c =
 
 pub loop-mark-preserved : goal.loop-mark-preserved
 loop-mark-preserved c =
-    ap (λ nest. come nest.waiting nest.deepest (levels c.in-Some.after.now (kinds_of nest.waiting) 0)) c.in_ok-take.ensures.ok
+    ap (λ nest. nesting_to_come nest.waiting nest.deepest (levels c.in-Some.after.now (kinds_of nest.waiting) 0)) c.in_ok-take.ensures.ok
     ∙ come-mark c.in-Some.mark c.loop-mark.nest (levels c.in-Some.after.now)
-    ∙ ap (come c.loop-mark.nest.waiting c.loop-mark.nest.deepest)
+    ∙ ap (nesting_to_come c.loop-mark.nest.waiting c.loop-mark.nest.deepest)
     (sym (c.in-Some.ensures.marked (kinds_of c.loop-mark.nest.waiting) (sym c.innermost.ensures)))
     ∙ c.loop-mark.invariant
 
 pub returns-clause-exact : goal.returns-clause-exact
 returns-clause-exact c =
     c.finish.ensures ∙ sym (come-over c.loop-mark.nest.waiting c.loop-mark.nest.deepest)
-    ∙ ap (λ rest. come c.loop-mark.nest.waiting c.loop-mark.nest.deepest (levels rest (kinds_of c.loop-mark.nest.waiting) 0)) (sym c.in_default.ensures.marked)
+    ∙ ap (λ rest. nesting_to_come c.loop-mark.nest.waiting c.loop-mark.nest.deepest (levels rest (kinds_of c.loop-mark.nest.waiting) 0)) (sym c.in_default.ensures.marked)
     ∙ c.loop-mark.invariant
 
 pub returns-clause-reading : goal.returns-clause-reading
 unfolding nesting_of
 returns-clause-reading c reading reads =
     c.finish.ensures ∙ sym (come-over c.loop-mark.nest.waiting c.loop-mark.nest.deepest)
-    ∙ ap (λ rest. come c.loop-mark.nest.waiting c.loop-mark.nest.deepest (levels rest (kinds_of c.loop-mark.nest.waiting) 0)) (sym c.in_default.ensures.marked)
+    ∙ ap (λ rest. nesting_to_come c.loop-mark.nest.waiting c.loop-mark.nest.deepest (levels rest (kinds_of c.loop-mark.nest.waiting) 0)) (sym c.in_default.ensures.marked)
     ∙ c.loop-mark.invariant ∙ ap depth_of (sym ((one_reading c.args.text.now reading).0 reads))

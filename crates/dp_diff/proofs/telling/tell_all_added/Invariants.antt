@@ -1,6 +1,6 @@
 use Rattle.std.proofs.Common.{take}
 use Rattle.std.specs.List.{flat_map}
-use Rattle.dp_diff.specs.Differences.{added}
+use Rattle.dp_diff.specs.Differences.{addition_at}
 use Rattle.dp_diff.specs.steps.Telling.{HasTold, writer_of}
 use Rattle.dp_diff.proofs.telling.tell_all_added.Given as goal
 
@@ -9,4 +9,4 @@ abbrev pub invariant-loop-place : goal.invariant-loop-place
 invariant-loop-place g l =
     HasTold (writer_of (g.W.WriteTold.contents l.fn.writer) (g.W.WriteTold.has_failed l.fn.writer)) l.fn.sheet
     (writer_of (g.W.WriteTold.contents l.writer) (g.W.WriteTold.has_failed l.writer)) l.sheet
-    (flat_map (added l.context l.before.keys) (take l.place-index l.after))
+    (flat_map (addition_at l.context l.before.keys) (take l.place-index l.after))

@@ -1,12 +1,12 @@
 use Rattle.std.proofs.Common.{◌≡◌, true, false, ◌&&◌, not, [], ◌∷◌, eqb, length, ap, sym, ◌∙◌, refl, rules, tests}
 use Rattle.dp_conf.specs.Lines.{opens_block}
-use Rattle.dp_files.specs.Comments.{uncovered}
+use Rattle.dp_files.specs.Comments.{rest_of_line}
 use Rattle.dp_files.proofs.CommentsLemmas.{stands-empty, stands-comment}
 use Rattle.dp_files.proofs.comments.begins_block.Goals as goal
 
 -- the first comment
 pub returns-then-begins_comment : goal.returns-then-begins_comment
-unfolding uncovered
+unfolding rest_of_line
 returns-then-begins_comment c line none =
     let l = c.loop-byte in
     let comment : (eqb c.in-Some.byte.now 59 && not (eqb l.previous 92)) ≡ true = sym c.begins_comment.ensures ∙ c.if-begins_comment.true in
@@ -15,5 +15,5 @@ returns-then-begins_comment c line none =
 
 -- there is no comment
 pub returns : goal.returns
-unfolding uncovered
+unfolding rest_of_line
 returns c line _ = c.loop-byte.invariant line (stands-empty line c.loop-byte.previous c.loop-byte.left.now c.in_default.ensures.cases)

@@ -1,12 +1,12 @@
 use Rattle.std.proofs.Common.{◌≡◌, true, false, ◌&&◌, not, eqb, length, ap, sym, ◌∙◌, rules, tests}
 use Rattle.dp_conf.specs.Lines.{opens_block}
-use Rattle.dp_files.specs.Comments.{Uncovered, uncovered}
+use Rattle.dp_files.specs.Comments.{Uncovered, rest_of_line}
 use Rattle.dp_files.proofs.CommentsLemmas.{uncovered_from-over, uncovered_from-ended}
 use Rattle.dp_files.proofs.comments.uncover_part.Goals as goal
 
 -- the rest of the line is a comment
 pub returns-else-opens_block : goal.returns-else-opens_block
-unfolding uncovered
+unfolding rest_of_line
 returns-else-opens_block c =
     let l = c.loop-byte in
     let none : length l.open ≡ 0 = search (rules, tests) in
@@ -17,7 +17,7 @@ returns-else-opens_block c =
 
 -- nothing is left of the line
 pub returns : goal.returns
-unfolding uncovered
+unfolding rest_of_line
 returns c =
     let l = c.loop-byte in
     uncovered_from-over c.args.line l.open l.previous l.left.now l.kept.items _ l.invariant c.in_default.ensures.cases

@@ -12,8 +12,8 @@ loop-rest-smaller c =
 
 pub loop-rest-preserved : goal.loop-rest-preserved
 loop-rest-preserved c =
-    shapes-left c.loop-rest.shapes.items c.push.new.self.items c.in_ok-trimmed.field-0 c.first_part.result.0.now c.in-Some.left.now c.first_part.result.1
-    c.in_ok-push.ensures.items c.in_ok-trimmed.ensures c.first_part.ensures.parts
+    shapes-left c.loop-rest.shapes.items c.push.new.self.items c.in_ok-trim_pieces.field-0 c.first_part.result.0.now c.in-Some.left.now c.first_part.result.1
+    c.in_ok-push.ensures.items c.in_ok-trim_pieces.ensures c.first_part.ensures.parts
     ∙ (ap (λ rest. map (λ shape. shown_all shape.items) c.loop-rest.shapes.items ++ map without_end_blanks (parts_left rest)) (sym c.in-Some.is) ∙ c.loop-rest.invariant)
 
 pub returns : goal.returns

@@ -1,7 +1,7 @@
 use Rattle.std.proofs.Common.{ℕ, List, Result, sym, subst}
 use Rattle.dp_commands.specs.Report.{list_of}
 use Rattle.dp_program.specs.Dialplans.{text_now, with_text}
-use Rattle.dp_program.specs.Files.{Source}
+use Rattle.dp_program.specs.Files.{ByteSource}
 use Rattle.dp_program.specs.Serves.{ReportsOn}
 use Rattle.dp_program.specs.declared.faulted.Faulted.{Faulted}
 use Rattle.dp_program.proofs.including_reports.list_text.Goals as goal
@@ -14,6 +14,6 @@ returns-clause-serves g c =
     let path = c.args.file.now in
     let made = with_text (g.F.ReadFiles.source_at c.args.files.now) path (text_now c.args.plan.now).text in (
       subst (λ (answered : Result ℕ Faulted). ReportsOn path (made path) list_of old new answered) (sym c.without_hint.ensures.same)
-          (subst (λ (made : List ℕ → Source). ReportsOn path (made path) list_of old new c.serve_list.result) c.made_files-made.ensures c.serve_list.ensures.serves),
+          (subst (λ (made : List ℕ → ByteSource). ReportsOn path (made path) list_of old new c.serve_list.result) c.made_files-made.ensures c.serve_list.ensures.serves),
       c.without_hint.ensures.nothing,
     )

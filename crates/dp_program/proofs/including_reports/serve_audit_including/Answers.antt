@@ -1,6 +1,6 @@
 use Rattle.std.proofs.Common.{ℕ, List, Err, sym, subst}
 use Rattle.dp_program.specs.Dialplans.{OnDialplan, ReadsDialplan}
-use Rattle.dp_program.specs.Files.{Source}
+use Rattle.dp_program.specs.Files.{ByteSource}
 use Rattle.dp_program.specs.Including.{MayTellOf}
 use Rattle.dp_program.specs.Requests.{options_of}
 use Rattle.dp_program.specs.Serves.{AuditsFileBy, AuditsText}
@@ -19,7 +19,7 @@ returns-in-Ok-Loads-clause-serves g c =
     dialplan_known Report (options_of c.args.asked.options).clock c.args.asked.file.now (MayTellOf (g.F.ReadFiles.source_at c.args.files.now) c.args.asked.file.now) _
     (λ read. OnDialplan (AuditsText c.args.asked.options.is_json (choice_of c.args.asked.choice) c.args.asked.file.now (g.F.ReadFiles.source_at c.args.files.now) old new) c.args.asked.file.now old new read c.serve_audit_by.result)
     (rw c.in-Ok-Loads.field-0-is at c.in-Ok-Loads.ensures.read)
-    (subst (λ (made : List ℕ → Source). AuditsFileBy c.args.asked.options.is_json (choice_of c.args.asked.choice) c.args.asked.file.now (made c.args.asked.file.now) old new c.serve_audit_by.result) c.made_files-made.ensures c.serve_audit_by.ensures.serves)
+    (subst (λ (made : List ℕ → ByteSource). AuditsFileBy c.args.asked.options.is_json (choice_of c.args.asked.choice) c.args.asked.file.now (made c.args.asked.file.now) old new c.serve_audit_by.result) c.made_files-made.ensures c.serve_audit_by.ensures.serves)
 
 -- the first file could not be read
 pub returns-in-Err-clause-serves : goal.returns-in-Err-clause-serves

@@ -1,6 +1,6 @@
 use Rattle.std.proofs.Common.{ℕ, List, Err, sym, subst}
 use Rattle.dp_program.specs.Dialplans.{OnDialplan, ReadsDialplan}
-use Rattle.dp_program.specs.Files.{Source}
+use Rattle.dp_program.specs.Files.{ByteSource}
 use Rattle.dp_program.specs.Including.{MayTellOf}
 use Rattle.dp_program.specs.Requests.{lookup_of, options_of}
 use Rattle.dp_program.specs.Serves.{LooksUp, LooksUpText}
@@ -20,7 +20,7 @@ returns-in-Ok-Loads-clause-serves g c =
     (dialplan_known c.look_up_use.result (options_of c.args.manner.options).clock c.args.lookup.now.file.now (MayTellOf (g.F.ReadFiles.source_at c.args.files.now) c.args.lookup.now.file.now) _
     (λ read. OnDialplan (LooksUpText (lookup_of c.args.lookup.now) (g.F.ReadFiles.source_at c.args.files.now) c.args.manner.all (options_of c.args.manner.options) old new) c.args.lookup.now.file.now old new read c.serve_match.result)
     (rw c.in-Ok-Loads.field-0-is at c.in-Ok-Loads.ensures.read)
-    (subst (λ (made : List ℕ → Source). LooksUp (lookup_of c.args.lookup.now) (made c.args.lookup.now.file.now) c.args.manner.all (options_of c.args.manner.options) old new c.serve_match.result) c.made_files-made.ensures c.serve_match.ensures.serves))
+    (subst (λ (made : List ℕ → ByteSource). LooksUp (lookup_of c.args.lookup.now) (made c.args.lookup.now.file.now) c.args.manner.all (options_of c.args.manner.options) old new c.serve_match.result) c.made_files-made.ensures c.serve_match.ensures.serves))
 
 -- the first file could not be read
 pub returns-in-Err-clause-serves : goal.returns-in-Err-clause-serves

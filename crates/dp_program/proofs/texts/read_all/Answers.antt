@@ -1,6 +1,6 @@
 use Rattle.std.proofs.Common.{◌≡◌, ◌+◌, ◌++◌, ◌∷◌, ℕ, List, [], Bor, inr, drop, get_or, map, sym, ap, subst, append_assoc, ◌∙◌}
 use Rattle.std.proofs.lemmas.List.{append-nil, drop_all, drop_more}
-use Rattle.dp_program.specs.Files.{Source}
+use Rattle.dp_program.specs.Files.{ByteSource}
 use Rattle.dp_program.specs.TestTexts.{FailsAmong, GiveAll, TestText, text_in}
 use Rattle.dp_program.proofs.texts.read_all.Goals as goal
 
@@ -11,7 +11,7 @@ path_of path = path.now
 -- what follows from the paths after this one follows from this one and those
 pub loop-path-preserved : goal.loop-path-preserved
 loop-path-preserved g c =
-    let files : List ℕ → Source = g.F.ReadFiles.source_at c.args.files.now in
+    let files : List ℕ → ByteSource = g.F.ReadFiles.source_at c.args.files.now in
     let none : Bor (List ℕ) = record { ref_ptr = (0, 0); now = [] } in
     let path : List ℕ = path_of (get_or c.args.paths.now c.loop-path.path-index none) in
     let rest : List (List ℕ) = map path_of (drop (c.loop-path.path-index + 1) c.args.paths.now) in
@@ -32,7 +32,7 @@ loop-path-preserved g c =
 -- no path is left
 pub returns-clause-ok : goal.returns-clause-ok
 returns-clause-ok g c =
-    let files : List ℕ → Source = g.F.ReadFiles.source_at c.args.files.now in
+    let files : List ℕ → ByteSource = g.F.ReadFiles.source_at c.args.files.now in
     subst (λ (all : List TestText). GiveAll files (map path_of c.args.paths.now) all) (append-nil (map text_in c.loop-path.texts.items))
     (c.loop-path.invariant.gives []
     (subst (λ (left : List (Bor (List ℕ))). GiveAll files (map path_of left) []) (sym (drop_all c.loop-path.path-index c.args.paths.now c.loop-path-test.false)) tt))

@@ -1,6 +1,6 @@
 use Rattle.std.proofs.Common.{ℕ, List, Err, sym, subst}
 use Rattle.dp_program.specs.Dialplans.{text_now}
-use Rattle.dp_program.specs.Files.{Source}
+use Rattle.dp_program.specs.Files.{ByteSource}
 use Rattle.dp_program.specs.QueueTexts.{ReadsQueues}
 use Rattle.dp_program.specs.Serves.{RunsPlan}
 use Rattle.dp_program.specs.Texts.{paths_of}
@@ -20,6 +20,6 @@ returns-in-Err-clause-serves g c =
     let manner = manner_of c.args.asked in
     let old = g.W.WriteTold.contents c.args.output.now in
     let plan = text_now c.args.first.plan.now in
-    subst (λ (faulted : Faulted). ReadsQueues files path (λ (files : List ℕ → Source). RunsPlan reading paths files manner old old plan) old old (Err faulted)) (sym c.from.ensures)
-    (queues_refused files path (λ (files : List ℕ → Source). RunsPlan reading paths files manner old old plan) old (λ files. plan_lacks reading paths files manner old plan) _
+    subst (λ (faulted : Faulted). ReadsQueues files path (λ (files : List ℕ → ByteSource). RunsPlan reading paths files manner old old plan) old old (Err faulted)) (sym c.from.ensures)
+    (queues_refused files path (λ (files : List ℕ → ByteSource). RunsPlan reading paths files manner old old plan) old (λ files. plan_lacks reading paths files manner old plan) _
     c.in-Err.ensures.path c.in-Err.ensures.read)

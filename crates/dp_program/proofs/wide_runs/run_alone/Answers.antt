@@ -1,6 +1,6 @@
 use Rattle.std.proofs.Common.{ℕ, List, None, subst}
 use Rattle.dp_program.specs.Dialplans.{text_now}
-use Rattle.dp_program.specs.Files.{Source}
+use Rattle.dp_program.specs.Files.{ByteSource}
 use Rattle.dp_program.specs.Serves.{PlacesOf, Quietly, RunsWideAsked, files_read}
 use Rattle.dp_program.specs.Texts.{paths_of, sources_of}
 use Rattle.dp_program.specs.WideRuns.{manner_of, places_of}
@@ -14,5 +14,5 @@ returns-clause-serves g c =
     let paths = paths_of c.args.asked.files.now in
     let read = files_read paths (g.F.ReadFiles.source_at c.args.files.now) (text_now c.args.plan.now) None in
     subst (λ (places : PlacesOf). Quietly (RunsWideAsked paths places (sources_of read paths) (manner_of c.args.asked) old new) c.run_made.result) c.places_alone-places.ensures
-    (subst (λ (made : List ℕ → Source). Quietly (RunsWideAsked paths (places_of c.places_alone-places.result) (sources_of made paths) (manner_of c.args.asked) old new) c.run_made.result)
+    (subst (λ (made : List ℕ → ByteSource). Quietly (RunsWideAsked paths (places_of c.places_alone-places.result) (sources_of made paths) (manner_of c.args.asked) old new) c.run_made.result)
     c.made_files-made.ensures c.run_made.ensures.serves)

@@ -5,7 +5,7 @@ use Rattle.dp_machine.specs.declared.event.Event.TheVariants.{Step}
 use Rattle.dp_wide_runs.specs.Turns.{wide_meanings}
 use Rattle.dp_test_runs.specs.Ran.{ran_by}
 use Rattle.dp_test_runs.specs.Settling.{after_step, next_to_step, ran_within, settled_within}
-use Rattle.dp_test_runs.specs.declared.ran.RanEntry.{RanEntry}
+use Rattle.dp_test_runs.specs.declared.ran_entries.RanEntry.{RanEntry}
 use Rattle.dp_test_runs.proofs.SettlingLemmas.{ran_end, ran_more, ran_none, settled_end, settled_more}
 use Rattle.dp_test_runs.proofs.settling.settle_within.Goals as goal
 

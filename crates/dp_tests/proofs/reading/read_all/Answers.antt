@@ -3,14 +3,14 @@ use Rattle.dp_conf.proofs.LinesLemmas.{parts_left, parts_left-cut, left_len, lef
 use Rattle.dp_tests.specs.Files.{fault_at, lines_after}
 use Rattle.dp_tests.specs.Meanings.{meant_at}
 use Rattle.dp_tests.specs.steps.Drafts.{drafted_after, fault_with, faults_from}
-use Rattle.dp_tests.specs.declared.draft.Draft.{Draft}
+use Rattle.dp_tests.specs.declared.draft.TestDraft.{TestDraft}
 use Rattle.dp_tests.specs.declared.fault.TestFault.{TestFault}
 use Rattle.dp_tests.specs.declared.fault.TestFaultKind.{TestFaultKind}
 use Rattle.dp_tests.specs.declared.meaning.MeantLine.{MeantLine}
 use Rattle.dp_tests.proofs.reading.read_all.Goals as goal
 
 -- one turn of the loop over the faults
-found-turn : (draft later : Draft) (found more : List TestFault) (kind : Option TestFaultKind) (line meant : MeantLine) (lines : List MeantLine)
+found-turn : (draft later : TestDraft) (found more : List TestFault) (kind : Option TestFaultKind) (line meant : MeantLine) (lines : List MeantLine)
     → meant ≡ line
     → kind ≡ fault_with draft meant.meaning
     → more ≡ found ++ fault_at line.line kind
@@ -18,7 +18,7 @@ found-turn : (draft later : Draft) (found more : List TestFault) (kind : Option 
     → more ++ faults_from later lines ≡ found ++ faults_from draft (line ∷ lines)
 found-turn draft later found more kind line meant lines same what add take =
     ap (λ (faults : List TestFault). faults ++ faults_from later lines) add
-    ∙ (ap (λ (d : Draft). (found ++ fault_at line.line kind) ++ faults_from d lines) (take ∙ ap (drafted_after draft) same)
+    ∙ (ap (λ (d : TestDraft). (found ++ fault_at line.line kind) ++ faults_from d lines) (take ∙ ap (drafted_after draft) same)
     ∙ (ap (λ (k : Option TestFaultKind). (found ++ fault_at line.line k) ++ faults_from (drafted_after draft line) lines)
     (what ∙ ap (λ (m : MeantLine). fault_with draft m.meaning) same)
     ∙ append_assoc found (fault_at line.line (fault_with draft line.meaning)) (faults_from (drafted_after draft line) lines)))
@@ -34,7 +34,7 @@ loop-rest-preserved c =
     record {
       counted = omega (arith, left_len-cut left after c.first_part.ensures.shorter, ap left_len c.in-Some.is, at.invariant.counted);
       drafted =
-          ap (λ (draft : Draft). fold drafted_after draft lines) (c.in_ok-take.ensures ∙ ap (drafted_after at.draft) c.in_ok-meant.ensures)
+          ap (λ (draft : TestDraft). fold drafted_after draft lines) (c.in_ok-take.ensures ∙ ap (drafted_after at.draft) c.in_ok-meant.ensures)
           ∙ (sym (ap (λ parts. fold drafted_after at.draft (lines_after at.number parts)) cut) ∙ at.invariant.drafted);
       found =
           found-turn at.draft c.take.new.self at.faults c.push_fault.new.faults c.fault.result (meant_at (at.number + 1) part) c.in_ok-meant.meant lines

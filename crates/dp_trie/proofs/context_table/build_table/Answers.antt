@@ -4,7 +4,7 @@ use Rattle.dp_trie.specs.steps.Labels.{AreLabels}
 use Rattle.dp_trie.specs.steps.Leaps.{AreLeaps}
 use Rattle.dp_trie.specs.Names.{known_plain}
 use Rattle.dp_trie.specs.steps.Ranked.{known_now}
-use Rattle.dp_trie.specs.Tree.{AreLinked, known_from}
+use Rattle.dp_trie.specs.Tree.{HaveEnds, known_from}
 use Rattle.dp_trie.specs.declared.node.HeldEntry.{HeldEntry}
 use Rattle.dp_trie.proofs.TableLemmas.{order-parts, whole-known, names-known, tree-known, names-order, names-ranges, is-tree, tree-size}
 use Rattle.dp_trie.proofs.context_table.build_table.Goals as goal
@@ -18,7 +18,7 @@ invariant_of-result c =
     let held = c.in_ok-held.ensures {u = tt} in
     let known = c.in_ok-names.ensures.known in
     let tree = c.in_ok-nodes.ensures.known in
-    let linked = subst (λ nodes. AreLinked nodes c.in_ok-ends.ends.items) c.deref.ensures.value (c.in_ok-ends.ensures {u = tt}) in
+    let linked = subst (λ nodes. HaveEnds nodes c.in_ok-ends.ends.items) c.deref.ensures.value (c.in_ok-ends.ensures {u = tt}) in
     let entries =
     ap (λ l. l ++ known_from c.in_ok-held.held.items [] c.in_ok-nodes.nodes.items) (names-known first c.in_ok-plain.plain.items c.in_ok-names.names.items plain known)
     ∙ (ap (λ l. map known_now first ++ l) (tree-known rest c.in_ok-held.held.items c.in_ok-nodes.nodes.items held tree)

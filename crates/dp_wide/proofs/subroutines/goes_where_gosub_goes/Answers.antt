@@ -3,12 +3,12 @@ use Rattle.std.proofs.Common.{◌≡◌, ℕ, ◌-◌, List, Option, Some, None,
 use Rattle.dp_conf.specs.Levels.{arguments_of}
 use Rattle.dp_app.specs.Cells.{CellOf}
 use Rattle.dp_flow.specs.Jumps as jumps
-use Rattle.dp_flow.specs.Jumps.{SubroutineCall, enter_subroutine, subroutine_call}
+use Rattle.dp_flow.specs.Jumps.{SubroutineCallOf, enter_subroutine, subroutine_call}
 use Rattle.dp_wide.specs.Subroutines as spec
 use Rattle.dp_wide.specs.Subroutines.{enter_counted}
 use Rattle.dp_wide.proofs.subroutines.goes_where_gosub_goes.Goals as goal
 
-same_move : (cell : CellOf) (front : List (List ℕ)) (o : Option SubroutineCall) → (enter_counted cell front o).next ≡ (enter_subroutine cell front o).next
+same_move : (cell : CellOf) (front : List (List ℕ)) (o : Option SubroutineCallOf) → (enter_counted cell front o).next ≡ (enter_subroutine cell front o).next
 same_move cell front None = refl
 same_move cell front (Some c) = refl
 

@@ -6,7 +6,7 @@ use Rattle.dp_closed.specs.Reach.{areas_in}
 use Rattle.dp_closed.specs.Shown.{shown_area}
 use Rattle.dp_closed.specs.Steps.{Closes, IsEntryIn}
 use Rattle.dp_lookup.specs.SearchOrder.{has, search_order}
-use Rattle.dp_pieces.specs.Pieces.{Piece, exactly}
+use Rattle.dp_pieces.specs.Pieces.{PieceOf, exactly}
 use Rattle.dp_pieces.specs.Shown.{shown_all}
 use Rattle.dp_plan.specs.declared.entry.EntryId.{EntryId}
 use Rattle.dp_reach.specs.Areas.{Area, Includes, area_at}
@@ -28,8 +28,8 @@ returns g c =
     (λ yes closed is name exact ordered settings are. record {
       named = subst (λ (a : Area). IsNamed (kept_claim c.args.self.claim settings) a)
           (λ i. area_at (shown_all (c.deref.ensures.value i)) (shown_all (c.deref-2.ensures.value i))) (c.is_area_named.ensures c.if-not-is_area_named.false settings);
-      hang = subst (λ (ps : List Piece). Includes plan reach (area_at ps (exactly (codes "h")))) (ap shown_all c.deref-3.ensures.value) (c.in_ok-has_letter.ensures c.if-not-branch.false);
-      invalid = subst (λ (ps : List Piece). Includes plan reach (area_at ps (exactly (codes "i")))) (ap shown_all c.deref-4.ensures.value) (c.in_ok-has_letter-2.ensures c.if-not-branch-2.false);
+      hang = subst (λ (ps : List PieceOf). Includes plan reach (area_at ps (exactly (codes "h")))) (ap shown_all c.deref-3.ensures.value) (c.in_ok-has_letter.ensures c.if-not-branch.false);
+      invalid = subst (λ (ps : List PieceOf). Includes plan reach (area_at ps (exactly (codes "i")))) (ap shown_all c.deref-4.ensures.value) (c.in_ok-has_letter-2.ensures c.if-not-branch-2.false);
       entries = λ id entry may. closed is settings are id
           (subst (λ (order : List ℕ). has order id.context ≡ true) (sym ordered) (searched-in plan area name id entry exact may)) entry may;
     }) c.has_order.ensures

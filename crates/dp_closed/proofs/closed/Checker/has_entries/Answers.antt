@@ -6,7 +6,7 @@ use Rattle.dp_closed.specs.Shown.{shown_area}
 use Rattle.dp_closed.specs.Steps.{Closes, IsEntryIn, answers_of}
 use Rattle.dp_closed.specs.declared.finding.Meeting.{Meeting}
 use Rattle.dp_reach.specs.Bounds.{Obligations, obligations}
-use Rattle.dp_closed.proofs.ClosedLemmas.{below-more, none-behind, there-in, unfound}
+use Rattle.dp_closed.proofs.ClosedLemmas.{below-more, none-behind, there-in, not_in_context}
 use Rattle.dp_closed.proofs.FoundLemmas.{unmatched-unfound}
 use Rattle.dp_closed.proofs.closed.Checker.has_entries.Goals as goal
 
@@ -35,7 +35,7 @@ loop-place-preserved-then-is_excluded g c =
       met = c.loop-place.invariant.met;
       closed = below-more (λ k. Closes c.args.self (λ claim answers. IsEntryIn owing claim answers area (record { context = c.args.number; entry = k }))) c.loop-place.place
           c.loop-place.invariant.closed (λ settings are other may. absurd (
-          unfound c.args.self.claim.plan.now area.context area.exten (record { context = c.args.number; entry = c.loop-place.place }) entry other c.entries_at-entries.result.now
+          not_in_context c.args.self.claim.plan.now area.context area.exten (record { context = c.args.number; entry = c.loop-place.place }) entry other c.entries_at-entries.result.now
           (there-in c.args.self.claim.plan.now c.args.number c.loop-place.place entry c.entries_at-entries.result.now c.entries_at-entries.ensures
           c.loop-place-test.true c.index-entries-place.is) c.entries_at-entries.ensures (unmatched-unfound c.entries_at-entries.result.now entry area.exten unmatched) may));
     }

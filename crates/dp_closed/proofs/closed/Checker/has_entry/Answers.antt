@@ -9,13 +9,13 @@ use Rattle.dp_plan.specs.Lookup.{entry_at}
 use Rattle.dp_reach.specs.Areas.{Area}
 use Rattle.dp_reach.specs.Closed.{IsEntry}
 use Rattle.dp_reach.specs.Bounds.{Obligations, obligations}
-use Rattle.dp_closed.proofs.ClosedLemmas.{found-entry, unfound}
+use Rattle.dp_closed.proofs.ClosedLemmas.{found-entry, not_in_context}
 use Rattle.dp_closed.proofs.closed.Checker.has_entry.Goals as goal
 
 pub returns-in_default : goal.returns-in_default
 returns-in_default g c = λ yes there area met same settings are entry may.
-    absurd (unfound c.args.self.claim.plan.now area.context area.exten c.args.id c.args.entry.now entry c.entries_at-entries.result.now there c.entries_at-entries.ensures
-    (MatchOption-at_none _ _ c.in_default.is (c.found.ensures area met same)) may)
+    absurd (not_in_context c.args.self.claim.plan.now area.context area.exten c.args.id c.args.entry.now entry c.entries_at-entries.result.now there c.entries_at-entries.ensures
+    (MatchOption-at_none _ _ c.in_default.is (c.found_area.ensures area met same)) may)
 
 pub returns : goal.returns
 returns g c =
@@ -26,5 +26,5 @@ returns g c =
     → c.args.entry.now.name ≡ c.args.meeting.now.name.now → Closes c.args.self (λ claim answers. IsEntryIn owing claim answers area c.args.id))
     (λ yes closed is there area met same settings are.
     found-entry owing (kept_claim c.args.self.claim settings) (answers_of c.args.self) area (shown_area c.in-Some.met.now) c.args.id c.args.entry.now there
-    (MatchOption-at_some _ _ c.in-Some.met c.in-Some.is (c.found.ensures area met same)) (closed is settings are))
+    (MatchOption-at_some _ _ c.in-Some.met c.in-Some.is (c.found_area.ensures area met same)) (closed is settings are))
     c.has_met.ensures

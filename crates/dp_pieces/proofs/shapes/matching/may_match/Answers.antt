@@ -6,7 +6,7 @@ use Rattle.dp_pieces.specs.Sets.{set_by}
 use Rattle.dp_pieces.specs.ShapeSteps.{AreAllBytes}
 use Rattle.dp_pieces.specs.Shown.{shown_all}
 use Rattle.dp_pieces.proofs.ShapeLemmas.{name-bytes}
-use Rattle.dp_pieces.proofs.TakesLemmas.{unmatched, unmatched-dashed}
+use Rattle.dp_pieces.proofs.TakesLemmas.{missed_name_differs, unmatched-dashed}
 use Rattle.dp_pieces.proofs.shapes.matching.may_match.Goals as goal
 
 pub may_hold-requires : goal.may_hold-requires
@@ -21,5 +21,5 @@ returns-then-may_have c =
 
 pub returns : goal.returns
 returns c =
-    λ is. unmatched (shown_all c.args.pieces.now) (pieces_set (shown_all c.args.pieces.now)) c.args.name.now (parts_meaning c.parts-2.result) (λ b. refl) (sym c.may_have.ensures ∙ c.if-may_have.false)
+    λ is. missed_name_differs (shown_all c.args.pieces.now) (pieces_set (shown_all c.args.pieces.now)) c.args.name.now (parts_meaning c.parts-2.result) (λ b. refl) (sym c.may_have.ensures ∙ c.if-may_have.false)
     c.parts-2.ensures.value (c.may_meet.ensures is)
