@@ -3,7 +3,7 @@ ghost use Rattle.std.specs.Prelude.{◌≡◌};
 ghost use Rattle.std.specs.Option.{unwrap_or};
 ghost use Rattle.dp_answer.specs.Asks.{ask_of, usual_caller, usual_exten};
 
-use crate::asked::{USUAL_CALLER, USUAL_EXTEN, given_or};
+use crate::ask_parts::{USUAL_CALLER, USUAL_EXTEN, given_or};
 
 /// The question on a dialplan about phone calls that come in at a context.
 #[derive(Clone, Copy, Debug, PartialEq, Eq)]

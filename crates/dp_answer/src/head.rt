@@ -5,7 +5,7 @@ ghost use Rattle.dp_answer.specs.Asks.{ask_of};
 ghost use Rattle.dp_answer.specs.Reports as spec;
 
 use crate::ask::Ask;
-use crate::asked::{USUAL_CALLER, USUAL_EXTEN, given_or};
+use crate::ask_parts::{USUAL_CALLER, USUAL_EXTEN, given_or};
 use dp_conf::NoMemory;
 
 /// Adds a name after a blank.

@@ -3,14 +3,14 @@
 
 mod answer;
 mod ask;
-mod asked;
+mod ask_parts;
 mod chain;
 mod head;
 mod jumps;
 mod names;
 mod ranges;
 mod reach_answer;
-mod reached;
+mod reach_entries;
 mod report;
 mod route;
 mod search;
@@ -23,5 +23,5 @@ mod ways;
 
 pub use ask::Ask;
 pub use reach_answer::{ReachAnswer, ReachFinding, ReachedContext, answer_on};
-pub use reached::reached_entries;
+pub use reach_entries::reached_entries;
 pub use report::{Report, report_on};

@@ -9,7 +9,7 @@ ghost use Rattle.dp_answer.specs.Steps.{IsToldBy, IsToldOn};
 ghost use Rattle.dp_closed.specs.Answers.{answers_in};
 
 use crate::ask::Ask;
-use crate::reached::push_answers_at;
+use crate::reach_entries::push_answers_at;
 use crate::report::{chain_at, may_reach};
 use crate::terms::Terms;
 use crate::text_lines::lines_of;

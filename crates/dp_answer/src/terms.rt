@@ -6,7 +6,7 @@ ghost use Rattle.dp_answer.specs.Steps.{AreTermsIfAny, IsFoundBy};
 
 use crate::answer::{OutsideQuestion, answer};
 use crate::ask::Ask;
-use crate::asked::{is_lacking, outside_of};
+use crate::ask_parts::{is_lacking, outside_of};
 use crate::trails::Found;
 use crate::ways::ways_of;
 use dp_closed::{DutyTable, KeptOutside};

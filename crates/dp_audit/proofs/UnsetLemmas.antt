@@ -12,7 +12,7 @@ use Rattle.dp_plan.specs.Plan.{PlanOf}
 use Rattle.dp_plan.specs.declared.entry.Entry.{Entry}
 use Rattle.dp_audit.specs.Unset.{Adds, AreSet, argument_name, argument_names, has_set, is_given, lacks, name_after, names_read, unset_names}
 use Rattle.dp_audit.specs.declared.finding.Finding.{Finding}
-use Rattle.dp_audit.specs.declared.unset.SetNames.{SetNames}
+use Rattle.dp_audit.specs.declared.unset_variables.SetNames.{SetNames}
 
 -- no name
 pub adds_none : (noted : SetNames) → Adds noted noted []

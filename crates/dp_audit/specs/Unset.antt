@@ -10,7 +10,7 @@ use Rattle.dp_plan.specs.Plan.{PlanOf}
 use Rattle.dp_plan.specs.declared.entry.Entry.{Entry}
 use Rattle.dp_audit.specs.Targets.{jump_of, targets_in}
 use Rattle.dp_audit.specs.declared.jump.Jump.{Jump}
-use Rattle.dp_audit.specs.declared.unset.SetNames.{SetNames}
+use Rattle.dp_audit.specs.declared.unset_variables.SetNames.{SetNames}
 
 -- whether a byte ends a name; `stops_name`: whether it ends a name, or the bytes before it are none
 abbrev pub ends_name : ℕ → Bool

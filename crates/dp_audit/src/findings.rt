@@ -10,14 +10,14 @@ ghost use Rattle.dp_plan.specs.Lookup.{entry_at};
 use crate::finder::PlanFinder;
 use crate::finding::Finding;
 use crate::gap::{is_gap, lacks_first};
-use crate::hidden::{Hidings, push_hidden};
+use crate::hidden_entries::{Hidings, push_hidden};
 use crate::labels::Naming;
 use crate::names::AppNames;
 use crate::neighbours::{entries_at, greater_marks, lower_marks};
 use crate::order::name_at;
 use crate::scene::{PlanKnowledge, Scene};
 use crate::target::push_missing;
-use crate::unset::{SetNames, push_unset};
+use crate::unset_variables::{SetNames, push_unset};
 use dp_plan::{Dialplan, Entry, EntryId, NoMemory, Text};
 use std::alloc::Global;
 

@@ -1,8 +1,8 @@
 //! The data with which the entries of a context are examined.
-use crate::hidden::Hidings;
+use crate::hidden_entries::Hidings;
 use crate::labels::Naming;
 use crate::spelling::Spelling;
-use crate::unset::SetNames;
+use crate::unset_variables::SetNames;
 use dp_plan::Text;
 use indexmap::IndexSet;
 

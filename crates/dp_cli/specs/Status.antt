@@ -15,7 +15,7 @@ use Rattle.dp_program.specs.Hints.{status_in}
 use Rattle.dp_program.specs.Requests.{OptionsOf, RequestOf}
 use Rattle.dp_program.specs.Serves.{Serves}
 use Rattle.dp_program.specs.Status.{Prints, status_after}
-use Rattle.dp_program.specs.declared.faulted.Faulted.{Faulted}
+use Rattle.dp_program.specs.declared.fault_places.Faulted.{Faulted}
 use Rattle.dp_program.specs.declared.hints.ServedRequest.{ServedRequest}
 
 -- the status if the words are not a request: 0 if they ask for help, and 2 for a mistake

@@ -6,7 +6,7 @@ use Rattle.dp_closed.specs.Answers.{answers_in, shown_outside}
 use Rattle.dp_closed.specs.Claimed.{AreWays, kept_claim}
 use Rattle.dp_closed.specs.Reach.{areas_in}
 use Rattle.dp_closed.specs.declared.audit.Audit.{Audit}
-use Rattle.dp_closed.specs.declared.closed.Checker.{Checker}
+use Rattle.dp_closed.specs.declared.claim_check.Checker.{Checker}
 use Rattle.dp_closed.specs.declared.shapes.Shapes.{Shapes}
 use Rattle.dp_closed.specs.declared.shapes.Shapes.TheVariants.{Nothing, One, Two}
 use Rattle.dp_machine.specs.Codes.{status_name}

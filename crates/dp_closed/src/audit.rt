@@ -13,7 +13,7 @@ ghost use Rattle.dp_reach.specs.Audits.{IsAudit, IsGlobalWithin, RunsOnly, entra
 ghost use Rattle.dp_reach.specs.Bounds.{obligations};
 
 use crate::claim::KeptClaim;
-use crate::closed::exact_pieces;
+use crate::claim_check::exact_pieces;
 use crate::duty_table::DutyTable;
 use crate::marks::Marks;
 use crate::outside::KeptOutside;

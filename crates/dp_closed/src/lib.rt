@@ -4,12 +4,12 @@
 mod area;
 mod audit;
 mod claim;
-mod closed;
+mod claim_check;
+mod claim_names;
 mod duty;
 mod duty_table;
 mod finding;
 mod marks;
-mod named;
 mod outside;
 mod reach;
 mod rows;

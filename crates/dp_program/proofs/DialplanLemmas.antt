@@ -13,8 +13,8 @@ use Rattle.dp_program.specs.Faulted.{in_file, nowhere, place_unread, unread_faul
 use Rattle.dp_program.specs.Files.{Reads, ByteSource, source, whole_text}
 use Rattle.dp_program.specs.Including.{MayTellOf}
 use Rattle.dp_program.specs.declared.dialplans.PlanUse.{PlanUse}
-use Rattle.dp_program.specs.declared.faulted.Faulted.{Faulted}
-use Rattle.dp_program.specs.declared.faulted.Unread.{Unread}
+use Rattle.dp_program.specs.declared.fault_places.Faulted.{Faulted}
+use Rattle.dp_program.specs.declared.fault_places.Unread.{Unread}
 use Rattle.dp_program.specs.declared.hints.ServedRequest.{ServedRequest}
 use Rattle.dp_program.proofs.ReadsLemmas.{by_reason}
 

@@ -14,8 +14,8 @@ use Rattle.dp_diff.specs.Printing.{text_of}
 use Rattle.dp_program.specs.Diffs.{DiffsFiles, LoadsFrom, OnBoth, OnBothOf, WritesDiff, both_plans, first_place, place_of_diff, plan_in, plan_read, status_of}
 use Rattle.dp_program.specs.Faulted.{PlaceOf, StandsIn, in_none, nowhere, place_in_file, place_of, place_of_report, place_unread, unread_fault, unread_place, without_place}
 use Rattle.dp_program.specs.Files.{Reads, ByteSource}
-use Rattle.dp_program.specs.declared.faulted.Faulted.{Faulted}
-use Rattle.dp_program.specs.declared.faulted.Unread.{Unread}
+use Rattle.dp_program.specs.declared.fault_places.Faulted.{Faulted}
+use Rattle.dp_program.specs.declared.fault_places.Unread.{Unread}
 use Rattle.dp_program.proofs.ReadsLemmas.{Reads-any, Reads-weaker, by_reason}
 
 -- ---- out of memory

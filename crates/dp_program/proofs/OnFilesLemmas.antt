@@ -10,8 +10,8 @@ use Rattle.dp_program.specs.Faulted.{StandsIn, unread_fault, unread_place, witho
 use Rattle.dp_program.specs.Files.{Reads, ByteSource}
 use Rattle.dp_program.specs.PlanAndQueues.{OnFiles, contents_in, place_of_files, place_over}
 use Rattle.dp_program.specs.Texts.{ReadsSome, some_text}
-use Rattle.dp_program.specs.declared.faulted.Faulted.{Faulted}
-use Rattle.dp_program.specs.declared.faulted.Unread.{Unread}
+use Rattle.dp_program.specs.declared.fault_places.Faulted.{Faulted}
+use Rattle.dp_program.specs.declared.fault_places.Unread.{Unread}
 use Rattle.dp_program.proofs.ReadsLemmas.{Reads-weaker, ReadsSome-any, Refuses-next}
 use Rattle.dp_program.proofs.ServesLemmas.{lacks_files_place, refused_first_place, refused_report_place, refused_second_place, unread_stands}
 

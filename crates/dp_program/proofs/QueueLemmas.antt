@@ -13,8 +13,8 @@ use Rattle.dp_program.specs.Faulted.{in_file, nowhere, place_unread, unread_faul
 use Rattle.dp_program.specs.Files.{ByteSource}
 use Rattle.dp_program.specs.Including.{MayTellOf}
 use Rattle.dp_program.specs.QueueTexts.{OnQueues, QueuesRead, ReadsQueues, given, queues_read, unread as unread_lines}
-use Rattle.dp_program.specs.declared.faulted.Faulted.{Faulted}
-use Rattle.dp_program.specs.declared.faulted.Unread.{Unread}
+use Rattle.dp_program.specs.declared.fault_places.Faulted.{Faulted}
+use Rattle.dp_program.specs.declared.fault_places.Unread.{Unread}
 use Rattle.dp_program.specs.declared.hints.ServedRequest.{ServedRequest}
 use Rattle.dp_program.proofs.ReadsLemmas.{by_reason}
 

@@ -42,8 +42,8 @@ use Rattle.dp_program.specs.ScriptAssumptions.{look_up_use, text_assumptions}
 use Rattle.dp_program.specs.TestSuites.{manner_of}
 use Rattle.dp_program.specs.Texts.{OfRun, ReadsTexts, all_texts, sources_of}
 use Rattle.dp_program.specs.declared.dialplans.PlanUse.TheVariants.{Report, Run as to_run}
-use Rattle.dp_program.specs.declared.faulted.Faulted.{Faulted}
-use Rattle.dp_program.specs.declared.faulted.Unread.{Unread}
+use Rattle.dp_program.specs.declared.fault_places.Faulted.{Faulted}
+use Rattle.dp_program.specs.declared.fault_places.Unread.{Unread}
 use Rattle.dp_program.specs.declared.hints.ServedRequest.{ServedRequest}
 use Rattle.dp_plan.specs.Plan.{PlanOf}
 use Rattle.dp_wide_runs.specs.Debugging.{WideDebug}

@@ -10,8 +10,8 @@ use Rattle.dp_program.specs.Faulted.{in_file, in_none, nowhere, place_of, place_
 use Rattle.dp_program.specs.Files.{ByteSource}
 use Rattle.dp_program.specs.TestSuites.{AfterRead, LosesBy, MannerOf, MayReport, TestReportOf, TestsAfter, WritesMade, WritesReport, report_now}
 use Rattle.dp_program.specs.TestTexts.{FailsAmong, GiveAll, TestText, text_at}
-use Rattle.dp_program.specs.declared.faulted.Faulted.{Faulted}
-use Rattle.dp_program.specs.declared.faulted.Unread.{Unread}
+use Rattle.dp_program.specs.declared.fault_places.Faulted.{Faulted}
+use Rattle.dp_program.specs.declared.fault_places.Unread.{Unread}
 use Rattle.dp_program.specs.declared.hints.ServedRequest.{ServedRequest}
 use Rattle.dp_program.specs.declared.test_reports.TestReport.{TestReport}
 use Rattle.dp_program.proofs.ReadsLemmas.{by_reason, Reads-any, Reads-weaker}

@@ -25,7 +25,7 @@ use Rattle.dp_program.specs.declared.dialplans.PlanUse.{PlanUse}
 use Rattle.dp_program.specs.declared.dialplans.PlanUse.TheVariants.{Report, LookUp, Run}
 use Rattle.dp_program.specs.declared.dialplans.ReadDialplan.{ReadDialplan}
 use Rattle.dp_program.specs.declared.dialplans.ReadDialplan.TheVariants.{Loads, Faulty}
-use Rattle.dp_program.specs.declared.faulted.Faulted.{Faulted}
+use Rattle.dp_program.specs.declared.fault_places.Faulted.{Faulted}
 use Rattle.dp_program.specs.declared.hints.ServedRequest.{ServedRequest}
 use Rattle.dp_wide.specs.Times.{moment_of}
 use Rattle.dp_wide.specs.declared.times.Moment.{Moment}

@@ -14,7 +14,7 @@ use Rattle.dp_diff.specs.Differences.{Difference, differences}
 use Rattle.dp_diff.specs.Printing.{text_of}
 use Rattle.dp_program.specs.Faulted.{PlaceOf, StandsIn, in_none, place_of_report, without_place}
 use Rattle.dp_program.specs.Files.{Reads, ByteSource}
-use Rattle.dp_program.specs.declared.faulted.Faulted.{Faulted}
+use Rattle.dp_program.specs.declared.fault_places.Faulted.{Faulted}
 
 -- the dialplan that a text holds, or the text's fault
 abbrev pub plan_in : List ℕ → Result PlanOf PbxFault

@@ -7,10 +7,10 @@ use Rattle.dp_commands.specs.declared.fault.Code.TheVariants.{Line, Name, Plan, 
 use Rattle.dp_commands.specs.declared.fault.PbxFault.{PbxFault}
 use Rattle.dp_commands.specs.declared.fault.PbxFault.TheVariants.{Coded, NoMemory}
 use Rattle.dp_program.specs.Texts.{OfRun, all_texts, some_text}
-use Rattle.dp_program.specs.declared.faulted.Faulted.{Faulted}
-use Rattle.dp_program.specs.declared.faulted.FaultPlace.{FaultPlace}
-use Rattle.dp_program.specs.declared.faulted.FaultPlace.TheVariants.{InLine, InFile, Nowhere}
-use Rattle.dp_program.specs.declared.faulted.Unread.{Unread}
+use Rattle.dp_program.specs.declared.fault_places.Faulted.{Faulted}
+use Rattle.dp_program.specs.declared.fault_places.FaultPlace.{FaultPlace}
+use Rattle.dp_program.specs.declared.fault_places.FaultPlace.TheVariants.{InLine, InFile, Nowhere}
+use Rattle.dp_program.specs.declared.fault_places.Unread.{Unread}
 
 -- the place of a fault: a line of a file that was read, a file that could not be read, or no place
 pub data PlaceOf : Type 0 where

@@ -27,7 +27,7 @@ use Rattle.dp_program.specs.PlanQuestions.{OverIncluded}
 use Rattle.dp_program.specs.Reaches.{told_of_name}
 use Rattle.dp_program.specs.Requests.{DrawingOf}
 use Rattle.dp_program.specs.declared.dialplans.PlanUse.TheVariants.{Report}
-use Rattle.dp_program.specs.declared.faulted.Faulted.{Faulted}
+use Rattle.dp_program.specs.declared.fault_places.Faulted.{Faulted}
 use Rattle.dp_program.specs.declared.hints.ServedRequest.{ServedRequest}
 
 -- the way out of a queue with a name to a context; no context is none

@@ -15,7 +15,7 @@ use Rattle.dp_notices.specs.QueueFiles.{QueueFilesOf, queues_of}
 use Rattle.dp_program.specs.Faulted.{PlaceOf, StandsIn, in_none, unread_place, without_place}
 use Rattle.dp_program.specs.Files.{ByteSource}
 use Rattle.dp_program.specs.JsonChecks.{both_lines, plan_lines, queues_lines}
-use Rattle.dp_program.specs.declared.faulted.Faulted.{Faulted}
+use Rattle.dp_program.specs.declared.fault_places.Faulted.{Faulted}
 use Rattle.dp_wide.specs.declared.times.Moment.{Moment}
 
 -- the text is the bytes of a file, if these are known

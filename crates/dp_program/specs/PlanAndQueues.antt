@@ -7,7 +7,7 @@ use Rattle.dp_commands.specs.declared.fault.PbxFault.{PbxFault}
 use Rattle.dp_program.specs.Faulted.{PlaceOf, StandsIn, place_in_file, place_in_two, place_of_report, place_of_two, without_place}
 use Rattle.dp_program.specs.Files.{Reads, ByteSource}
 use Rattle.dp_program.specs.Texts.{ReadsSome, some_text}
-use Rattle.dp_program.specs.declared.faulted.Faulted.{Faulted}
+use Rattle.dp_program.specs.declared.fault_places.Faulted.{Faulted}
 
 -- the place of a fault, given the results of reading the dialplan and the queue file, if one is named
 abbrev pub place_of_files : List ℕ → Option (List ℕ) → Result (List ℕ) PbxFault → Option (Result (List ℕ) PbxFault) → PbxFault → PlaceOf

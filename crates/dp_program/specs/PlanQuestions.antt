@@ -5,7 +5,7 @@ use Rattle.dp_program.specs.Files.{ByteSource}
 use Rattle.dp_program.specs.QueueTexts.{ReadsQueues}
 use Rattle.dp_program.specs.declared.dialplans.PlanUse.{PlanUse}
 use Rattle.dp_program.specs.declared.dialplans.PlanUse.TheVariants.{Report}
-use Rattle.dp_program.specs.declared.faulted.Faulted.{Faulted}
+use Rattle.dp_program.specs.declared.fault_places.Faulted.{Faulted}
 use Rattle.dp_program.specs.declared.hints.ServedRequest.{ServedRequest}
 
 -- the output and result of a question, given the files, and the contents of the output before and after

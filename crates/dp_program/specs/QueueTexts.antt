@@ -10,7 +10,7 @@ use Rattle.dp_notices.specs.declared.printing.Shown.TheVariants.{All}
 use Rattle.dp_program.specs.Dialplans.{FailsToRead, TellsFaults, with_text}
 use Rattle.dp_program.specs.Files.{ByteSource}
 use Rattle.dp_program.specs.Including.{MayTellOf, reading_fault}
-use Rattle.dp_program.specs.declared.faulted.Faulted.{Faulted}
+use Rattle.dp_program.specs.declared.fault_places.Faulted.{Faulted}
 use Rattle.dp_program.specs.declared.hints.ServedRequest.{ServedRequest}
 use Rattle.dp_program.specs.declared.queue_texts.ReadQueues.{ReadQueues}
 use Rattle.dp_program.specs.declared.queue_texts.ReadQueues.TheVariants.{Given, Unread}

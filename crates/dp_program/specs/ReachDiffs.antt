@@ -18,7 +18,7 @@ use Rattle.dp_program.specs.Meanings.{wide_meanings}
 use Rattle.dp_program.specs.PlanQuestions.{OverBothIncluded, Serving}
 use Rattle.dp_program.specs.Reaches.{told_of_name}
 use Rattle.dp_program.specs.Requests.{ReachDiffOf}
-use Rattle.dp_program.specs.declared.faulted.Faulted.{Faulted}
+use Rattle.dp_program.specs.declared.fault_places.Faulted.{Faulted}
 use Rattle.dp_program.specs.declared.hints.ServedRequest.{ServedRequest}
 
 -- ---- what is reached

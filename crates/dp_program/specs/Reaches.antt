@@ -25,7 +25,7 @@ use Rattle.dp_json.specs.Reaches.{reach_text}
 use Rattle.dp_program.specs.Requests.{OptionsOf, QuestionOf}
 use Rattle.dp_queue.specs.declared.settings.Settings.{Settings}
 use Rattle.dp_program.specs.ScriptAssumptions.{look_up_use}
-use Rattle.dp_program.specs.declared.faulted.Faulted.{Faulted}
+use Rattle.dp_program.specs.declared.fault_places.Faulted.{Faulted}
 use Rattle.dp_program.specs.declared.hints.ServedRequest.{ServedRequest}
 
 -- the hint on the name of a context in a file

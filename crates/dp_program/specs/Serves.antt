@@ -35,7 +35,7 @@ use Rattle.dp_notices.specs.declared.printing.Assumptions.{Assumptions}
 use Rattle.dp_program.specs.ScriptAssumptions.{look_up_use, text_assumptions}
 use Rattle.dp_program.specs.Texts.{OfRun, ReadsTexts, all_texts, sources_of}
 use Rattle.dp_program.specs.declared.dialplans.PlanUse.TheVariants.{Report, Run as to_run}
-use Rattle.dp_program.specs.declared.faulted.Faulted.{Faulted}
+use Rattle.dp_program.specs.declared.fault_places.Faulted.{Faulted}
 use Rattle.dp_program.specs.declared.hints.ServedRequest.{ServedRequest}
 use Rattle.dp_plan.specs.Plan.{PlanOf}
 use Rattle.dp_unmodelled.specs.Report.{unmodelled_of}

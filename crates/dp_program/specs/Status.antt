@@ -7,7 +7,7 @@ use Rattle.dp_commands.specs.declared.fault.PbxFault.{PbxFault}
 use Rattle.dp_commands.specs.declared.fault.PbxFault.TheVariants.{Coded, NoMemory}
 use Rattle.dp_program.specs.Entries.{said_of}
 use Rattle.dp_program.specs.Faulted.{PlaceOf, in_line, in_file, in_none, place_of}
-use Rattle.dp_program.specs.declared.faulted.Faulted.{Faulted}
+use Rattle.dp_program.specs.declared.fault_places.Faulted.{Faulted}
 use Rattle.dp_program.specs.declared.hints.ServedRequest.{ServedRequest}
 
 -- the status of a result: that of an answer, and 1 for a fault

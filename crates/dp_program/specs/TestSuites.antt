@@ -24,7 +24,7 @@ use Rattle.dp_program.specs.Files.{Reads, ByteSource}
 use Rattle.dp_program.specs.Graphs.{exits_of}
 use Rattle.dp_program.specs.TestFiles.{AreInputs, InputsOf, InputsRead, IsTested, fault_lines, fault_of_texts, inputs_of, lacking, ready}
 use Rattle.dp_program.specs.TestTexts.{TestText, text_at}
-use Rattle.dp_program.specs.declared.faulted.Faulted.{Faulted}
+use Rattle.dp_program.specs.declared.fault_places.Faulted.{Faulted}
 use Rattle.dp_program.specs.declared.hints.ServedRequest.{ServedRequest}
 use Rattle.dp_program.specs.declared.test_reports.TestManner.{TestManner}
 use Rattle.dp_program.specs.declared.test_reports.TestReport.{TestReport}

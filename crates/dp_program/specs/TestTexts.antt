@@ -3,7 +3,7 @@ use Rattle.std.specs.Prelude.{◌≡◌, ◌⊎◌, ℕ, List, [], ◌∷◌, Ok
 use Rattle.dp_conf.specs.Answers.{Refuses}
 use Rattle.dp_commands.specs.Faults.{reason_of}
 use Rattle.dp_program.specs.Files.{Reads, ByteSource}
-use Rattle.dp_program.specs.declared.faulted.Unread.{Unread}
+use Rattle.dp_program.specs.declared.fault_places.Unread.{Unread}
 use Rattle.dp_program.specs.declared.texts.TextWithPath.{TextWithPath}
 
 -- the path and the text of a test file

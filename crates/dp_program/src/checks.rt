@@ -8,7 +8,7 @@ ghost use Rattle.dp_program.specs.Checks as spec;
 ghost use Rattle.dp_program.specs.Faulted.{without_place};
 ghost use Rattle.dp_program.specs.Serves.{ChecksBoth, ReportsOn};
 
-use crate::faulted::{Faulted, placed_in_two, with_place};
+use crate::fault_places::{Faulted, placed_in_two, with_place};
 use crate::files::ReadFiles;
 use crate::json_checks::check_json;
 use crate::options::Options;

@@ -13,7 +13,7 @@ ghost use Rattle.dp_program.specs.Faulted.{unread_reason};
 ghost use Rattle.dp_program.specs.Files.{is_read_fault};
 ghost use Rattle.dp_program.specs.Including.{MayTellOf};
 
-use crate::faulted::Unread;
+use crate::fault_places::Unread;
 use crate::files::ReadFiles;
 use crate::hints::ServedRequest;
 use crate::including::reading_fault;

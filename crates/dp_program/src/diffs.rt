@@ -8,7 +8,7 @@ ghost use Rattle.dp_program.specs.Faulted.{without_place};
 ghost use Rattle.dp_program.specs.Files.{Reads};
 ghost use Rattle.dp_program.specs.Serves as serves;
 
-use crate::faulted::{Faulted, placed_nowhere, with_place};
+use crate::fault_places::{Faulted, placed_nowhere, with_place};
 use crate::files::ReadFiles;
 use crate::hints::{ServedRequest, without_hint};
 use crate::plan_pairs::{AskingBoth, answer_both_including};

@@ -11,7 +11,7 @@ ghost use Rattle.dp_program.specs.Hints.{status_in};
 ghost use Rattle.dp_program.specs.Status as spec;
 
 use crate::entries::{kind_of, sentence_of};
-use crate::faulted::{FaultPlace, Faulted};
+use crate::fault_places::{FaultPlace, Faulted};
 use crate::hints::ServedRequest;
 use dp_commands::{Code, FileLine, PbxFault};
 use dp_conf::{WriteFailed, WriteTold};

@@ -15,7 +15,7 @@ ghost use Rattle.dp_table.specs.Standard.{standard_meanings};
 ghost use Rattle.dp_program.specs.Requests.{drawing_of, options_of};
 
 use crate::dialplans::PlanUse;
-use crate::faulted::Faulted;
+use crate::fault_places::Faulted;
 use crate::files::ReadFiles;
 use crate::hints::{HintedPlan, ServedRequest, push_told};
 use crate::options::Options;

@@ -8,7 +8,7 @@ ghost use Rattle.dp_program.specs.Files.{has_read_failed};
 ghost use Rattle.dp_program.specs.Hints as spec;
 ghost use Rattle.dp_program.specs.Requests.{lookup_of};
 
-use crate::faulted::Faulted;
+use crate::fault_places::Faulted;
 use crate::nearest::push_nearest;
 use crate::request::Lookup;
 use dp_commands::PbxFault;

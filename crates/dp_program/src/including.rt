@@ -13,7 +13,7 @@ ghost use Rattle.dp_program.specs.Including as spec;
 ghost use Rattle.dp_program.specs.Requests.{options_of};
 
 use crate::dialplans::moment_in;
-use crate::faulted::{Faulted, Unread, placed_nowhere};
+use crate::fault_places::{Faulted, Unread, placed_nowhere};
 use crate::files::ReadFiles;
 use crate::json_checks::{both_report, plan_report, queues_report};
 use crate::options::Options;

@@ -10,7 +10,7 @@ ghost use Rattle.dp_wide_runs.specs.Kinds.{choice_of};
 
 use crate::assumptions::look_up_use;
 use crate::dialplans::{PlanText, PlanUse, ReadDialplan, faulty, read_dialplan};
-use crate::faulted::Faulted;
+use crate::fault_places::Faulted;
 use crate::files::ReadFiles;
 use crate::hints::{ServedRequest, without_hint};
 use crate::reports::{LookUpManner, serve_list, serve_match};

@@ -7,7 +7,7 @@ ghost use Rattle.dp_conf.specs.Answers.{Answers};
 ghost use Rattle.dp_program.specs.Faulted.{StandsIn, without_place};
 ghost use Rattle.dp_program.specs.PlanAndQueues as spec;
 
-use crate::faulted::{Faulted, placed_in_two, with_place};
+use crate::fault_places::{Faulted, placed_in_two, with_place};
 use crate::texts::TextWithPath;
 use dp_commands::{LoadedFiles, PbxFault, read_files};
 use std::alloc::Global;

@@ -6,7 +6,7 @@ ghost use Rattle.dp_program.specs.Faulted.{without_place};
 ghost use Rattle.dp_program.specs.PlanQuestions as spec;
 
 use crate::dialplans::PlanUse;
-use crate::faulted::Faulted;
+use crate::fault_places::Faulted;
 use crate::files::ReadFiles;
 use crate::hints::ServedRequest;
 use crate::plan_and_queues::PlanPaths;

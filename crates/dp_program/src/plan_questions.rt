@@ -9,7 +9,7 @@ ghost use Rattle.dp_program.specs.Files.{ByteSource};
 ghost use Rattle.dp_program.specs.PlanQuestions as spec;
 
 use crate::dialplans::{PlanText, PlanUse, ReadDialplan, faulty, read_dialplan};
-use crate::faulted::Faulted;
+use crate::fault_places::Faulted;
 use crate::files::ReadFiles;
 use crate::hints::ServedRequest;
 use crate::made_files::MadeFiles;

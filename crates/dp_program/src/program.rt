@@ -8,7 +8,7 @@ ghost use Rattle.dp_program.specs.Serves as spec;
 
 use crate::checks::{serve_check, serve_check_both, serve_check_queues};
 use crate::diffs::{serve_diff, serve_diff_including};
-use crate::faulted::Faulted;
+use crate::fault_places::Faulted;
 use crate::files::ReadFiles;
 use crate::graphs::{serve_graph, serve_graph_including};
 use crate::hints::{ServedRequest, without_hint};

@@ -10,7 +10,7 @@ ghost use Rattle.dp_program.specs.Files.{is_read_fault};
 ghost use Rattle.dp_program.specs.Including.{MayTellOf};
 ghost use Rattle.dp_program.specs.QueueTexts as spec;
 
-use crate::faulted::Unread;
+use crate::fault_places::Unread;
 use crate::files::ReadFiles;
 use crate::including::reading_fault;
 use crate::system_paths::SystemPaths;

@@ -11,7 +11,7 @@ ghost use Rattle.dp_program.specs.Requests.{options_of, reach_diff_of};
 ghost use Rattle.dp_table.specs.Standard.{standard_meanings};
 
 use crate::diffs::load_file;
-use crate::faulted::{Faulted, placed_nowhere};
+use crate::fault_places::{Faulted, placed_nowhere};
 use crate::files::ReadFiles;
 use crate::graphs::ask_from;
 use crate::hints::{HintedPlan, ServedRequest, push_told};

@@ -15,7 +15,7 @@ ghost use Rattle.dp_table.specs.Standard.{standard_meanings};
 ghost use Rattle.dp_program.specs.Requests.{options_of, question_of};
 
 use crate::assumptions::look_up_use;
-use crate::faulted::Faulted;
+use crate::fault_places::Faulted;
 use crate::files::ReadFiles;
 use crate::hints::{HintedPlan, ServedRequest, is_bare, lacking, push_bare_line, push_told};
 use crate::options::Options;

@@ -7,7 +7,7 @@ ghost use Rattle.dp_program.specs.Hints.{Tells, status_in};
 ghost use Rattle.dp_program.specs.Serves as spec;
 ghost use Rattle.dp_program.specs.Texts.{paths_of, sources_of, texts_of};
 
-use crate::faulted::{Faulted, placed_in_run};
+use crate::fault_places::{Faulted, placed_in_run};
 use crate::files::ReadFiles;
 use crate::hints::ServedRequest;
 use crate::request::RunFiles;

@@ -10,7 +10,7 @@ ghost use Rattle.dp_program.specs.Requests.{lookup_of, options_of};
 ghost use Rattle.dp_program.specs.Serves as spec;
 
 use crate::entries::FaultNumber;
-use crate::faulted::{Faulted, placed_nowhere, with_place};
+use crate::fault_places::{Faulted, placed_nowhere, with_place};
 use crate::files::ReadFiles;
 use crate::hints::{ServedRequest, audit_hint, match_hint};
 use crate::json_audits::audit_json;

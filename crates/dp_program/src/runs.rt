@@ -7,7 +7,7 @@ ghost use Rattle.dp_program.specs.Files.{has_read_failed, source};
 ghost use Rattle.dp_program.specs.Serves as spec;
 ghost use Rattle.dp_program.specs.Texts.{paths_of, sources_of, texts_of};
 
-use crate::faulted::{Faulted, placed_in_run, placed_nowhere};
+use crate::fault_places::{Faulted, placed_in_run, placed_nowhere};
 use crate::files::{ReadFiles, read_source};
 use crate::request::RunFiles;
 use crate::texts::{Texts, read_texts};

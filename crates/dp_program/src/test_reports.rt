@@ -6,7 +6,7 @@ ghost use Rattle.dp_program.specs.TestSuites as spec;
 ghost use Rattle.dp_program.specs.TestTexts.{text_in};
 ghost use Rattle.dp_test_runs.specs.Tap.{tap_text as results_in_tap};
 
-use crate::faulted::Faulted;
+use crate::fault_places::Faulted;
 use crate::files::ReadFiles;
 use crate::hints::ServedRequest;
 use crate::json_tests::tests_json;

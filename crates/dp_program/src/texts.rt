@@ -8,7 +8,7 @@ ghost use Rattle.dp_program.specs.Files.{Reads, is_read_fault};
 ghost use Rattle.dp_program.specs.TestTexts as tests;
 ghost use Rattle.dp_program.specs.Texts as spec;
 
-use crate::faulted::Unread;
+use crate::fault_places::Unread;
 use crate::files::ReadFiles;
 use crate::request::RunFiles;
 use dp_commands::{PbxFault, RunTexts};

@@ -7,7 +7,7 @@ ghost use Rattle.dp_program.specs.Serves as spec;
 ghost use Rattle.dp_wide_runs.specs.Kinds.{choice_of};
 ghost use Rattle.dp_wide_runs.specs.WideAudits.{plan_of};
 
-use crate::faulted::{Faulted, with_place};
+use crate::fault_places::{Faulted, with_place};
 use crate::files::ReadFiles;
 use crate::hints::{ServedRequest, audit_hint};
 use crate::json_audits::audit_json_by;

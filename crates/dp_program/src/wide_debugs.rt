@@ -7,7 +7,7 @@ ghost use Rattle.dp_program.specs.Texts.{paths_of, sources_of, texts_of};
 ghost use Rattle.dp_program.specs.WideRuns.{places_of};
 
 use crate::entries::ManualEntries;
-use crate::faulted::{Faulted, placed_in_run};
+use crate::fault_places::{Faulted, placed_in_run};
 use crate::files::ReadFiles;
 use crate::request::RunFiles;
 use crate::texts::{Texts, read_texts};

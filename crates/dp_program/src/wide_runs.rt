@@ -11,7 +11,7 @@ ghost use Rattle.dp_program.specs.WideRuns.{manner_of, places_of, reading_of};
 use crate::assumptions::file_assumptions;
 use crate::dialplans::{PlanText, PlanUse, ReadDialplan, faulty, read_dialplan};
 use crate::entries::ManualEntries;
-use crate::faulted::{Faulted, placed_in_run};
+use crate::fault_places::{Faulted, placed_in_run};
 use crate::files::ReadFiles;
 use crate::hints::{ServedRequest, without_hint};
 use crate::made_files::MadeFiles;

@@ -3,8 +3,8 @@
 
 mod lines;
 mod meeting;
-mod modelled;
+mod memory_lines;
+mod model_table;
 mod report;
-mod written;
 
 pub use report::{RunReport, run_reported, unmodelled_lines};

@@ -3,7 +3,7 @@ ghost use Rattle.std.specs.Prelude.{◌≡◌, IfOk};
 ghost use Rattle.dp_unmodelled.specs.Meeting as spec;
 
 use crate::lines::Reported;
-use crate::modelled::ModelledApps;
+use crate::model_table::ModelledApps;
 use dp_commands::{Block, Taker, Turn};
 use dp_machine::{Event, Machine, NoMemory, Unknown};
 use std::alloc::Global;

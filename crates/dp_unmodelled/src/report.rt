@@ -9,8 +9,8 @@ ghost use Rattle.dp_commands.specs.Run.{Writes, run_of_texts};
 ghost use Rattle.dp_unmodelled.specs.Report as spec;
 
 use crate::lines::Reported;
-use crate::modelled::ModelledApps;
-use crate::written::WrittenLines;
+use crate::memory_lines::WrittenLines;
+use crate::model_table::ModelledApps;
 use dp_app::AppTable;
 use dp_commands::{PbxFault, RunContents, RunTexts, read_run, run_contents, run_lines};
 use dp_conf::WriteTold;

@@ -9,7 +9,6 @@ mod cell_values;
 mod cells;
 mod choices;
 mod deleting;
-mod ended;
 mod exec_if;
 mod fields;
 mod functions;
@@ -28,6 +27,7 @@ mod text_functions;
 mod texts;
 mod time_choice;
 mod times;
+mod tones;
 mod wide_table;
 
 pub use asterisk_functions::is_asterisk_function;
@@ -36,7 +36,6 @@ pub use choices::if_value;
 pub use deleting::{DbDel, DbDelTree, deleted_mark};
 pub use dp_conf::NoMemory;
 pub use dp_vars::SetTarget;
-pub use ended::{Busy, Congestion};
 pub use exec_if::{
     ExecIf, ExecIfEnd, SideCall, SideCalls, WithExecIf, exec_if_application, exec_if_calls,
 };
@@ -52,4 +51,5 @@ pub use subroutines::{GosubIfWide, GosubWide, goes_where_gosub_goes};
 pub use texts::{cut_fields, delimiter_of, field_count, filter, to_lower, to_upper};
 pub use time_choice::GotoIfTime;
 pub use times::{Moment, lies_in, read_moment};
+pub use tones::{Busy, Congestion};
 pub use wide_table::WideApps;

@@ -4,11 +4,11 @@ ghost use Rattle.dp_app.specs.Rows.{has_row};
 ghost use Rattle.dp_wide.specs.steps.PlacedApplications as spec;
 
 use crate::deleting::{DbDel, DbDelTree};
-use crate::ended::{Busy, Congestion};
 use crate::macros::{Macro, MacroExit};
 use crate::settings::{MSet, SetWide};
 use crate::subroutines::{GosubIfWide, GosubWide};
 use crate::time_choice::GotoIfTime;
+use crate::tones::{Busy, Congestion};
 use dp_app::{AppNumber, AppTable, NoApps, With};
 use dp_flow::{
     Answer, Background, Dial, Goto, GotoIf, Hangup, NoOp, Playback, Return, StackPop, Verbose,

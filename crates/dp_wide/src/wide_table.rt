@@ -11,7 +11,6 @@ ghost use Rattle.dp_wide.specs.Wide as spec;
 ghost use Rattle.dp_wide.specs.steps.Plain as kinds;
 
 use crate::deleting::{DbDel, DbDelTree};
-use crate::ended::{Busy, Congestion};
 use crate::exec_if::{dispatch_with_exec_if, exec_if_application};
 use crate::functions::WideFunctions;
 use crate::going::{WithGoing, goes_on};
@@ -23,6 +22,7 @@ use crate::requests::inner_asked;
 use crate::settings::{MSet, SetWide};
 use crate::subroutines::{GosubIfWide, GosubWide};
 use crate::time_choice::GotoIfTime;
+use crate::tones::{Busy, Congestion};
 use dp_app::{AppList, AppNumber, AppTable, Cell, KnownTable, Move, NoApps, With};
 use dp_conf::{NoMemory, same_word};
 use dp_flow::{Answer, Hangup, NoOp, Verbose};

@@ -9,7 +9,7 @@ ghost use Rattle.dp_reach.specs.Bounds.{sides_or};
 ghost use Rattle.dp_reach.specs.Choices.{sides_by};
 ghost use Rattle.dp_wide_reach.specs.Subroutines as spec;
 
-use crate::held::push_digits;
+use crate::held_bytes::push_digits;
 use dp_closed::{KeptArea, KeptDuty, push_gosub, set_of};
 use dp_conf::NoMemory;
 use dp_pieces::{Cutting, Piece, cut_level, cut_pieces};

@@ -12,7 +12,7 @@ ghost use Rattle.dp_wide_reach.specs.Choices as spec;
 ghost use Rattle.dp_wide_duties.specs.Exchange.{exchange_duties, plain_duties};
 
 use crate::besides::push_met;
-use crate::held::{known_front, push_anything};
+use crate::held_bytes::{known_front, push_anything};
 use dp_closed::{KeptArea, KeptDuty};
 use dp_conf::{NoMemory, same_word, trim};
 use dp_pieces::{Cutting, Piece, cut_last, cut_level, cut_pieces, known_text, trim_pieces};

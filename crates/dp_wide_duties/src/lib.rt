@@ -7,7 +7,7 @@ mod calling;
 mod calls;
 mod choices;
 mod devices;
-mod held;
+mod held_bytes;
 pub mod laws;
 mod macros;
 mod naming;

@@ -9,7 +9,7 @@ ghost use Rattle.dp_pieces.specs.Trimmed.{without_end_blanks};
 ghost use Rattle.dp_reach.specs.Bounds as bounds;
 ghost use Rattle.dp_wide_reach.specs.Subroutines as spec;
 
-use crate::held::{push_digits, push_each, push_held};
+use crate::held_bytes::{push_digits, push_each, push_held};
 use dp_closed::{KeptArea, KeptDuty, push_area, push_inside, set_of};
 use dp_conf::NoMemory;
 use dp_pieces::{Cutting, Piece, cut_level, trim_pieces};

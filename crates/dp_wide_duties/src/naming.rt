@@ -5,7 +5,7 @@ ghost use Rattle.dp_pieces.specs.Shown.{shown_all};
 ghost use Rattle.dp_wide_duties.specs.Naming as spec;
 
 use crate::calls::push_counted;
-use crate::held::known_front;
+use crate::held_bytes::known_front;
 use crate::places::{dialled_bytes, push_any_in};
 use dp_closed::{KeptArea, KeptDuty};
 use dp_conf::{NoMemory, same_word};

@@ -11,7 +11,7 @@ ghost use Rattle.dp_wide_duties.specs.Options as spec;
 
 use crate::arguments::any_of;
 use crate::calls::push_counted;
-use crate::held::{push_digits, push_each};
+use crate::held_bytes::{push_digits, push_each};
 use crate::macros::push_macro;
 use dp_closed::{KeptArea, KeptDuty, bytes_in, push_area, push_inside, set_of};
 use dp_conf::NoMemory;

@@ -8,7 +8,7 @@ ghost use Rattle.dp_wide_duties.specs.Rows.{shown_row};
 ghost use Rattle.dp_wide_reach.specs.Wide as spec;
 
 use crate::calls::{push_counted, push_counted_if};
-use crate::held::push_anything;
+use crate::held_bytes::push_anything;
 use crate::macros::push_macro;
 use crate::settings::{push_deletion, push_read, push_set, push_unknown};
 use dp_app::AppTable;

@@ -13,7 +13,7 @@ ghost use Rattle.dp_wide.specs.ReadNames.{read_names};
 ghost use Rattle.dp_wide.specs.Settings as wide;
 ghost use Rattle.dp_wide_reach.specs.Settings as spec;
 
-use crate::held::{known_front, push_each};
+use crate::held_bytes::{known_front, push_each};
 use dp_closed::{KeptDuty, bytes_in, push_name, set_of};
 use dp_conf::{NoMemory, trim};
 use dp_pieces::{ByteSet, Piece, known_text};

@@ -1,9 +1,9 @@
 //! Unexpanded texts over the functions of the wide table, as pieces.
 #![tactic(auto)]
 
-mod computed;
+mod computed_bytes;
 pub mod laws;
 mod wide_names;
 
-pub use computed::function_bytes;
+pub use computed_bytes::function_bytes;
 pub use wide_names::{WideNamesAt, read_wide_pieces};

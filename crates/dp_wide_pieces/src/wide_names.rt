@@ -14,7 +14,7 @@ ghost use Rattle.dp_wide_pieces.specs.FunctionBytes.{function_bytes};
 ghost use Rattle.dp_wide_pieces.specs.WideNames.{groups_of};
 ghost use Rattle.dp_wide_pieces.specs.WideTexts as texts;
 
-use crate::computed::function_bytes;
+use crate::computed_bytes::function_bytes;
 use dp_conf::{GroupKind, NoMemory, before_last, cut_once, cut_outside};
 use dp_pieces::{
     ByteSet, GroupPieces, NamesAt, Piece, any_bytes, bytes_in, bytes_of, expression_pieces,

@@ -2,6 +2,7 @@
 //! and audits for some kinds of findings.
 #![tactic(auto)]
 
+mod audit_findings;
 mod beginning;
 mod debug;
 mod functions_called;
@@ -12,7 +13,6 @@ mod mentions;
 mod own_line;
 mod run;
 mod taker;
-mod told;
 mod verbose;
 mod wide_audit;
 mod wide_finding;
@@ -20,10 +20,10 @@ mod wide_lines;
 mod wide_targets;
 mod wide_turn;
 
+pub use audit_findings::find_told;
 pub use debug::{debug_wide, debug_wide_verbose};
 pub use kinds::{AuditChoice, KindChoice, are_kinds};
 pub use run::run_wide;
-pub use told::find_told;
 pub use verbose::run_wide_verbose;
 pub use wide_audit::audit_by;
 pub use wide_finding::WideFinding;

@@ -5,8 +5,8 @@ ghost use Rattle.dp_commands.specs.Faults.{is_write_failed};
 ghost use Rattle.dp_wide_runs.specs.Kinds.{choice_of};
 ghost use Rattle.dp_wide_runs.specs.WideAudits as spec;
 
+use crate::audit_findings::find_told;
 use crate::kinds::AuditChoice;
-use crate::told::find_told;
 use crate::wide_finding::WideFinding;
 use dp_audit::{FallThrough, Loop};
 use dp_commands::{Block, PbxFault, push_finding_line, push_number, push_spot, read_plan};

@@ -3,7 +3,7 @@ use Rattle.dp_commands.specs.Report.{list_of}
 use Rattle.dp_program.specs.Dialplans.{text_now, with_text}
 use Rattle.dp_program.specs.Files.{ByteSource}
 use Rattle.dp_program.specs.Serves.{ReportsOn}
-use Rattle.dp_program.specs.declared.faulted.Faulted.{Faulted}
+use Rattle.dp_program.specs.declared.fault_places.Faulted.{Faulted}
 use Rattle.dp_program.proofs.including_reports.list_text.Goals as goal
 
 -- the files are those in which the dialplan has this text

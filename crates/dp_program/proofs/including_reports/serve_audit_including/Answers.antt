@@ -7,7 +7,7 @@ use Rattle.dp_program.specs.Serves.{AuditsFileBy, AuditsText}
 use Rattle.dp_program.proofs.ServesLemmas.{auditing_lacks}
 use Rattle.dp_wide_runs.specs.Kinds.{choice_of}
 use Rattle.dp_program.specs.declared.dialplans.PlanUse.TheVariants.{Report}
-use Rattle.dp_program.specs.declared.faulted.Faulted.{Faulted}
+use Rattle.dp_program.specs.declared.fault_places.Faulted.{Faulted}
 use Rattle.dp_program.proofs.DialplanLemmas.{dialplan_known, dialplan_refused}
 use Rattle.dp_program.proofs.including_reports.serve_audit_including.Goals as goal
 

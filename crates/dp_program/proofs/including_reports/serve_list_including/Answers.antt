@@ -5,7 +5,7 @@ use Rattle.dp_program.specs.Including.{MayTellOf}
 use Rattle.dp_program.specs.Serves.{ListsText}
 use Rattle.dp_program.proofs.ServesLemmas.{listing_lacks}
 use Rattle.dp_program.specs.declared.dialplans.PlanUse.TheVariants.{Report}
-use Rattle.dp_program.specs.declared.faulted.Faulted.{Faulted}
+use Rattle.dp_program.specs.declared.fault_places.Faulted.{Faulted}
 use Rattle.dp_program.proofs.DialplanLemmas.{dialplan_known, dialplan_refused}
 use Rattle.dp_program.proofs.including_reports.serve_list_including.Goals as goal
 

@@ -6,7 +6,7 @@ use Rattle.dp_program.specs.Requests.{lookup_of, options_of}
 use Rattle.dp_program.specs.Serves.{LooksUp, LooksUpText}
 use Rattle.dp_program.proofs.ServesLemmas.{matching_lacks}
 use Rattle.dp_program.specs.declared.dialplans.PlanUse.{PlanUse}
-use Rattle.dp_program.specs.declared.faulted.Faulted.{Faulted}
+use Rattle.dp_program.specs.declared.fault_places.Faulted.{Faulted}
 use Rattle.dp_program.proofs.DialplanLemmas.{dialplan_known, dialplan_refused}
 use Rattle.dp_program.proofs.including_reports.serve_match_including.Goals as goal
 

@@ -4,7 +4,7 @@ use Rattle.dp_program.specs.Files.{ByteSource}
 use Rattle.dp_program.specs.Including.{MayTellOf}
 use Rattle.dp_program.specs.PlanQuestions.{OverPlan}
 use Rattle.dp_program.specs.QueueTexts.{OnQueues, ReadsQueues}
-use Rattle.dp_program.specs.declared.faulted.Faulted.{Faulted}
+use Rattle.dp_program.specs.declared.fault_places.Faulted.{Faulted}
 use Rattle.dp_program.proofs.PlanQuestionLemmas.{over_plan_lacks}
 use Rattle.dp_program.proofs.QueueLemmas.{queues_known, queues_refused}
 use Rattle.dp_program.proofs.plan_questions.answer_after_queues.Goals as goal

@@ -3,7 +3,7 @@ use Rattle.std.specs.Option.{option_map}
 use Rattle.dp_program.specs.Dialplans.{OnDialplan, ReadsDialplan}
 use Rattle.dp_program.specs.Including.{MayTellOf}
 use Rattle.dp_program.specs.PlanQuestions.{WithQueues}
-use Rattle.dp_program.specs.declared.faulted.Faulted.{Faulted}
+use Rattle.dp_program.specs.declared.fault_places.Faulted.{Faulted}
 use Rattle.dp_program.proofs.DialplanLemmas.{dialplan_known, dialplan_refused}
 use Rattle.dp_program.proofs.PlanQuestionLemmas.{with_queues_lack}
 use Rattle.dp_program.proofs.plan_questions.answer_including.Goals as goal

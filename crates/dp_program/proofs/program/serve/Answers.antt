@@ -4,7 +4,7 @@ use Rattle.dp_program.specs.Checks.{check_by, queues_report}
 use Rattle.dp_program.specs.Dialplans.{moment_in}
 use Rattle.dp_program.specs.Including.{ChecksBothIncluding, ChecksIncluding, ChecksQueuesIncluding}
 use Rattle.dp_program.specs.Serves.{ChecksBoth, ReportsOn}
-use Rattle.dp_program.specs.declared.faulted.Faulted.{Faulted}
+use Rattle.dp_program.specs.declared.fault_places.Faulted.{Faulted}
 use Rattle.dp_program.proofs.program.serve.Goals as goal
 use Rattle.dp_wide.specs.declared.times.Moment.{Moment}
 

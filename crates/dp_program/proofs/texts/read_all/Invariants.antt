@@ -1,6 +1,6 @@
 use Rattle.std.proofs.Common.{◌++◌, List, drop, map}
 use Rattle.dp_program.specs.TestTexts.{FailsAmong, GiveAll, TestText, text_in}
-use Rattle.dp_program.specs.declared.faulted.Unread.{Unread}
+use Rattle.dp_program.specs.declared.fault_places.Unread.{Unread}
 use Rattle.dp_program.proofs.texts.read_all.Given as goal
 
 -- what follows from the paths left follows from all paths

@@ -6,7 +6,7 @@ use Rattle.dp_program.specs.Serves.{RunsPlans}
 use Rattle.dp_program.specs.Texts.{paths_of}
 use Rattle.dp_program.specs.WideRuns.{manner_of}
 use Rattle.dp_program.specs.declared.dialplans.PlanUse.TheVariants.{Run}
-use Rattle.dp_program.specs.declared.faulted.Faulted.{Faulted}
+use Rattle.dp_program.specs.declared.fault_places.Faulted.{Faulted}
 use Rattle.dp_program.proofs.DialplanLemmas.{dialplan_known, dialplan_refused}
 use Rattle.dp_program.proofs.ServesLemmas.{plans_lack}
 use Rattle.dp_program.proofs.wide_runs.run_after.Goals as goal

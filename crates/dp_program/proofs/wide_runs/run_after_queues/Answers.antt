@@ -5,7 +5,7 @@ use Rattle.dp_program.specs.QueueTexts.{ReadsQueues}
 use Rattle.dp_program.specs.Serves.{RunsPlan}
 use Rattle.dp_program.specs.Texts.{paths_of}
 use Rattle.dp_program.specs.WideRuns.{manner_of, reading_of}
-use Rattle.dp_program.specs.declared.faulted.Faulted.{Faulted}
+use Rattle.dp_program.specs.declared.fault_places.Faulted.{Faulted}
 use Rattle.dp_program.proofs.QueueLemmas.{queues_refused}
 use Rattle.dp_program.proofs.ServesLemmas.{plan_lacks}
 use Rattle.dp_program.proofs.wide_runs.run_after_queues.Goals as goal

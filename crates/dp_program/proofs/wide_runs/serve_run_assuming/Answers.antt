@@ -7,7 +7,7 @@ use Rattle.dp_program.specs.Texts.{paths_of}
 use Rattle.dp_program.specs.WideRuns.{manner_of, reading_of}
 use Rattle.dp_program.proofs.ServesLemmas.{queues_plan_lacks}
 use Rattle.dp_program.specs.declared.dialplans.PlanUse.TheVariants.{Run}
-use Rattle.dp_program.specs.declared.faulted.Faulted.{Faulted}
+use Rattle.dp_program.specs.declared.fault_places.Faulted.{Faulted}
 use Rattle.dp_program.proofs.DialplanLemmas.{dialplan_known, dialplan_refused}
 use Rattle.dp_program.proofs.wide_runs.serve_run_assuming.Goals as goal
 

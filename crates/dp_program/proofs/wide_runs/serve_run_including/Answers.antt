@@ -4,7 +4,7 @@ use Rattle.dp_program.specs.Faulted.{nowhere}
 use Rattle.dp_program.specs.Serves.{RunsAssuming, RunsIncluding, reading_by}
 use Rattle.dp_program.specs.Texts.{paths_of}
 use Rattle.dp_program.specs.WideRuns.{manner_of}
-use Rattle.dp_program.specs.declared.faulted.Faulted.{Faulted}
+use Rattle.dp_program.specs.declared.fault_places.Faulted.{Faulted}
 use Rattle.dp_program.proofs.ServesLemmas.{including_lacks}
 use Rattle.dp_program.proofs.wide_runs.serve_run_including.Goals as goal
 
