@@ -1,16 +1,16 @@
 -- A priority of digits is a number alone.
-use Rattle.std.proofs.Common.{◌≡◌, ℕ, ◌-◌, ◌^◌, ◌<◌, Bool, true, false, ◌&&◌, cond, eqb, nat_eq, List, [], ◌∷◌, map, min, codes, Option, Some, None, refl, ap, sym, ◌∙◌, arith}
+use Rattle.std.proofs.Common.{◌≡◌, ℕ, ◌-◌, ◌^◌, ◌<◌, ◌≤◌, nat_le, Bool, true, false, ◌&&◌, cond, eqb, nat_eq, List, [], ◌∷◌, map, min, codes, Option, Some, None, refl, ap, sym, ◌∙◌, arith}
 use Rattle.std.proofs.lemmas.Bool.Decides.{nat_tests}
 use Rattle.std.specs.Char.{to_ascii_lowercase}
 use Rattle.std.specs.Cmp.Lexicographic.{pointwise}
-use Rattle.std.specs.List.{AllByRecursion, list_all}
+use Rattle.std.specs.List.{list_all}
 use Rattle.std.specs.Option.{option_map}
 use Rattle.dp_conf.specs.Cut.{cut_once}
-use Rattle.dp_conf.specs.Numbers.{digits_number, is_digit, number_of}
+use Rattle.dp_conf.specs.Numbers.{digits_number, is_digit, most_priority, number_of}
 use Rattle.dp_conf.specs.Words.{same_word}
 use Rattle.dp_conf.proofs.TextLemmas.{Avoids, cut_once-nowhere}
 use Rattle.dp_files.proofs.LimitLemmas.{number_base_capped}
-use Rattle.dp_files.specs.Priorities.{BaseOf, Hint, Counted, WrittenBaseOf, WrittenPriorityOf, base_by, base_with_added, number_base, priority_by, priority_of, written_of}
+use Rattle.dp_files.specs.Priorities.{BaseOf, Number, Hint, Counted, WrittenBaseOf, WrittenPriorityOf, base_by, base_with_added, number_base, priority_by, priority_of, within_limit, written_of}
 
 -- the priority of a base without an added number and without a label
 abbrev pub alone : Option BaseOf → Option WrittenPriorityOf
@@ -86,3 +86,14 @@ capped_priority text number read = by (number_of text) refl read
     by (Some n) is read =
         let same : min n (2 ^ 64 - 1) ≡ number = cc in
         ap (λ k. alone (number_base k)) (sym same) ∙ (ap alone (number_base_capped n) ∙ sym (priority_of-digits text n is))
+
+-- the priority of a number that was read, if a priority may be this number
+pub plain_priority : (text : List ℕ) (number : ℕ) → option_map (λ n. min n (2 ^ 64 - 1)) (number_of text) ≡ Some number
+    → (number ≡ 0 → ⊥) → number ≤ 2147483647
+    → priority_of text ≡ Some (record { written = Counted (Number number) None; label = None })
+plain_priority text number read some most =
+    let other : eqb number 0 ≡ false = grind (arith, nat_tests) in
+    let within : nat_le number most_priority ≡ true = grind (arith, nat_tests) in
+    sym (capped_priority text number read)
+    ∙ ap (λ t. alone (cond {A = Option BaseOf} t None (option_map Number (within_limit number)))) other
+    ∙ ap (λ t. alone (option_map Number (cond {A = Option ℕ} t (Some number) None))) within

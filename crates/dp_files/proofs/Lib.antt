@@ -8,11 +8,13 @@ mod HistoryLemmas
 mod LabelLemmas
 mod LimitLemmas
 mod LookupLemmas
+mod OldFormLemmas
 mod OrderLemmas
 mod PlainLemmas
 pub mod PlainFilesLemmas
 pub mod ReadingLemmas
 mod SectionLemmas
 mod SimpleLemmas
+mod SpelledLemmas
 pub mod WildcardsLemmas
 mod cases

@@ -1,7 +1,7 @@
 -- Names that are their own spelling.
 use Rattle.std.proofs.Common.{◌≡◌, ℕ, Bool, true, false, not, ◌&&◌, ◌||◌, cond, eqb, List, [], ◌∷◌, Option, Some, None, Result, Ok, Err, length, refl, ap, ◌∙◌, arith}
 use Rattle.std.proofs.lemmas.Bool.Decides.{nat_tests}
-use Rattle.std.specs.List.{filter, list_all, list_any}
+use Rattle.std.specs.List.{list_all, list_any}
 use Rattle.std.specs.Option.{is_some}
 use Rattle.dp_conf.specs.Groups.{kind_of, opening}
 use Rattle.dp_conf.specs.declared.groups.GroupKind.{GroupKind}
@@ -10,7 +10,7 @@ use Rattle.dp_pattern.specs.Name.{Meaning, Plain, is_bad, meaning_of, pattern_re
 use Rattle.dp_pattern.specs.Spelling.{spelling}
 use Rattle.dp_pattern.specs.declared.fault.NameFault.{NameFault}
 use Rattle.dp_pattern.specs.declared.fault.NameFault.TheVariants.{BadByte}
-use Rattle.dp_files.specs.ContextHistory.{extension_of, has_group, has_slash, is_known_by_text, spelled_extension}
+use Rattle.dp_files.specs.ContextHistory.{extension_of, has_caller, has_group, has_slash, is_known_by_text, spelled_extension}
 use Rattle.dp_files.specs.NameSteps.{is_simple}
 use Rattle.dp_files.specs.declared.extension.WrittenExtension.{WrittenExtension}
 
@@ -51,7 +51,7 @@ no_group : (text : List ℕ) → list_all is_simple text ≡ true → has_group 
 no_group [] all = refl
 no_group (b ∷ bs) all = ap (λ t. t || has_group bs) (opens_none b bs (first_simple b bs all).no_dollar) ∙ no_group bs (rest_simple b bs all)
 
--- it has no caller's number
+-- it has no `/`
 no_slash_in : (text : List ℕ) → list_all is_simple text ≡ true → has_slash text ≡ false
 no_slash_in [] all = refl
 no_slash_in (b ∷ bs) all = ap (λ t. t || has_slash bs) (first_simple b bs all).no_slash ∙ no_slash_in bs (rest_simple b bs all)
@@ -81,6 +81,10 @@ meaning_of-simple b bs all =
 known_by_name : (text : List ℕ) → list_all is_simple text ≡ true → is_known_by_text text ≡ false
 known_by_name text all =
     ap (λ t. t || (not t && has_slash text)) (no_group text all) ∙ no_slash_in text all
+
+-- it has no caller's number
+pub no_caller : (text : List ℕ) → list_all is_simple text ≡ true → has_caller text ≡ false
+no_caller text all = ap (λ t. not t && has_slash text) (no_group text all) ∙ no_slash_in text all
 
 -- and its extension is spelled as it is written
 pub simple_extension : (b : ℕ) (bs : List ℕ) → list_all is_simple (b ∷ bs) ≡ true

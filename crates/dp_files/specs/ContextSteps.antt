@@ -14,11 +14,14 @@ use Rattle.dp_files.specs.declared.context_line.ContextLine.TheVariants.{Exten, 
 use Rattle.dp_files.specs.declared.extension.WrittenExtension.{WrittenExtension}
 use Rattle.dp_files.specs.declared.history.ExtensionLabel.{ExtensionLabel}
 use Rattle.dp_files.specs.declared.history.LineHistory.{LineHistory}
+use Rattle.dp_files.specs.declared.history.SectionExtension.{SectionExtension}
+use Rattle.dp_files.specs.declared.history.SectionExtension.TheVariants.{Absent, Spelled, Known}
 use Rattle.dp_files.specs.declared.history.LineLeaves.{LineLeaves}
 use Rattle.dp_files.specs.declared.history.LineLeaves.TheVariants.{Nothing, Names, Hints, Counts}
 use Rattle.dp_files.specs.declared.line_reading.LineResult.{LineResult}
 use Rattle.dp_files.specs.declared.line_reading.LineReading.{LineReading}
 use Rattle.dp_files.specs.declared.line_reading.EntrySource.{EntrySource}
+use Rattle.dp_files.specs.declared.line_reading.SpelledEntry.{SpelledEntry}
 use Rattle.dp_files.specs.declared.entry_line.EntryLine.{EntryLine}
 
 -- a line of a context, as its texts
@@ -49,11 +52,21 @@ number_of_label labels spelling label = lookup (same_label (label_key spelling l
 
 -- ---- the history
 
+-- the extension of a name that is its own spelling
+abbrev pub spelled_extension : List ℕ → WrittenExtension
+spelled_extension name = record { name = name; spelling = name }
+
+-- the last extension, if there is one
+abbrev pub last_extension : SectionExtension → Option WrittenExtension
+last_extension Absent = None
+last_extension (Spelled name) = Some (spelled_extension name.now)
+last_extension (Known extension) = Some extension
+
 -- the history that the kept values represent
 abbrev pub history_in : LineHistory → said.LineHistoryOf
 history_in history = record {
   number = history.number;
-  extension = history.extension;
+  extension = last_extension history.extension;
   is_after_hint = history.is_after_hint;
   label = number_of_label history.labels.entries;
 }
@@ -93,6 +106,13 @@ reading_now extension reading = record { said = said_by extension reading.leaves
 abbrev pub source_reading : said.LineHistoryOf → Option WrittenExtension → EntrySource → lines.ContextReading
 source_reading history extension source =
     lines.reading_of history source.line.now source.is_same extension source.text.priority.now source.text.application.now
+
+-- the reading of the line of an entry that needs no change, and whose name is its own spelling
+abbrev pub spelled_reading : List ℕ → SpelledEntry → lines.ContextReading
+spelled_reading line entry = record {
+  said = said.Counts (spelled_extension entry.name.now) entry.number None;
+  made = record { text = Some line; remark = None };
+}
 
 -- the result of each line, given the history before the first
 abbrev pub all_made_after : said.LineHistoryOf → List (ℕ × List ℕ) → List (ℕ × LineResult)

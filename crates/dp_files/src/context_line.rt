@@ -29,6 +29,7 @@ pub(crate) enum ContextLine<'a> {
 }
 
 /// The line of an `exten`, given its value.
+#[inline(always)]
 fn exten_line(value: &[u8]) -> ContextLine<'_>
     ensures { steps.line_now result ≡ spec.exten_line (cuts.cut_once 44 value.now) }
 {
@@ -74,6 +75,7 @@ fn key_line(key: &[u8]) -> ContextLine<'static>
 }
 
 /// The line with a key and a value.
+#[inline(always)]
 fn pair_line<'a>(key: &[u8], value: &'a [u8]) -> ContextLine<'a>
     ensures { steps.line_now result ≡ spec.pair_line key.now value.now }
 {
@@ -98,6 +100,7 @@ pub(crate) fn after_sign(text: &[u8]) -> &[u8]
 
 /// The line with this content.
 #[tactic(auto, unfolding(crate::specs::ContextWords::context_line))]
+#[inline(always)]
 pub(crate) fn read_context_line(content: &[u8]) -> ContextLine<'_>
     ensures { steps.line_now result ≡ spec.context_line content.now }
 {
@@ -107,20 +110,17 @@ pub(crate) fn read_context_line(content: &[u8]) -> ContextLine<'_>
     }
 }
 
-/// The text before the first `(`, or the whole text.
-fn before_parenthesis(text: &[u8]) -> &[u8]
-    ensures { result.now ≡ spec.front_of text.now (cuts.cut_once 40 text.now) }
-{
-    match cut_once(text, b'(') {
-        None => text,
-        Some((front, _)) => front,
-    }
-}
-
-/// Whether the application has the old form, `NAME,ARGUMENTS`.
-#[tactic(auto, unfolding(crate::specs::ContextWords::is_old_form))]
+/// Whether the application has the old form, `NAME,ARGUMENTS`: a comma comes before any `(`.
+#[tactic(auto, using(crate::proofs::OldFormLemmas::old_form_first))]
 pub(crate) fn is_old_form(application: &[u8]) -> bool
     ensures { result ≡ spec.is_old_form application.now }
 {
-    before_parenthesis(application).contains(&b',')
+    let mut left = application;
+    while let Some((byte, rest)) = left.split_first() {
+        if *byte == b'(' || *byte == b',' {
+            return *byte == b',';
+        }
+        left = rest;
+    }
+    false
 }

@@ -1,11 +1,16 @@
 //! The lines of a context for the loader, made from those of its section.
 ghost use Rattle.std.specs.Prelude.{◌≡◌, ◌++◌, ◌∷◌, ℕ, List, IfOk, OnOk, slice_get};
+ghost use Rattle.dp_conf.specs.Lines.{content_of};
+ghost use Rattle.dp_files.specs.ContextHistory.{LineHistoryOf as LinesBefore};
 ghost use Rattle.dp_files.specs.ContextLines as spec;
+ghost use Rattle.dp_files.specs.ContextSteps.{line_now, spelled_reading};
+ghost use Rattle.dp_files.specs.ContextWords.{context_line};
 ghost use Rattle.dp_files.specs.ToldSteps as steps;
 ghost use Rattle.dp_files.specs.PlainContexts.{PlainLinesStand};
 
+use crate::context_line::{ContextLine, read_context_line};
 use crate::history::LineHistory;
-use crate::line_reading::make_line;
+use crate::line_reading::{SpelledEntry, make_line, make_said, spelled_entry};
 use crate::line_text::LineText;
 use crate::made_text::MadeText;
 use crate::source_line::SourceLine;
@@ -14,14 +19,15 @@ use std::alloc::Global;
 
 /// The result of the lines so far, and what they leave for the next one.
 #[derive(Drop)]
-struct ContextReader {
-    history: LineHistory,
+struct ContextReader<'a> {
+    history: LineHistory<'a>,
     text: MadeText,
 }
 
-impl ContextReader {
-    /// Reads a line.
-    fn read_line(&mut self, alloc: Global, place: usize, line: &LineText) -> Result<(), NoMemory>
+impl<'a> ContextReader<'a> {
+    /// Reads a line in whatever way it is written.
+    #[inline(never)]
+    fn read_any(&mut self, alloc: Global, place: usize, line: &LineText) -> Result<(), NoMemory>
         ensures { OnOk result ((rest : List (ℕ × List ℕ)) → steps.results_of_reader self.new rest
             ≡ steps.results_of_reader self.old ((place, line.now) ∷ rest)) }
     {
@@ -30,11 +36,64 @@ impl ContextReader {
         Ok(())
     }
 
+    /// Reads a line that says this.
+    #[inline(never)]
+    #[tactic(auto, unfolding(crate::specs::ContextLines::line_reading))]
+    fn read_said(
+        &mut self,
+        alloc: Global,
+        place: usize,
+        line: &LineText,
+        said: ContextLine<'_>,
+    ) -> Result<(), NoMemory>
+        ensures { line_now said.entry ≡ context_line (content_of line.now)
+            → OnOk result ((rest : List (ℕ × List ℕ)) → steps.results_of_reader self.new rest
+            ≡ steps.results_of_reader self.old ((place, line.now) ∷ rest)) }
+    {
+        let made = make_said(alloc, &mut self.history, line, said)?;
+        self.text.push(place, made)?;
+        Ok(())
+    }
+
+    /// Reads a line of an entry that needs no change.
+    #[inline(always)]
+    fn read_spelled(
+        &mut self,
+        place: usize,
+        line: &LineText,
+        entry: SpelledEntry<'a>,
+    ) -> Result<(), NoMemory>
+        ensures { ((history : LinesBefore) → spec.line_reading history line.now ≡ spelled_reading line.now entry.entry)
+            → OnOk result ((rest : List (ℕ × List ℕ)) → steps.results_of_reader self.new rest
+            ≡ steps.results_of_reader self.old ((place, line.now) ∷ rest)) }
+    {
+        self.history.count_spelled(entry.name, entry.number);
+        self.text.push_standing(place, line)?;
+        Ok(())
+    }
+
+    /// Reads a line.
+    #[tactic(auto, unfolding(crate::specs::ContextLines::line_reading))]
+    fn read_line(&mut self, alloc: Global, place: usize, line: &'a LineText) -> Result<(), NoMemory>
+        ensures { OnOk result ((rest : List (ℕ × List ℕ)) → steps.results_of_reader self.new rest
+            ≡ steps.results_of_reader self.old ((place, line.now) ∷ rest)) }
+    {
+        let Some(content) = line.plain_content() else {
+            return self.read_any(alloc, place, line);
+        };
+        let said = read_context_line(content);
+        // Most lines are such entries, and need neither a copy of their names nor a new text.
+        match spelled_entry(&said) {
+            Some(entry) => self.read_spelled(place, line, entry),
+            None => self.read_said(alloc, place, line, said),
+        }
+    }
+
     /// Reads the line at a place, if there is one.
     fn read_place(
         &mut self,
         alloc: Global,
-        lines: &[SourceLine],
+        lines: &'a [SourceLine],
         place: usize,
     ) -> Result<(), NoMemory>
         ensures { OnOk result ((rest : List (ℕ × List ℕ)) → steps.results_of_reader self.new rest

@@ -1,5 +1,5 @@
 //! The extension that a line names.
-ghost use Rattle.std.specs.Prelude.{◌≡◌, IfOk, Some, true};
+ghost use Rattle.std.specs.Prelude.{◌≡◌, IfOk, Some, false, true};
 ghost use Rattle.std.specs.List.{list_all};
 ghost use Rattle.std.specs.Option.{is_some};
 ghost use Rattle.dp_conf.specs.Groups.{opening};
@@ -76,8 +76,10 @@ fn has_simple_bytes(text: &[u8]) -> bool
 }
 
 /// Whether the text is a name that is its own spelling, as most names are: it has only bytes that mean themselves.
-fn is_spelled(name: &[u8]) -> bool
-    ensures { result ≡ true → spec.extension_of name.now ≡ Some (record { name = name.now; spelling = name.now }) }
+#[inline(always)]
+pub(crate) fn is_spelled(name: &[u8]) -> bool
+    ensures extension { result ≡ true → spec.extension_of name.now ≡ Some (record { name = name.now; spelling = name.now }) }
+    ensures caller { result ≡ true → spec.has_caller name.now ≡ false }
 {
     !name.is_empty() && has_simple_bytes(name)
 }
@@ -107,7 +109,7 @@ impl WrittenExtension {
     }
 
     /// The extension of a name that is spelled as it is written, or of which only the text is known.
-    fn of_text(alloc: Global, name: &[u8]) -> Result<Self, NoMemory>
+    pub(crate) fn of_text(alloc: Global, name: &[u8]) -> Result<Self, NoMemory>
         ensures { IfOk result (λ extension. (extension.name ≡ name.now) × (extension.spelling ≡ name.now)) }
     {
         let spelling = ShortText::copy_of(alloc, name)?;

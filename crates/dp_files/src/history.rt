@@ -1,5 +1,5 @@
 //! What the lines of a section so far leave for the next one.
-ghost use Rattle.std.specs.Prelude.{◌≡◌, [], IfOk, OnOk};
+ghost use Rattle.std.specs.Prelude.{◌≡◌, [], None, IfOk, OnOk};
 ghost use Rattle.std.specs.Option.{option_map};
 ghost use Rattle.dp_files.specs.ContextHistory as spec;
 ghost use Rattle.dp_files.specs.ContextSteps as steps;
@@ -32,11 +32,22 @@ pub(crate) enum LineLeaves<'a> {
     },
 }
 
+/// The extension of the last line that has one.
+#[derive(Drop)]
+pub(crate) enum SectionExtension<'a> {
+    /// No line has one.
+    Absent,
+    /// One whose name is its own spelling. The name is part of its line.
+    Spelled(&'a [u8]),
+    /// Any other.
+    Known(WrittenExtension),
+}
+
 /// What the lines of a section so far leave for the next one.
 #[derive(Drop)]
-pub(crate) struct LineHistory {
+pub(crate) struct LineHistory<'a> {
     number: Option<u64>,
-    extension: Option<WrittenExtension>,
+    extension: SectionExtension<'a>,
     is_after_hint: bool,
     labels: IndexMap<ExtensionLabel, u64>,
 }
@@ -71,14 +82,14 @@ fn add_label(
     Ok(())
 }
 
-impl LineHistory {
+impl<'a> LineHistory<'a> {
     /// The value before the first line.
     pub(crate) fn new(alloc: Global) -> Self
         ensures { steps.history_in result ≡ spec.history_of [] }
     {
         LineHistory {
             number: None,
-            extension: None,
+            extension: SectionExtension::Absent,
             is_after_hint: false,
             labels: IndexMap::new(alloc),
         }
@@ -92,12 +103,16 @@ impl LineHistory {
     }
 
     /// A copy of the last extension.
-    pub(crate) fn extension(&self) -> Result<Option<WrittenExtension>, NoMemory>
+    pub(crate) fn extension(&self, alloc: Global) -> Result<Option<WrittenExtension>, NoMemory>
         ensures { IfOk result (λ extension. extension ≡ (steps.history_in self.now).extension) }
     {
         match &self.extension {
-            None => Ok(None),
-            Some(extension) => {
+            SectionExtension::Absent => Ok(None),
+            SectionExtension::Spelled(name) => {
+                let extension = WrittenExtension::of_text(alloc, name)?;
+                Ok(Some(extension))
+            }
+            SectionExtension::Known(extension) => {
                 let extension = extension.copy()?;
                 Ok(Some(extension))
             }
@@ -129,7 +144,7 @@ impl LineHistory {
     fn hint(&mut self, extension: WrittenExtension)
         ensures { steps.history_in self.new ≡ steps.after (steps.history_in self.old) (spec.Hints extension) }
     {
-        self.extension = Some(extension);
+        self.extension = SectionExtension::Known(extension);
         self.is_after_hint = true;
     }
 
@@ -137,7 +152,7 @@ impl LineHistory {
     fn name(&mut self, extension: WrittenExtension)
         ensures { steps.history_in self.new ≡ steps.after (steps.history_in self.old) (spec.Names extension) }
     {
-        self.extension = Some(extension);
+        self.extension = SectionExtension::Known(extension);
     }
 
     /// Adds a line of the extension with a number.
@@ -159,9 +174,20 @@ impl LineHistory {
             label,
         )?;
         self.number = Some(number);
-        self.extension = Some(extension);
+        self.extension = SectionExtension::Known(extension);
         self.is_after_hint = false;
         Ok(())
+    }
+
+    /// Adds a line with a number and without a label. The name of its extension is its own spelling.
+    #[inline(always)]
+    pub(crate) fn count_spelled(&mut self, name: &'a [u8], number: u64)
+        ensures { steps.history_in self.new ≡ steps.after (steps.history_in self.old)
+            (spec.Counts (steps.spelled_extension name.now) number None) }
+    {
+        self.number = Some(number);
+        self.extension = SectionExtension::Spelled(name);
+        self.is_after_hint = false;
     }
 
     /// Adds a line of the extension.

@@ -1,5 +1,6 @@
 //! Files inside the lines of other files, after the Asterisk documentation's page on its configuration files.
 ghost use Rattle.std.specs.Prelude.{◌≡◌, OnOk};
+ghost use Rattle.dp_conf.specs.Lines.{content_of};
 ghost use Rattle.dp_files.specs.Directives.{directive_of};
 ghost use Rattle.dp_files.specs.Reading as spec;
 ghost use Rattle.dp_files.specs.Sources.{Files, Telling};
@@ -280,7 +281,28 @@ fn read_line<S: Source, I: Including<S>>(
 {
     let place = reading.add_line(line.file, line.line, line.text)?;
     reading.note_comment(line.opens, place)?;
-    let content = line.text.content(alloc)?;
+    follow_text::<S, I>(alloc, source, reading, place, line.text)?;
+    Ok(())
+}
+
+/// Handles the request of the line at a place, given its text.
+fn follow_text<S: Source, I: Including<S>>(
+    alloc: Global,
+    source: &mut S,
+    reading: &mut FilesReading,
+    place: usize,
+    text: &LineText,
+) -> Result<(), NoMemory>
+    ensures read { OnOk result ((has : Files) → S.agrees source.new has
+        → reading.new ≡ spec.after_directive (I.after has) place (directive_of (content_of text.now)) reading.old) }
+    ensures kept { (has : Files) → S.agrees source.new has → S.agrees source.old has }
+    ensures same { (told : Telling) → S.may_tell source.new told → S.may_tell source.old told }
+{
+    if let Some(content) = text.plain_content() {
+        follow_line::<S, I>(alloc, source, reading, place, content)?;
+        return Ok(());
+    }
+    let content = text.content(alloc)?;
     follow_line::<S, I>(alloc, source, reading, place, content.bytes())?;
     Ok(())
 }

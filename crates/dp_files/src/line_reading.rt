@@ -1,6 +1,7 @@
 //! The result of a line of a context, and what it leaves for the lines after it.
-ghost use Rattle.std.specs.Prelude.{◌≡◌, IfOk, OnOk, None, Some};
+ghost use Rattle.std.specs.Prelude.{◌≡◌, ℕ, List, IfOk, IfSome, OnOk, None, Some};
 ghost use Rattle.std.specs.Option.{option_map};
+ghost use Rattle.dp_files.specs.ContextHistory.{LineHistoryOf as LinesBefore};
 ghost use Rattle.dp_files.specs.ContextLines as spec;
 ghost use Rattle.dp_files.specs.ContextSteps as steps;
 ghost use Rattle.dp_files.specs.declared.extension.WrittenExtension.{WrittenExtension};
@@ -8,11 +9,11 @@ ghost use Rattle.dp_files.specs.declared.remark.RemarkKind.TheVariants.{Note as 
 
 use crate::context_line::{ContextLine, EntryText, is_old_form, read_context_line};
 use crate::entry_line::{EntryLine, NumberedLine};
-use crate::extension::{WrittenExtension, has_caller};
+use crate::extension::{WrittenExtension, has_caller, is_spelled};
 use crate::history::{LineHistory, LineLeaves};
 use crate::line_text::LineText;
 use crate::outcome::{PriorityOutcome, outcome_of};
-use crate::priority::read_priority;
+use crate::priority::{plain_number, read_priority};
 use crate::remark::{Fault, LineNote, RemarkKind};
 use dp_conf::{NoMemory, beside};
 use std::alloc::Global;
@@ -68,7 +69,7 @@ fn double_note(is_double: bool) -> Option<RemarkKind>
 /// The label, unless an earlier line of the extension has it.
 fn kept_label<'a>(
     alloc: Global,
-    history: &LineHistory,
+    history: &LineHistory<'_>,
     spelling: &[u8],
     label: Option<&'a [u8]>,
 ) -> Result<Option<&'a [u8]>, NoMemory>
@@ -188,7 +189,7 @@ fn plain_reading<'a>(
 #[tactic(auto, unfolding(crate::specs::ContextLines::entry_reading))]
 fn entry_reading<'a>(
     alloc: Global,
-    history: &LineHistory,
+    history: &LineHistory<'_>,
     line: &LineText,
     entry: EntryLine<'a, '_>,
 ) -> Result<LineReading<'a>, NoMemory>
@@ -220,7 +221,7 @@ struct EntrySource<'a> {
 /// Makes the line of an entry with the extension.
 fn make_entry(
     alloc: Global,
-    history: &mut LineHistory,
+    history: &mut LineHistory<'_>,
     extension: WrittenExtension,
     source: EntrySource<'_>,
 ) -> Result<LineResult, NoMemory>
@@ -242,7 +243,7 @@ fn make_entry(
 /// Makes the line of an entry, if its extension is valid.
 fn make_known(
     alloc: Global,
-    history: &mut LineHistory,
+    history: &mut LineHistory<'_>,
     extension: Option<WrittenExtension>,
     source: EntrySource<'_>,
 ) -> Result<LineResult, NoMemory>
@@ -256,19 +257,43 @@ fn make_known(
     }
 }
 
-/// Makes a line of a context, and adds what it leaves for those after it.
-#[tactic(auto, unfolding(crate::specs::ContextLines::line_reading))]
-pub(crate) fn make_line(
-    alloc: Global,
-    history: &mut LineHistory,
-    line: &LineText,
-) -> Result<LineResult, NoMemory>
-    ensures made { IfOk result (λ made. made ≡ (spec.line_reading (steps.history_in history.old) line.now).made) }
-    ensures said { OnOk result (steps.history_in history.new ≡ steps.after (steps.history_in history.old)
-        (spec.line_reading (steps.history_in history.old) line.now).said) }
+/// An entry whose line needs no change. The name of its extension is its own spelling.
+#[derive(Clone, Copy)]
+pub(crate) struct SpelledEntry<'a> {
+    pub(crate) name: &'a [u8],
+    pub(crate) number: u64,
+}
+
+/// The entry that a line says, if its name is its own spelling, its priority is a number alone, and its application is not of the old form.
+#[inline(always)]
+pub(crate) fn spelled_entry<'a>(said: &ContextLine<'a>) -> Option<SpelledEntry<'a>>
+    ensures { IfSome result (λ entry. (history : LinesBefore) (line : List ℕ)
+        → spec.line_by history line (steps.line_now said.now) ≡ steps.spelled_reading line entry) }
 {
-    let content = line.content(alloc)?;
-    match read_context_line(content.bytes()) {
+    let ContextLine::Exten { name, entry } = said else {
+        return None;
+    };
+    if !is_spelled(name) || is_old_form(entry.application) {
+        return None;
+    }
+    match plain_number(entry.priority) {
+        Some(number) => Some(SpelledEntry { name, number }),
+        None => None,
+    }
+}
+
+/// Makes a line of a context that says this, and adds what it leaves for those after it.
+pub(crate) fn make_said(
+    alloc: Global,
+    history: &mut LineHistory<'_>,
+    line: &LineText,
+    said: ContextLine<'_>,
+) -> Result<LineResult, NoMemory>
+    ensures made { IfOk result (λ made. made ≡ (spec.line_by (steps.history_in history.old) line.now (steps.line_now said.entry)).made) }
+    ensures said { OnOk result (steps.history_in history.new ≡ steps.after (steps.history_in history.old)
+        (spec.line_by (steps.history_in history.old) line.now (steps.line_now said.entry)).said) }
+{
+    match said {
         ContextLine::Exten { name, entry } => {
             let extension = WrittenExtension::read(alloc, name)?;
             let source = EntrySource {
@@ -279,7 +304,7 @@ pub(crate) fn make_line(
             make_known(alloc, history, extension, source)
         }
         ContextLine::Same(entry) => {
-            let extension = history.extension()?;
+            let extension = history.extension(alloc)?;
             let source = EntrySource {
                 line,
                 is_same: true,
@@ -290,4 +315,19 @@ pub(crate) fn make_line(
         ContextLine::LeftOut(note) => Ok(LineResult::remark(RemarkKind::Note(note))),
         ContextLine::Other => LineResult::standing(line),
     }
+}
+
+/// Makes a line of a context, and adds what it leaves for those after it.
+#[tactic(auto, unfolding(crate::specs::ContextLines::line_reading))]
+pub(crate) fn make_line(
+    alloc: Global,
+    history: &mut LineHistory<'_>,
+    line: &LineText,
+) -> Result<LineResult, NoMemory>
+    ensures made { IfOk result (λ made. made ≡ (spec.line_reading (steps.history_in history.old) line.now).made) }
+    ensures said { OnOk result (steps.history_in history.new ≡ steps.after (steps.history_in history.old)
+        (spec.line_reading (steps.history_in history.old) line.now).said) }
+{
+    let content = line.content(alloc)?;
+    make_said(alloc, history, line, read_context_line(content.bytes()))
 }

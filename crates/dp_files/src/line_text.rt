@@ -1,15 +1,15 @@
 //! The texts of files, and the texts of lines that are cut from them.
-ghost use Rattle.std.specs.Prelude.{◌≡◌, ◌≤◌, IfOk, length, nat_eq, slice_range, true};
+ghost use Rattle.std.specs.Prelude.{◌≡◌, ◌≤◌, IfOk, IfSome, length, nat_eq, slice_range, true};
 ghost use Rattle.std.specs.Cmp.Lexicographic.{pointwise, nat_list_eq_equiv};
 ghost use Rattle.std.specs.Cmp.{partial_equiv_from_equiv};
 ghost use Rattle.bstr.specs.Show.{debug_text};
-ghost use Rattle.dp_conf.specs.Blanks.{trim};
+ghost use Rattle.dp_conf.specs.Blanks.{trim as trim_spec};
 ghost use Rattle.dp_conf.specs.Borrowed.{content_now};
 ghost use Rattle.dp_conf.specs.Lines.{content_of};
 ghost use Rattle.dp_files.specs.LineTexts.{kept_bytes};
 
 use bstr::BStr;
-use dp_conf::{Content, NoMemory, Text, line_content};
+use dp_conf::{Content, NoMemory, Text, line_content, trim};
 use std::alloc::Global;
 use std::fmt;
 use std::marker::Model;
@@ -56,7 +56,7 @@ impl WholeText {
         is_plain: bool,
     ) -> Result<LineText, NoMemory>
         requires within { (start ≤ end) × (end ≤ length self.now) }
-        requires plain { is_plain ≡ true → content_of (slice_range self.now start end) ≡ trim (slice_range self.now start end) }
+        requires plain { is_plain ≡ true → content_of (slice_range self.now start end) ≡ trim_spec (slice_range self.now start end) }
         ensures { IfOk result (λ part. part ≡ slice_range self.now start end) }
     {
         let whole = self.bytes.clone()?;
@@ -105,7 +105,19 @@ impl TextPart {
         &self.whole.as_ref().as_slice()[self.start..self.end]
     }
 
+    /// Its content, if it is known to be all of it without blanks at its ends.
+    #[inline(always)]
+    fn plain_content(&self) -> Option<&[u8]>
+        ensures { IfSome result (λ content. content.now ≡ content_of self.now) }
+    {
+        if self.is_plain {
+            return Some(trim(self.bytes()));
+        }
+        None
+    }
+
     /// Its content.
+    #[inline(always)]
     fn content(&self, alloc: Global) -> Result<Content<'_>, NoMemory>
         ensures { IfOk result (λ content. content_now content ≡ content_of self.now) }
     {
@@ -194,12 +206,24 @@ impl LineText {
     /// The content of the line: what comes before its comment, without blanks at either end and with each `\;` replaced by `;`.
     ///
     /// It allocates only for a line with a `\`.
+    #[inline(always)]
     pub fn content(&self, alloc: Global) -> Result<Content<'_>, NoMemory>
         ensures { IfOk result (λ content. content_now content ≡ content_of self.now) }
     {
         match &self.kept {
             KeptText::Part(part) => part.content(alloc),
             KeptText::Own(text) => line_content(alloc, text.bytes()),
+        }
+    }
+
+    /// The content of a line, if the line is known to have no `;`.
+    #[inline(always)]
+    pub(crate) fn plain_content(&self) -> Option<&[u8]>
+        ensures { IfSome result (λ content. content.now ≡ content_of self.now) }
+    {
+        match &self.kept {
+            KeptText::Part(part) => part.plain_content(),
+            KeptText::Own(_) => None,
         }
     }
 }

@@ -75,6 +75,18 @@ impl MadeText {
         Ok(())
     }
 
+    /// Adds a line unchanged.
+    #[inline(always)]
+    pub(crate) fn push_standing(&mut self, source: usize, line: &LineText) -> Result<(), NoMemory>
+        ensures lines { OnOk result (self.new.lines.items ≡ self.old.lines.items ++ spec.made_line (source, (spec.stands line.now).made)) }
+        ensures remarks { OnOk result (self.new.remarks.items
+            ≡ self.old.remarks.items ++ spec.remark_on (source, (spec.stands line.now).made)) }
+    {
+        let text = line.clone()?;
+        self.lines.push(MadeLine { source, text })?;
+        Ok(())
+    }
+
     /// Adds the result of a line.
     pub(crate) fn push(&mut self, source: usize, made: LineResult) -> Result<(), NoMemory>
         ensures lines { OnOk result (self.new.lines.items ≡ self.old.lines.items ++ spec.made_line (source, made)) }

@@ -37,7 +37,7 @@ fn sum_of(base: Option<u64>, more: Option<u64>) -> Option<u64>
 /// The number from which a priority counts, for an extension with this spelling.
 fn base_number(
     alloc: Global,
-    history: &LineHistory,
+    history: &LineHistory<'_>,
     spelling: &[u8],
     base: Base<'_>,
 ) -> Result<Option<u64>, NoMemory>
@@ -75,7 +75,7 @@ fn outcome_of_number(number: Option<u64>) -> PriorityOutcome
 /// The outcome of a priority without its label.
 fn written_outcome(
     alloc: Global,
-    history: &LineHistory,
+    history: &LineHistory<'_>,
     spelling: &[u8],
     written: WrittenBase<'_>,
 ) -> Result<PriorityOutcome, NoMemory>
@@ -97,7 +97,7 @@ fn written_outcome(
 /// The outcome of a priority of the extension with this spelling.
 pub(crate) fn outcome_of(
     alloc: Global,
-    history: &LineHistory,
+    history: &LineHistory<'_>,
     spelling: &[u8],
     priority: Option<WrittenPriority<'_>>,
 ) -> Result<PriorityOutcome, NoMemory>

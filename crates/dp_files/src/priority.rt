@@ -1,5 +1,5 @@
 //! The priority of an `exten` or `same` line, after the Asterisk documentation's page on contexts, extensions and priorities.
-ghost use Rattle.std.specs.Prelude.{◌≡◌, MatchOption, None, Some};
+ghost use Rattle.std.specs.Prelude.{◌≡◌, IfSome, MatchOption, None, Some};
 ghost use Rattle.std.specs.List.{list_all};
 ghost use Rattle.std.specs.Option.{option_map};
 ghost use Rattle.dp_conf.specs.Cut as cuts;
@@ -201,6 +201,22 @@ fn plain_priority(number: u64) -> Option<WrittenPriority<'static>>
         }),
         None => None,
     }
+}
+
+/// The number of a priority that is a number alone, or None if the priority is malformed or any other.
+#[inline(always)]
+pub(crate) fn plain_number(text: &[u8]) -> Option<u64>
+    ensures priority { IfSome result (λ number. spec.priority_of text.now
+        ≡ Some (record { written = spec.Counted (spec.Number number) None; label = None })) }
+    ensures within { IfSome result (λ number. spec.within_limit number ≡ Some number) }
+{
+    let Some(number) = read_number(text) else {
+        return None;
+    };
+    if number == 0 || MOST_PRIORITY < number {
+        return None;
+    }
+    Some(number)
 }
 
 /// The priority that the text writes, or None if it is malformed.

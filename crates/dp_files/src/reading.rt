@@ -134,6 +134,7 @@ impl FilesReading {
     }
 
     /// Adds a line of a file, and returns its place.
+    #[inline(always)]
     pub(crate) fn add_line(
         &mut self,
         file: usize,

@@ -9,6 +9,7 @@ ghost use Rattle.dp_files.specs.SectionParts as parts;
 ghost use Rattle.dp_files.specs.Sections as spec;
 
 use crate::header::{SectionHeader, parents_of, read_header};
+use crate::line_text::LineText;
 use crate::remark::{Fault, LineRemark, RemarkKind};
 use crate::source_line::{SourceFile, SourceLine};
 use dp_conf::{ConfFault, LineKind, NoMemory, Text, read_line, same_word};
@@ -35,7 +36,7 @@ impl Model for SectionPlaces {
 }
 
 impl SectionPlaces {
-    ghost use Rattle.std.specs.Prelude.{◌≡◌, ◌++◌, OnOk, OnErr};
+    ghost use Rattle.std.specs.Prelude.{◌≡◌, ◌++◌, ◌∷◌, [], OnOk, OnErr};
 
     /// The list of these places. It never allocates.
     pub fn new(places: Vec<usize>) -> Self
@@ -50,6 +51,16 @@ impl SectionPlaces {
         ensures err { OnErr result (self.new ≡ self.old) }
     {
         self.places.extend_from_slice(more)?;
+        Ok(())
+    }
+
+    /// Adds a place at the end. If memory runs out nothing changes.
+    #[inline(always)]
+    fn push(&mut self, place: usize) -> Result<(), NoMemory>
+        ensures ok { OnOk result (self.new ≡ self.old ++ place ∷ []) }
+        ensures err { OnErr result (self.new ≡ self.old) }
+    {
+        self.places.push(place)?;
         Ok(())
     }
 
@@ -213,16 +224,13 @@ fn named_sections(
     }
 }
 
-/// Adds lines to the section at a place.
-fn add_lines(
-    sections: &mut Vec<SourceSection>,
-    place: usize,
-    lines: &[usize],
-) -> Result<(), NoMemory>
-    ensures { OnOk result (sections.new.items ≡ changed_at (spec.with_lines lines.now) place sections.old.items) }
+/// Adds a line to the section at a place.
+#[inline(always)]
+fn add_line(sections: &mut Vec<SourceSection>, place: usize, line: usize) -> Result<(), NoMemory>
+    ensures { OnOk result (sections.new.items ≡ changed_at (spec.with_lines (line ∷ [])) place sections.old.items) }
 {
     if let Some(section) = sections.get_mut(place) {
-        section.lines.extend(lines)?;
+        section.lines.push(line)?;
     }
     Ok(())
 }
@@ -400,10 +408,10 @@ fn take_plain_line(
 {
     // Most lines are pairs, and the search for a single byte is faster than reading one.
     if current != 0 && is_pair(content) {
-        return add_lines(&mut reading.sections, current, &[place]);
+        return add_line(&mut reading.sections, current, place);
     }
     match read_line(0, current != 0, content) {
-        Ok(_) => add_lines(&mut reading.sections, current, &[place])?,
+        Ok(_) => add_line(&mut reading.sections, current, place)?,
         Err(ConfFault::At { line: _, kind }) => {
             tell(&mut reading.remarks, place, Fault::Line(kind))?
         }
@@ -413,6 +421,7 @@ fn take_plain_line(
 }
 
 /// Takes a line, given its content and the open section, and returns the section that is open after it.
+#[inline(always)]
 #[tactic(auto, unfolding(crate::specs::Sections::after_content))]
 fn take_content(
     alloc: Global,
@@ -484,6 +493,26 @@ fn keep_open(open_in: &mut Vec<Option<usize>>, file: usize, current: usize)
     }
 }
 
+/// Takes the text of the line at a place, given the open section, and returns the section that is open after it.
+fn take_text(
+    alloc: Global,
+    reading: &mut SectionReading,
+    place: usize,
+    current: usize,
+    text: &LineText,
+) -> Result<usize, NoMemory>
+    ensures { IfOk result (λ after. spec.after_content place current (content_of text.now) (parts.reading_now reading.old)
+        ≡ (parts.reading_now reading.new, after)) }
+{
+    if let Some(content) = text.plain_content() {
+        let after = take_content(alloc, reading, place, current, content)?;
+        return Ok(after);
+    }
+    let content = text.content(alloc)?;
+    let after = take_content(alloc, reading, place, current, content.bytes())?;
+    Ok(after)
+}
+
 /// Takes the line at a place.
 fn take_line(
     alloc: Global,
@@ -495,8 +524,7 @@ fn take_line(
     ensures { OnOk result (spec.with_open line.now.file
         (spec.after_content place current (content_of line.now.text) (parts.reading_now reading.old)) ≡ parts.reading_now reading.new) }
 {
-    let content = line.text.content(alloc)?;
-    let after = take_content(alloc, reading, place, current, content.bytes())?;
+    let after = take_text(alloc, reading, place, current, &line.text)?;
     keep_open(&mut reading.open_in, line.file, after);
     Ok(())
 }

@@ -1,4 +1,4 @@
-use Rattle.std.proofs.Common.{◌≡◌, true, false, ◌&&◌, not, [], ◌∷◌, eqb, length, ap, sym, ◌∙◌, refl, rules, tests}
+use Rattle.std.proofs.Common.{◌≡◌, true, false, ◌&&◌, not, eqb, sym, ◌∙◌}
 use Rattle.dp_conf.specs.Lines.{opens_block}
 use Rattle.dp_files.specs.Comments.{rest_of_line}
 use Rattle.dp_files.proofs.CommentsLemmas.{stands-empty, stands-comment}

@@ -1,5 +1,4 @@
-use Rattle.std.proofs.Common.{◌≡◌, ℕ, [], length}
-use Rattle.dp_files.specs.Comments.{uncovered_from}
+use Rattle.std.proofs.Common.{ℕ, length}
 use Rattle.dp_files.proofs.CommentsLemmas.{Stands}
 use Rattle.dp_files.proofs.comments.begins_block.Given as goal
 

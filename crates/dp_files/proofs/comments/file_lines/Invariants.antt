@@ -1,4 +1,4 @@
-use Rattle.std.proofs.Common.{◌≡◌, ◌+◌, ◌-◌, ◌≤◌, ℕ, Option, Some, None, length, IfSome}
+use Rattle.std.proofs.Common.{◌≡◌, ◌+◌, ◌≤◌, length, IfSome}
 use Rattle.dp_files.specs.Comments.{lines_after, file_lines}
 use Rattle.dp_files.specs.LineSteps.{parts_from}
 use Rattle.dp_files.proofs.CommentsLemmas.{with_lines, left_from}

@@ -1,4 +1,4 @@
-use Rattle.std.proofs.Common.{◌≡◌, true, false, eqb, rules, tests}
+use Rattle.std.proofs.Common.{◌≡◌, false, eqb, rules, tests}
 use Rattle.std.specs.List.{list_any}
 use Rattle.dp_files.specs.Comments.{rest_of_line}
 use Rattle.dp_files.proofs.CommentsLemmas.{content_of-plain, stands-plain}

@@ -1,4 +1,4 @@
-use Rattle.std.proofs.Common.{◌≡◌, ◌++◌, append-nil, ap, sym, ◌∙◌}
+use Rattle.std.proofs.Common.{◌++◌, append-nil, ap, sym, ◌∙◌}
 use Rattle.std.proofs.lemmas.Option.{slice_get_past}
 use Rattle.dp_files.specs.DialplanText as spec
 use Rattle.dp_files.proofs.dialplan_text.push_standing.Goals as goal
