@@ -4,6 +4,7 @@ mod DebugLemmas
 mod JoinedLemmas
 mod ScriptLemmas
 mod RunnersLemmas
+mod SpoolLemmas
 mod StreamsLemmas
 mod TextsLemmas
 mod ThreadsLemmas

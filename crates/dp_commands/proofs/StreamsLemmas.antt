@@ -6,11 +6,12 @@ use Rattle.std.proofs.lemmas.List.Sums.{fold-append}
 use Rattle.std.proofs.Math.Bool.{or-false}
 use Rattle.std.proofs.Math.Seq.{take-append-add, take-length}
 use Rattle.dp_conf.specs.Fronts.{IsFront, AppendsFront}
-use Rattle.dp_conf.proofs.ToldLemmas.{AppendsFront-more, IsFront-append, IsFront-trans}
+use Rattle.dp_conf.proofs.ToldLemmas.{AppendsFront-more, IsFront-append}
 use Rattle.dp_commands.specs.Faults.{is_write_failed, is_write_fault}
 use Rattle.dp_commands.specs.Run.{Writes, run_on, status_by}
 use Rattle.dp_commands.specs.Trace.{after_turn, trace_of, any_refused}
 use Rattle.dp_commands.specs.Turns.{Taken, WritesTurns, WritesTurnsBy, lines_of, state_past, refused_in, text_of}
+use Rattle.dp_commands.specs.laws.Flows.{Flows-fails, Flows-stay, Flows-trans, IsFront-refl}
 use Rattle.dp_commands.specs.steps.Streams.{Ends, Flows, FlowsFirst, Streams, StreamsAll, fails_at_the_end, plainly}
 use Rattle.dp_machine.specs.World.{World}
 use Rattle.dp_commands.specs.declared.fault.PbxFault.{PbxFault}
@@ -20,14 +21,6 @@ use Rattle.dp_commands.specs.declared.script.Turn.{Turn}
 or-assoc : (a b c : Bool) → ((a || b) || c) ≡ (a || (b || c))
 or-assoc true b c = refl
 or-assoc false b c = refl
-
-IsFront-refl : (xs : List ℕ) → IsFront xs xs
-IsFront-refl xs = ap (λ (t : List ℕ). take (length xs) t) (sym (append-nil xs)) ∙ IsFront-append xs []
-
--- nothing happens, and nothing is written
-pub Flows-stay : (old : Option (List ℕ)) (waited : List ℕ) → Flows old waited old waited []
-Flows-stay None waited = tt
-Flows-stay (Some xs) waited = (ap (λ (t : List ℕ). xs ++ t) (sym (append-nil waited)), IsFront-refl xs)
 
 -- bytes are added to those that wait
 pub Flows-waits : (old : Option (List ℕ)) (waited waits bytes : List ℕ) → waits ≡ waited ++ bytes → Flows old waited old waits bytes
@@ -42,29 +35,6 @@ Flows-sent (Some xs) (Some ys) waited wrote =
     let Q : List ℕ → Type 0 = λ t. IsFront xs t in (
       append-nil ys ∙ (wrote ∙ ap (λ (t : List ℕ). xs ++ t) (sym (append-nil waited))),
       subst Q (sym wrote) (IsFront-append xs waited),
-    )
-
--- more bytes after the others
-pub Flows-trans : (c d e : Option (List ℕ)) (a b f first second : List ℕ) → Flows c a d b first → Flows d b e f second → Flows c a e f (first ++ second)
-Flows-trans None d e a b f first second p q = tt
-Flows-trans (Some xs) None e a b f first second p q = absurd p
-Flows-trans (Some xs) (Some ys) None a b f first second p q = q
-Flows-trans (Some xs) (Some ys) (Some zs) a b f first second p q = (
-  q.0 ∙ (sym (append_assoc ys b second) ∙ (ap (λ (t : List ℕ). t ++ second) p.0
-      ∙ (append_assoc xs (a ++ first) second ∙ ap (λ (t : List ℕ). xs ++ t) (append_assoc a first second)))),
-  IsFront-trans xs ys zs p.1 q.1,
-)
-
--- a failed write after other bytes
-pub Flows-fails : (c d e : Option (List ℕ)) (a b first second : List ℕ) → Flows c a d b first → AppendsFront d e (b ++ second) → AppendsFront c e (a ++ (first ++ second))
-Flows-fails None d e a b first second p q = tt
-Flows-fails (Some xs) None e a b first second p q = absurd p
-Flows-fails (Some xs) (Some ys) None a b first second p q = q
-Flows-fails (Some xs) (Some ys) (Some zs) a b first second p q =
-    let Q : List ℕ → Type 0 = λ t. IsFront zs t in (
-      IsFront-trans xs ys zs p.1 q.0,
-      subst Q (sym (append_assoc ys b second) ∙ (ap (λ (t : List ℕ). t ++ second) p.0
-          ∙ (append_assoc xs (a ++ first) second ∙ ap (λ (t : List ℕ). xs ++ t) (append_assoc a first second)))) q.1,
     )
 
 -- a failed write with nothing after it

@@ -14,4 +14,5 @@ pub mod Threads
 pub mod Trace
 pub mod Turns
 pub mod Verbose
+pub mod laws
 pub mod steps

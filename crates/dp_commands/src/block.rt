@@ -13,7 +13,7 @@ use std::marker::Model;
 pub(crate) const ROOM: usize = 65_536;
 
 /// A block is full if it has less room left than this number of bytes. A longer line makes it grow.
-const LEAST_LEFT: usize = 4_096;
+pub(crate) const LEAST_LEFT: usize = 4_096;
 
 /// Bytes that wait to be written: whole lines, then the start of the next line.
 #[derive(Drop)]
@@ -52,6 +52,7 @@ impl Block {
     pub fn push(&mut self, bytes: &[u8]) -> Result<(), NoMemory>
         ensures kept { self.new.whole ≡ self.old.whole }
         ensures ok { OnOk result (self.new.begun ≡ self.old.begun ++ bytes.now) }
+        ensures err { OnErr result (self.new ≡ self.old) }
     {
         match bytes {
             [byte] => self.push_byte(*byte),
@@ -64,6 +65,7 @@ impl Block {
     pub fn push_byte(&mut self, byte: u8) -> Result<(), NoMemory>
         ensures kept { self.new.whole ≡ self.old.whole }
         ensures ok { OnOk result (self.new.begun ≡ self.old.begun ++ byte ∷ []) }
+        ensures err { OnErr result (self.new ≡ self.old) }
     {
         self.bytes.push(byte)?;
         Ok(())
@@ -84,7 +86,7 @@ impl Block {
     }
 
     /// Adds the line that was begun to the whole lines.
-    fn close_line(&mut self)
+    pub(crate) fn close_line(&mut self)
         ensures { self.new ≡ waiting (self.old.whole ++ self.old.begun) [] }
     {
         self.whole = self.bytes.len();
@@ -118,7 +120,7 @@ impl Block {
 
     /// Whether the block has hardly any room for another line.
     pub(crate) fn is_full(&self) -> bool {
-        self.whole > ROOM - LEAST_LEFT
+        self.bytes.len() > ROOM - LEAST_LEFT
     }
 
     /// Writes the whole lines. Nothing waits afterwards; if the write fails, a prefix of the lines was written.

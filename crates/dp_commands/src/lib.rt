@@ -13,6 +13,7 @@ mod findings;
 mod in_force;
 mod joined_text;
 mod line_places;
+mod listing;
 mod reading;
 mod report;
 mod run;
@@ -36,10 +37,9 @@ pub use findings::{audit, push_finding_line, push_spot};
 pub use in_force::{PlanNames, PlanPlaces};
 pub use joined_text::run_joined;
 pub use line_places::{LinePlaces, LinePosition, SourceLines};
+pub use listing::list_plan;
 pub use reading::{ReadLine, read_script_by};
-pub use report::{
-    PlanWithNotes, check, check_explained, find_answer, list_plan, match_one, read_plan,
-};
+pub use report::{PlanWithNotes, check, check_explained, find_answer, match_one, read_plan};
 pub use run::{run_contents, run_lines, run_script, take_event, take_show};
 pub use script::{PlainLines, ScriptLine, Turn, read_script};
 pub use script_line::{number_within, read_channel, words};

@@ -14,7 +14,6 @@ use crate::explained_line::{FileLine, line_among, push_explanation};
 use crate::fault::PbxFault;
 use crate::trace::{push_entry, push_number};
 use dp_conf::WriteTold;
-use dp_lister::list;
 use dp_lookup::{SearchOrder, find};
 use dp_plan::{Context, Dialplan, EntryId, NoMemory, Note, Priority, Text};
 use std::alloc::Global;
@@ -208,29 +207,6 @@ pub fn check_explained<W: WriteTold>(
 {
     let text = explain_report(alloc, path, plan)?;
     writer.write_told(text.bytes())?;
-    Ok(0)
-}
-
-/// The canonical listing of a dialplan's text, or the text's fault.
-#[tactic(auto, unfolding(crate::specs::Report::list_of))]
-fn listing_of(alloc: Global, plan: &[u8]) -> Result<Vec<u8>, PbxFault>
-    ensures text { Answers (λ text. text.items) reason_of result (spec.list_of plan.now) }
-    ensures quiet { is_write_failed result ≡ false }
-{
-    let read = read_plan(alloc, plan)?;
-    let text = list(alloc, &read.plan)?;
-    Ok(text)
-}
-
-/// Loads a dialplan and writes its canonical listing. The status is 0; its notes are not written.
-///
-/// A faulty dialplan has its first fault, and nothing is written. If the write fails, what was written stays written.
-pub fn list_plan<W: WriteTold>(alloc: Global, plan: &[u8], writer: &mut W) -> Result<u8, PbxFault>
-    ensures writes { spec.Reports (W.contents writer.old) (W.contents writer.new) (spec.list_of plan.now) result }
-    ensures told { W.has_failed writer.new ≡ (W.has_failed writer.old || is_write_failed result) }
-{
-    let text = listing_of(alloc, plan)?;
-    writer.write_told(&text)?;
     Ok(0)
 }
 

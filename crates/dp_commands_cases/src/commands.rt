@@ -3,6 +3,7 @@ mod candidates;
 mod codes;
 mod debugs;
 mod large;
+mod listings;
 mod reports;
 mod scripts;
 mod writers;

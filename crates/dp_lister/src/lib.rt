@@ -2,6 +2,9 @@
 #![tactic(auto)]
 
 mod listing;
+mod sink;
+mod whole;
 
 pub use dp_plan::{Dialplan, NoMemory};
-pub use listing::{list, listings_load_again};
+pub use listing::{list, list_to, listings_load_again};
+pub use sink::ListingSink;

@@ -1,169 +1,184 @@
 //! The canonical listing of a dialplan.
-ghost use Rattle.std.specs.Prelude.{◌≡◌, ◌++◌, [], ◌∷◌, IfOk, OnOk, map};
+ghost use Rattle.std.specs.Prelude.{◌≡◌, ◌++◌, [], ◌∷◌, IfOk, codes, map};
 ghost use Rattle.dp_conf.specs.Escape.{escape_text};
 ghost use Rattle.dp_lister.specs.Again.{LoadsAs};
 ghost use Rattle.dp_lister.specs.Listing as spec;
 ghost use Rattle.dp_plan.specs.Loaded.{IsLoaded};
 ghost use Rattle.dp_plan.specs.Plan.{PlanOf};
 
-use dp_conf::{Text, push_escaped};
+use crate::sink::ListingSink;
+use crate::whole::Whole;
+use dp_conf::{Text, cut_once};
 use dp_plan::{Context, Dialplan, Entry, GlobalVariable, NoMemory, SharedText};
 use itoa::Buffer;
 use std::alloc::Global;
 
-/// Adds the line of a global variable.
-fn push_global(out: &mut Vec<u8>, global: &GlobalVariable) -> Result<(), NoMemory>
-    ensures { OnOk result (out.new.items ≡ out.old.items ++ spec.line_text (spec.global_line global.now)) }
+/// Adds a part of a text before a `;`, and the `;` as `\;`.
+fn put_part<S: ListingSink>(out: &mut S, part: &[u8])
+    ensures { S.takes out.old out.new (part.now ++ codes "\\;") }
 {
-    push_escaped(out, global.name.bytes())?;
-    out.extend_from_slice(b" => ")?;
-    push_escaped(out, global.value.bytes())?;
-    out.push(b'\n')?;
-    Ok(())
+    out.put(part);
+    out.put(b"\\;");
+}
+
+/// Adds a text as it is written in a line: each `;` as `\;`, and everything else unchanged.
+fn put_escaped<S: ListingSink>(out: &mut S, text: &[u8])
+    ensures { S.takes out.old out.new (escape_text text.now) }
+{
+    let mut left = text;
+    while let Some((part, rest)) = cut_once(left, b';') {
+        put_part(out, part);
+        left = rest;
+    }
+    out.put(left);
+}
+
+/// Adds the line of a global variable.
+fn push_global<S: ListingSink>(out: &mut S, global: &GlobalVariable)
+    ensures { S.takes out.old out.new (spec.line_text (spec.global_line global.now)) }
+{
+    put_escaped(out, global.name.bytes());
+    out.put(b" => ");
+    put_escaped(out, global.value.bytes());
+    out.put(b"\n");
 }
 
 /// Adds a line for each global variable.
-fn push_each_global(out: &mut Vec<u8>, globals: &[GlobalVariable]) -> Result<(), NoMemory>
-    ensures { OnOk result (out.new.items ≡ out.old.items ++ spec.text_of (map spec.global_line globals.now)) }
+fn push_each_global<S: ListingSink>(out: &mut S, globals: &[GlobalVariable])
+    ensures { S.takes out.old out.new (spec.text_of (map spec.global_line globals.now)) }
 {
     for global in globals {
-        push_global(out, global)?;
+        push_global(out, global);
     }
-    Ok(())
 }
 
 /// Adds the lines of the global variables, if there are any.
-fn push_globals(out: &mut Vec<u8>, globals: &[GlobalVariable]) -> Result<(), NoMemory>
-    ensures { OnOk result (out.new.items ≡ out.old.items ++ spec.text_of (spec.global_lines globals.now)) }
+fn push_globals<S: ListingSink>(out: &mut S, globals: &[GlobalVariable])
+    ensures { S.takes out.old out.new (spec.text_of (spec.global_lines globals.now)) }
 {
     if globals.is_empty() {
-        return Ok(());
+        return;
     }
-    out.extend_from_slice(b"[globals]\n")?;
-    push_each_global(out, globals)?;
-    Ok(())
+    out.put(b"[globals]\n");
+    push_each_global(out, globals);
 }
 
 /// Adds a priority with its label, if it has one.
-fn push_priority(
-    out: &mut Vec<u8>,
-    priority: u32,
-    label: &Option<SharedText>,
-) -> Result<(), NoMemory>
-    ensures { OnOk result (out.new.items ≡ out.old.items ++ escape_text (spec.priority_text priority label.now)) }
+fn push_priority<S: ListingSink>(out: &mut S, priority: u32, label: &Option<SharedText>)
+    ensures { S.takes out.old out.new (escape_text (spec.priority_text priority label.now)) }
 {
     let mut buffer = Buffer::new();
-    push_escaped(out, buffer.format(priority).as_bytes())?;
+    put_escaped(out, buffer.format(priority).as_bytes());
     if let Some(label) = label {
-        out.push(b'(')?;
-        push_escaped(out, label.bytes())?;
-        out.push(b')')?;
+        out.put(b"(");
+        put_escaped(out, label.bytes());
+        out.put(b")");
     }
-    Ok(())
 }
 
 /// Adds an application with its arguments.
-fn push_application(out: &mut Vec<u8>, name: &[u8], arguments: &[u8]) -> Result<(), NoMemory>
-    ensures { OnOk result (out.new.items ≡ out.old.items ++ escape_text (spec.application_text name.now arguments.now)) }
+fn push_application<S: ListingSink>(out: &mut S, name: &[u8], arguments: &[u8])
+    ensures { S.takes out.old out.new (escape_text (spec.application_text name.now arguments.now)) }
 {
-    push_escaped(out, name)?;
-    out.push(b'(')?;
-    push_escaped(out, arguments)?;
-    out.push(b')')?;
-    Ok(())
+    put_escaped(out, name);
+    out.put(b"(");
+    put_escaped(out, arguments);
+    out.put(b")");
 }
 
 /// Adds the text after the name in the line of an entry.
-fn push_after_name(out: &mut Vec<u8>, entry: &Entry) -> Result<(), NoMemory>
-    ensures { OnOk result (out.new.items ≡ out.old.items ++ escape_text (spec.after_name entry.now)) }
+fn push_after_name<S: ListingSink>(out: &mut S, entry: &Entry)
+    ensures { S.takes out.old out.new (escape_text (spec.after_name entry.now)) }
 {
-    out.push(b',')?;
-    push_priority(out, entry.priority.get(), &entry.label)?;
-    out.push(b',')?;
-    push_application(out, entry.application.bytes(), entry.arguments.bytes())?;
-    Ok(())
+    out.put(b",");
+    push_priority(out, entry.priority.get(), &entry.label);
+    out.put(b",");
+    push_application(out, entry.application.bytes(), entry.arguments.bytes());
 }
 
 /// Adds the line of an entry.
-fn push_entry(out: &mut Vec<u8>, entry: &Entry) -> Result<(), NoMemory>
-    ensures { OnOk result (out.new.items ≡ out.old.items ++ spec.line_text (spec.entry_line entry.now)) }
+fn push_entry<S: ListingSink>(out: &mut S, entry: &Entry)
+    ensures { S.takes out.old out.new (spec.line_text (spec.entry_line entry.now)) }
 {
-    out.extend_from_slice(b"exten => ")?;
-    push_escaped(out, entry.name.spelling())?;
-    push_after_name(out, entry)?;
-    out.push(b'\n')?;
-    Ok(())
+    out.put(b"exten => ");
+    put_escaped(out, entry.name.spelling());
+    push_after_name(out, entry);
+    out.put(b"\n");
 }
 
-/// Adds the lines of entries.
-fn push_entries(out: &mut Vec<u8>, entries: &[Entry]) -> Result<(), NoMemory>
-    ensures { OnOk result (out.new.items ≡ out.old.items ++ spec.text_of (map spec.entry_line entries.now)) }
+/// Adds the lines of entries. Their names together may be much longer than the text of the dialplan, so none is added after a failure.
+fn push_entries<S: ListingSink>(out: &mut S, entries: &[Entry])
+    ensures { S.takes out.old out.new (spec.text_of (map spec.entry_line entries.now)) }
 {
     for entry in entries {
-        push_entry(out, entry)?;
+        if out.has_failed() {
+            return;
+        }
+        push_entry(out, entry);
     }
-    Ok(())
 }
 
 /// Adds the line of an include.
-fn push_include(out: &mut Vec<u8>, name: &Text) -> Result<(), NoMemory>
-    ensures { OnOk result (out.new.items ≡ out.old.items ++ spec.line_text (spec.include_line name.now)) }
+fn push_include<S: ListingSink>(out: &mut S, name: &Text)
+    ensures { S.takes out.old out.new (spec.line_text (spec.include_line name.now)) }
 {
-    out.extend_from_slice(b"include => ")?;
-    push_escaped(out, name.bytes())?;
-    out.push(b'\n')?;
-    Ok(())
+    out.put(b"include => ");
+    put_escaped(out, name.bytes());
+    out.put(b"\n");
 }
 
 /// Adds the lines of includes.
-fn push_includes(out: &mut Vec<u8>, includes: &[Text]) -> Result<(), NoMemory>
-    ensures { OnOk result (out.new.items ≡ out.old.items ++ spec.text_of (map spec.include_line includes.now)) }
+fn push_includes<S: ListingSink>(out: &mut S, includes: &[Text])
+    ensures { S.takes out.old out.new (spec.text_of (map spec.include_line includes.now)) }
 {
     for name in includes {
-        push_include(out, name)?;
+        push_include(out, name);
     }
-    Ok(())
 }
 
 /// Adds the header of a context.
-fn push_header(out: &mut Vec<u8>, name: &[u8]) -> Result<(), NoMemory>
-    ensures { OnOk result (out.new.items ≡ out.old.items ++ spec.line_text (spec.header_line name.now)) }
+fn push_header<S: ListingSink>(out: &mut S, name: &[u8])
+    ensures { S.takes out.old out.new (spec.line_text (spec.header_line name.now)) }
 {
-    out.push(b'[')?;
-    push_escaped(out, name)?;
-    out.extend_from_slice(b"]\n")?;
-    Ok(())
+    out.put(b"[");
+    put_escaped(out, name);
+    out.put(b"]\n");
 }
 
 /// Adds the lines of a context.
-fn push_context(out: &mut Vec<u8>, context: &Context) -> Result<(), NoMemory>
-    ensures { OnOk result (out.new.items ≡ out.old.items ++ spec.text_of (spec.context_lines context.now)) }
+fn push_context<S: ListingSink>(out: &mut S, context: &Context)
+    ensures { S.takes out.old out.new (spec.text_of (spec.context_lines context.now)) }
 {
-    push_header(out, context.name().bytes())?;
-    push_entries(out, context.entries())?;
-    push_includes(out, context.includes())?;
-    Ok(())
+    push_header(out, context.name().bytes());
+    push_entries(out, context.entries());
+    push_includes(out, context.includes());
 }
 
 /// Adds the lines of contexts.
-fn push_contexts(out: &mut Vec<u8>, contexts: &[Context]) -> Result<(), NoMemory>
-    ensures { OnOk result (out.new.items ≡ out.old.items ++ spec.contexts_text contexts.now) }
+fn push_contexts<S: ListingSink>(out: &mut S, contexts: &[Context])
+    ensures { S.takes out.old out.new (spec.contexts_text contexts.now) }
 {
     for context in contexts {
-        push_context(out, context)?;
+        push_context(out, context);
     }
-    Ok(())
+}
+
+/// Gives a sink the canonical listing of a dialplan piece by piece, so that it is never in memory as a whole.
+#[tactic(auto, unfolding(crate::specs::Listing::listing))]
+pub fn list_to<S: ListingSink>(plan: &Dialplan, out: &mut S)
+    ensures { S.takes out.old out.new (spec.listing plan.now) }
+{
+    push_globals(out, plan.globals());
+    push_contexts(out, plan.contexts());
 }
 
 /// The lines of the global variables and of the contexts.
-#[tactic(auto, unfolding(crate::specs::Listing::listing))]
 fn listing_of(alloc: Global, plan: &Dialplan) -> Result<Vec<u8>, NoMemory>
     ensures { IfOk result (λ text. text.items ≡ spec.listing plan.now) }
 {
-    let mut out = Vec::new(alloc);
-    push_globals(&mut out, plan.globals())?;
-    push_contexts(&mut out, plan.contexts())?;
-    Ok(out)
+    let mut whole = Whole::new(alloc);
+    list_to(plan, &mut whole);
+    whole.into_text()
 }
 
 /// The canonical listing of a dialplan: its global variables, if it has any, below `[globals]`, and each context with

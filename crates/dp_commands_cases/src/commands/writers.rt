@@ -1,4 +1,5 @@
 //! Writers that fail.
+use crate::commands::listings::List;
 use dp_commands::{PbxFault, RunTexts, match_one, run_script};
 use dp_commands_fixture::{Check, Command, JoinedRun, Sink, check_into, make_sink};
 use dp_conf::{NoMemory, Told};
@@ -58,6 +59,9 @@ ran 1 main,100,2 Goto -> ready main,200,1\nran 1 main,200,1 Hangup -> ended\n";
 /// A dialplan with something to report.
 const NOTED: &[u8] = b"[main]\nexten => _NX,1,NoOp()\ninclude => out\n";
 
+/// Its listing.
+const LISTED: &[u8] = b"[main]\nexten => _NX,1,NoOp()\ninclude => out\n";
+
 /// The output of `check` for it.
 const CHECKED: &[u8] = b"note 3 UnknownContext\nok 1 contexts 1 entries\n";
 
@@ -104,6 +108,7 @@ fn commands_stop_at_the_first_failed_write(rt: HostRuntime) -> Result<(), Fail> 
     check_each::<JoinedRun>(rt.alloc(), RUN, TRACE, b"status 0")?;
     check_each::<RingAll>(rt.alloc(), RING_ALL_SCRIPT, RING_ALL_TRACE, b"status 1")?;
     check_each::<Check>(rt.alloc(), NOTED, CHECKED, b"status 0")?;
+    check_each::<List>(rt.alloc(), NOTED, LISTED, b"status 0")?;
     check_each::<Match23>(rt.alloc(), NOTED, MATCHED, b"status 0")?;
     check_failing::<JoinedRun>(rt.alloc(), RUN, (4096, 0), b"")
 }
@@ -124,5 +129,7 @@ fn faulty_texts_and_empty_runs_write_nothing(rt: HostRuntime) -> Result<(), Fail
     )?;
     check_unasked::<JoinedRun>(rt.alloc(), b";; script\nstep 1 0\n", b"status 0")?;
     check_unasked::<Check>(rt.alloc(), b"[main]\nabc\n", b"fault 4 NoEquals line 2")?;
+    check_unasked::<List>(rt.alloc(), b"[main]\nabc\n", b"fault 4 NoEquals line 2")?;
+    check_unasked::<List>(rt.alloc(), b"", b"status 0")?;
     check_unasked::<Match23>(rt.alloc(), b"abc\n", b"fault 2 NoSection line 1")
 }

@@ -1,0 +1,2 @@
+-- Proofs of the ghost members of sinks, which are here because these members name them.
+pub mod Growing

@@ -1,0 +1,2 @@
+-- The steps of private functions. No public clause depends on them.
+pub mod Growing
