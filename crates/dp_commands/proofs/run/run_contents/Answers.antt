@@ -1,4 +1,5 @@
 use Rattle.std.proofs.Common.{Ok, subst}
+use Rattle.std.proofs.lemmas.Result.{err_from_is_err_and}
 use Rattle.dp_machine.specs.World.{World, opening}
 use Rattle.dp_commands.specs.Run.{Writes, run_on}
 use Rattle.dp_commands.specs.Script.{turns_of}
@@ -17,4 +18,5 @@ returns-clause-writes g c =
 -- memory ran out before the first turn
 pub returns-in_err-machine-clause-writes : goal.returns-in_err-machine-clause-writes
 returns-in_err-machine-clause-writes g c =
-    Writes_lacks (g.W.WriteTold.contents c.args.writer.now) (Ok (run_on (opening c.args.contents.files.plan c.args.contents.files.queues) (turns_of c.args.contents.lines.items)))
+    let p = err_from_is_err_and c.from_residual.result c.from_residual.ensures.1 in
+    rw (p.1, p.2) (Writes_lacks (g.W.WriteTold.contents c.args.writer.now) (Ok (run_on (opening c.args.contents.files.plan c.args.contents.files.queues) (turns_of c.args.contents.lines.items))))
