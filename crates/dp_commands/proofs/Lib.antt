@@ -6,6 +6,6 @@ mod ScriptLemmas
 mod RunnersLemmas
 mod SpoolLemmas
 mod StreamsLemmas
-mod TextsLemmas
+pub mod TextsLemmas
 mod ThreadsLemmas
 mod VerboseLemmas

@@ -9,8 +9,8 @@ pub loop-number-preserved : goal.loop-number-preserved
 loop-number-preserved g c = record {
   found =
       c.in_ok-push_of_context.ensures.found
-      ∙ (ap (λ (plan : PlanOf). c.loop-number.findings.items ++ findings_of_context g.N.Names.known plan c.loop-number.number) c.loop-number.invariant.same
-      ∙ (ap (λ (before : List Finding). before ++ findings_of_context g.N.Names.known c.args.finder.now c.loop-number.number) c.loop-number.invariant.found
-      ∙ contexts_more (findings_of_context g.N.Names.known c.args.finder.now) c.loop-number.number));
+      ∙ (ap (λ (plan : PlanOf). c.loop-number.findings.items ++ findings_of_context g.N.AppNames.known plan c.loop-number.number) c.loop-number.invariant.same
+      ∙ (ap (λ (before : List Finding). before ++ findings_of_context g.N.AppNames.known c.args.finder.now c.loop-number.number) c.loop-number.invariant.found
+      ∙ contexts_more (findings_of_context g.N.AppNames.known c.args.finder.now) c.loop-number.number));
   same = c.push_of_context.ensures.same ∙ c.loop-number.invariant.same;
 }

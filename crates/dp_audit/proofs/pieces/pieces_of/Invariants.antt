@@ -5,4 +5,4 @@ use Rattle.dp_audit.specs.steps.Firsts.{Adds}
 use Rattle.dp_audit.proofs.pieces.pieces_of.Given as goal
 
 abbrev pub invariant-loop-context : goal.invariant-loop-context
-invariant-loop-context g l = Adds (λ text. list_any (λ context. list_any (holds g.N.Names.known text) context.entries) (take l.context-index l.plan.contexts)) [] l.pieces.keys
+invariant-loop-context g l = Adds (λ text. list_any (λ context. list_any (holds g.N.AppNames.known text) context.entries) (take l.context-index l.plan.contexts)) [] l.pieces.keys
