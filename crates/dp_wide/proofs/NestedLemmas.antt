@@ -58,13 +58,13 @@ module _ (less more : FunctionTable) (sight : Sight) (kept : KnowsNoMore less mo
   argument-kept name (Some argument) e = call-kept name argument e
 
   -- a variable or a call
-  head_by_value-kept : (head : List ℕ) (cut_fields : Option (List ℕ × List ℕ))
-      → head_by_with (unknown_calls less sight) sight head cut_fields ≡ []
-      → head_by_with more sight head cut_fields ≡ head_by_with less sight head cut_fields
+  head_by_value-kept : (head : List ℕ) (cut : Option (List ℕ × List ℕ))
+      → head_by_with (unknown_calls less sight) sight head cut ≡ []
+      → head_by_with more sight head cut ≡ head_by_with less sight head cut
   head_by_value-kept head None e = values head
   head_by_value-kept head (Some cut) e = argument_value-kept cut.0 (before_last 41 cut.1) e
 
-  head_by-kept : (head : List ℕ) (cut_fields : Option (List ℕ × List ℕ))
+  head_by-kept : (head : List ℕ) (cut : Option (List ℕ × List ℕ))
       → head_by_with (unknown_calls less sight) sight head cut ≡ []
       → head_by_with (unknown_calls more sight) sight head cut ≡ []
   head_by-kept head None e = ap (λ known. if◌then◌else◌ {A = List ℕ} known [] head) (names head) ∙ e
@@ -79,12 +79,12 @@ module _ (less more : FunctionTable) (sight : Sight) (kept : KnowsNoMore less mo
   head-kept head e = head_by-kept head (cut_once 40 head) e
 
   -- a body that may request a part
-  body_value-kept : (body : List ℕ) (cut_fields : Option (List ℕ × List ℕ)) → unknown_body less sight body cut_fields ≡ []
-      → body_by_with more sight body cut_fields ≡ body_by_with less sight body cut_fields
+  body_value-kept : (body : List ℕ) (cut : Option (List ℕ × List ℕ)) → unknown_body less sight body cut ≡ []
+      → body_by_with more sight body cut ≡ body_by_with less sight body cut
   body_value-kept body None e = head_value-kept body e
   body_value-kept body (Some cut) e = ap (part (asked_of (Some cut.1))) (head_value-kept cut.0 e)
 
-  body-kept : (body : List ℕ) (cut_fields : Option (List ℕ × List ℕ)) → unknown_body less sight body cut_fields ≡ [] → unknown_body more sight body cut_fields ≡ []
+  body-kept : (body : List ℕ) (cut : Option (List ℕ × List ℕ)) → unknown_body less sight body cut ≡ [] → unknown_body more sight body cut ≡ []
   body-kept body None e = head-kept body e
   body-kept body (Some cut) e = head-kept cut.0 e
 
