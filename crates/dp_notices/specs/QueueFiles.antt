@@ -19,6 +19,7 @@ use Rattle.dp_notices.specs.declared.line_notices.NotedLine.{NotedLine}
 use Rattle.dp_notices.specs.declared.line_notices.NoticeAt.{NoticeAt}
 use Rattle.dp_notices.specs.declared.loading.NumberedNotice.{NumberedNotice}
 use Rattle.dp_notices.specs.declared.notice.Notice.TheVariants.{Fault as fault_kind}
+use Rattle.dp_notices.specs.declared.notice.NoticeFault.{NoticeFault}
 use Rattle.dp_notices.specs.declared.notice.NoticeFault.TheVariants.{Reading, Queue as queue_fault}
 use Rattle.dp_notices.specs.declared.printing.Shown.{Shown}
 use Rattle.dp_notices.specs.declared.queue_files.QueueFiles.{QueueFiles}
