@@ -5,7 +5,7 @@ use Rattle.clap.specs.Faults.{fault_of}
 use Rattle.clap.specs.declared.error.kind.ErrorKind.TheVariants as kind
 use Rattle.dp_program.specs.Entries.{found_entry, found_number}
 use Rattle.dp_program.specs.Requests.{joined, check, check_files, check_both_files, check_queues, check_both, listing, auditing, matching, explaining, run, run_wide, debug, debug_wide, testing, comparing_files, comparing_reach, comparing_reach_files, drawing, drawing_files}
-use Rattle.dp_cli.specs.CommandLine.{pbx_app, asked_of, options_of}
+use Rattle.dp_cli.specs.CommandLine.{pbx_app, asked_of, options_of, usual_facts}
 use Rattle.dp_cli.specs.Refusals.{refusals_of}
 use Rattle.dp_wide.specs.Times.{moment_of, weekday_named}
 
