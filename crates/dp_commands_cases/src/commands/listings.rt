@@ -38,10 +38,14 @@ fn check_own(alloc: Global, text: &str) -> Result<(), Fail> {
 
 /// Asserts that these first bytes of its listing are written if write k of a writer that takes everything fails.
 fn check_front(alloc: Global, text: &str, k: usize, front: usize) -> Result<(), Fail> {
-    let mut want = Vec::from_slice(alloc, &text.as_bytes()[..front])?;
+    let bytes = text.as_bytes();
+    if front > bytes.len() {
+        return Err(Fail::new(format_args!("the listing has fewer bytes")));
+    }
+    let mut want = Vec::from_slice(alloc, &bytes[..front])?;
     want.extend_from_slice(b"fault 9 WriteFailed, told")?;
     let writer = make_sink(alloc, usize::MAX, Some(k));
-    check_into::<List>(alloc, text.as_bytes(), writer, &want)
+    check_into::<List>(alloc, bytes, writer, &want)
 }
 
 /// The first block is full after 2,671 lines and the `exten => ` of the next one.
